@@ -1,0 +1,4 @@
+pub mod Counts
+pub mod Reads
+pub mod Files
+pub mod Writes

@@ -1,0 +1,25 @@
+//! What a program of field level encryption asks of the outside, as traits: bytes to read, named
+//! files, and a place for what it writes. Each comes with an object in memory, whose calls can be
+//! made to fail one by one, and with a real one over the system's streams and files.
+//!
+//! A caller takes `S: Source`, `F: Folder` or `O: Sink`. Its contract can then name what the object
+//! holds (where the object tells it), how many of its calls failed so far, and what it is assured of.
+//!
+//! ```text
+//! let mut input = MemSource::new(bytes, 3, vec![in alloc]?);     // 3 bytes a call at most
+//! let filled = fill_piece(&mut input, &mut head);
+//! let written = write_whole(&mut out, &reply);
+//! ```
+//!
+//! It decodes nothing and knows no format. No clause says what a real stream or file holds.
+#![tactic(auto)]
+
+pub mod answers;
+pub mod folder;
+pub mod sink;
+pub mod source;
+
+pub use answers::{Failed, FileAnswer, Memory, ReadAnswer, WriteAnswer};
+pub use folder::Folder;
+pub use sink::Sink;
+pub use source::Source;
