@@ -1,0 +1,4 @@
+pub mod Steps
+pub mod Levels
+pub mod Rounds
+pub mod Frames
