@@ -184,6 +184,7 @@ pub fn decode_front(alloc: Global, bytes: &[u8]) -> Result<(Doc, usize), CodecFa
     requires { length bytes.now ≤ longest }
     // Which tree and length, or which fault.
     ensures exact { Gives (λ x. (x.0.kids, x.1)) result (front_document bytes.now) }
+    ensures fits { IfOk result (λ x. (5 ≤ x.1) × (x.1 ≤ length bytes.now)) }
 {
     let (kids, n) = front_of(alloc, bytes)?;
     Ok((Doc { kids }, n))
@@ -233,6 +234,7 @@ fn total_of(bytes: &[u8]) -> Result<usize, BsonFault>
 fn front_of(alloc: Global, bytes: &[u8]) -> Result<(Kids, usize), CodecFault>
     requires { length bytes.now ≤ longest }
     ensures read { Gives (λ x. (x.0, x.1)) result (front_document bytes.now) }
+    ensures fits { IfOk result (λ x. (5 ≤ x.1) × (x.1 ≤ length bytes.now)) }
 {
     let n = total_of(bytes)?;
     framed_of(alloc, LEVELS - 1, n, bytes, 0)

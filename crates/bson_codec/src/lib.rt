@@ -18,5 +18,5 @@ mod raw;
 mod table;
 
 pub use decoding::{decode, decode_front, stated_length};
-pub use encoding::encode;
+pub use encoding::{encode, put_value};
 pub use fault::{BsonFault, BsonKind, CodecFault};
