@@ -8,7 +8,8 @@ use Rattle.bson_codec.specs.declared.fault.CodecFault.{CodecFault}
 use Rattle.bson_codec.specs.Fault.{Gives}
 use Rattle.bson_codec.specs.Layout.{IsDoc}
 use Rattle.bson_codec.specs.Reading.{document, front_document}
-use Rattle.bson_codec.proofs.Pieces.{AreBytes, Begins, begins_is, begins_fits, begins_of}
+use Rattle.bson_codec.specs.Bytes.{AreBytes}
+use Rattle.bson_codec.proofs.Pieces.{Begins, begins_is, begins_fits, begins_of}
 use Rattle.bson_codec.proofs.Documents.{document_takes, document_again, front_takes, front_again}
 
 module _ {X : Type 0} (view : X → Items) (bs : List ℕ) where

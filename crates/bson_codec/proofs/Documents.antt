@@ -10,7 +10,8 @@ use Rattle.bson_codec.specs.Fault.{fault_if, ◌>>=◌}
 use Rattle.bson_codec.specs.Layout.{IsInside, AreElements, IsItems, IsDoc, level_limit}
 use Rattle.bson_codec.specs.Reading.{Reader, signed_below, number_at, length_at, zero_at, elements_at, framed_at, nested_at, inside_at, stated_at, total_at, front_document, document}
 use Rattle.bson_codec.proofs.Steps.{made, ok_is, bind_ok, none_if, chose_ok, neither, refused}
-use Rattle.bson_codec.proofs.Pieces.{AreBytes, AreBytes-drop, AreBytes-take, Begins, begins_take, begins_then, begins_is, begins_fits, begins_of, begins_first, begins_second}
+use Rattle.bson_codec.specs.Bytes.{AreBytes}
+use Rattle.bson_codec.proofs.Pieces.{AreBytes-drop, AreBytes-take, Begins, begins_take, begins_then, begins_is, begins_fits, begins_of, begins_first, begins_second}
 use Rattle.bson_codec.proofs.Lengths.{number_takes, number_again, length_takes, length_again, zero_takes, zero_again}
 use Rattle.bson_codec.proofs.Frames.{framed_length}
 use Rattle.bson_codec.proofs.Elements.{Reads, InsideRead, elements_take, elements_again}

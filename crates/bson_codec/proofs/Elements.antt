@@ -12,7 +12,8 @@ use Rattle.bson_codec.specs.Table.{layout_of}
 use Rattle.bson_codec.specs.Layout.{IsName, IsRaw, IsInside, HasLayout, IsValue, AreElements}
 use Rattle.bson_codec.specs.Reading.{Reader, First, name_at, layout_at, raw_at, value_at, first_at, rounds_at, elements_at}
 use Rattle.bson_codec.proofs.Steps.{made, ok_is, bind_ok}
-use Rattle.bson_codec.proofs.Pieces.{AreBytes, AreBytes-drop, AreBytes-rest, Begins, begins_take, begins_then, begins_is, begins_fits, begins_of, begins_first, begins_second}
+use Rattle.bson_codec.specs.Bytes.{AreBytes}
+use Rattle.bson_codec.proofs.Pieces.{AreBytes-drop, AreBytes-rest, Begins, begins_take, begins_then, begins_is, begins_fits, begins_of, begins_first, begins_second}
 use Rattle.bson_codec.proofs.Raws.{raw_takes, raw_again}
 use Rattle.bson_codec.proofs.Names.{name_takes, name_again, layout_takes, layout_again}
 use Rattle.bson_codec.proofs.Rounds.{first_wide, elements_step}

@@ -8,7 +8,8 @@ use Rattle.bson_codec.specs.declared.fault.BsonFault.{BsonFault}
 use Rattle.bson_codec.specs.Fault.{fault_if, ◌>>=◌}
 use Rattle.bson_codec.specs.Reading.{signed_below, number_at, length_at, zero_at}
 use Rattle.bson_codec.proofs.Steps.{made, ok_is, none_if, chose_ok, neither}
-use Rattle.bson_codec.proofs.Pieces.{AreBytes, AreBytes-take, Begins, begins_take, begins_is, begins_fits, begins_byte}
+use Rattle.bson_codec.specs.Bytes.{AreBytes}
+use Rattle.bson_codec.proofs.Pieces.{AreBytes-take, Begins, begins_take, begins_is, begins_fits, begins_byte}
 
 pub number_takes : (p : ℕ) (bs : List ℕ) (n : ℕ) → AreBytes bs → number_at p bs ≡ Ok n → Begins bs (to_le_bytes w32 n) 4
 unfolding number_at

@@ -9,3 +9,6 @@ pub mod Names
 pub mod Elements
 pub mod Documents
 pub mod Answered
+pub mod Measures
+pub mod Grammar
+pub mod Offsets

@@ -97,3 +97,27 @@ unfolding layout_at
 layout_again p tag layout e =
     let nonzero : eqb tag 0 ≡ false = ne_eqb tag 0 (λ z. zero_is_none layout (subst (λ (k : ℕ). layout_of k ≡ Some layout) z e)) in
     rw nonzero (ap (layout_by p) e)
+
+-- ---- bytes that may be a name
+
+mapped_none : (o : Option ℕ) → option_map (λ m. m + 1) o ≡ None → o ≡ None
+mapped_none None e = refl
+mapped_none (Some m) e = absurd cc
+
+pub name_if_none : (bs : List ℕ) → before_zero bs ≡ None → IsName bs
+name_if_none [] e = tt
+name_if_none (zero ∷ bs) e = absurd cc
+name_if_none (suc b ∷ bs) e =
+    let nonzero : eqb (suc b) 0 ≡ false = ne_eqb (suc b) 0 (λ h. omega arith) in
+    let step : option_map (λ m. m + 1) (before_zero bs) ≡ None =
+    ap (λ (t : Bool). cond t (Some 0) (option_map (λ m. m + 1) (before_zero bs))) (sym nonzero) ∙ e in
+    (omega arith, name_if_none bs (mapped_none (before_zero bs) step))
+
+none_if_name : (bs : List ℕ) → IsName bs → before_zero bs ≡ None
+none_if_name [] h = refl
+none_if_name (b ∷ bs) h =
+    let nonzero : eqb b 0 ≡ false = ne_eqb b 0 (λ e. omega (arith, h.0)) in
+    rw nonzero (ap (option_map (λ m. m + 1)) (none_if_name bs h.1))
+
+pub no_name_if_some : (bs : List ℕ) (n : ℕ) → before_zero bs ≡ Some n → IsName bs → ⊥
+no_name_if_some bs n e h = let none : before_zero bs ≡ None = none_if_name bs h in cc

@@ -11,7 +11,8 @@ use Rattle.bson_codec.specs.Fault.{fault_if, ◌>>=◌}
 use Rattle.bson_codec.specs.Layout.{IsString, IsBinary, IsRaw, string_bytes, binary_bytes}
 use Rattle.bson_codec.specs.Reading.{Reader, number_at, length_at, zero_at, fixed_at, bool_at, string_at, binary_at, raw_at}
 use Rattle.bson_codec.proofs.Steps.{made, ok_is, bind_ok, none_if, chose_ok}
-use Rattle.bson_codec.proofs.Pieces.{AreBytes, Begins, begins_take, begins_then, begins_is, begins_fits, begins_byte, begins_first, begins_second}
+use Rattle.bson_codec.specs.Bytes.{AreBytes}
+use Rattle.bson_codec.proofs.Pieces.{Begins, begins_take, begins_then, begins_is, begins_fits, begins_byte, begins_first, begins_second}
 use Rattle.bson_codec.proofs.Lengths.{number_takes, number_again, length_takes, length_again, zero_takes, zero_again}
 
 -- a raw value of this layout, of n bytes

@@ -10,13 +10,11 @@ ghost use Rattle.bson_codec.specs.Layout.{IsDoc, longest};
 ghost use Rattle.bson_codec.specs.Reading.{layout_at, value_at, first_at, elements_at, framed_at, inside_at, stated_at, total_at, document, front_document};
 
 use crate::fault::{BsonFault, BsonKind, CodecFault};
+use crate::measuring::LEVELS;
 use crate::raw::{is_signed_below, length_of, name_length, number_of, raw_length, zero_of};
 use crate::table::{ValueLayout, layout_of};
 use bson_tree::{Body, Bytes, Doc, Kids, Value};
 use std::alloc::Global;
-
-/// The most levels of nesting, a document itself being level 1.
-const LEVELS: u32 = 100;
 
 // The layout behind the type byte at `at`.
 #[tactic(auto, unfolding(crate::specs::Reading::layout_at))]
