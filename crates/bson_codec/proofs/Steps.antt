@@ -1,10 +1,10 @@
 -- One reading after another: what it says that none of them failed.
-use Rattle.std.proofs.Common.{◌≡◌, ℕ, Bool, true, false, cond, Result, Ok, Err, refl}
+use Rattle.std.proofs.Common.{◌≡◌, ℕ, Bool, true, false, cond, ◌||◌, Result, Ok, Err, refl}
 use Rattle.bson_codec.specs.declared.fault.BsonKind.{BsonKind}
 use Rattle.bson_codec.specs.declared.fault.BsonFault.{BsonFault}
 use Rattle.bson_codec.specs.Fault.{fault_if, ◌>>=◌}
 
-abbrev made : {A : Type 0} → A → Result A BsonFault
+abbrev pub made : {A : Type 0} → A → Result A BsonFault
 made x = Ok x
 
 pub ok_is : {A : Type 0} (x y : A) → made x ≡ made y → x ≡ y
@@ -34,3 +34,12 @@ none_if false kind p u e = refl
 pub chose_ok : {A : Type 0} (b : Bool) (d : BsonFault) (x y : A) → cond b (Err d) (Ok x) ≡ Ok y → (b ≡ false) × (x ≡ y)
 chose_ok true d x y e = absurd cc
 chose_ok false d x y e = (refl, ok_is x y e)
+
+-- of two tests that found nothing together, neither did
+pub neither : (a b : Bool) → (a || b) ≡ false → (a ≡ false) × (b ≡ false)
+neither true b e = absurd cc
+neither false b e = (refl, e)
+
+-- a fault is no value
+pub refused : {A : Type 0} (d : BsonFault) (y : A) → Err d ≡ made y → ⊥
+refused d y e = cc

@@ -1,20 +1,20 @@
 //! Documents read into trees, by recursive descent.
 
-ghost use Rattle.std.specs.Prelude.{◌≡◌, ◌+◌, ◌-◌, ◌<◌, ◌≤◌, ◌^◌, length, take, IfOk};
+ghost use Rattle.std.specs.Prelude.{◌≡◌, ◌+◌, ◌<◌, ◌≤◌, ◌^◌, ◌++◌, ℕ, List, length, take, IfOk};
+ghost use Rattle.bson_tree.specs.Spelling.{doc_bytes};
+ghost use Rattle.bson_tree.specs.Tree.{Items};
 ghost use Rattle.bson_tree.specs.View.{tree};
 ghost use Rattle.std.specs.Int.{from_le_bytes, w32};
 ghost use Rattle.bson_codec.specs.Fault.{Gives};
-ghost use Rattle.bson_codec.specs.Layout.{longest};
+ghost use Rattle.bson_codec.specs.Layout.{IsDoc, longest};
 ghost use Rattle.bson_codec.specs.Reading.{layout_at, value_at, first_at, elements_at, framed_at, inside_at, stated_at, total_at, document, front_document};
 
 use crate::fault::{BsonFault, BsonKind, CodecFault};
+use crate::measuring::LEVELS;
 use crate::raw::{is_signed_below, length_of, name_length, number_of, raw_length, zero_of};
 use crate::table::{ValueLayout, layout_of};
 use bson_tree::{Body, Bytes, Doc, Kids, Value};
 use std::alloc::Global;
-
-/// The most levels of nesting, a document itself being level 1.
-const LEVELS: u32 = 100;
 
 // The layout behind the type byte at `at`.
 #[tactic(auto, unfolding(crate::specs::Reading::layout_at))]
@@ -168,11 +168,14 @@ fn inside_of(
 /// bytes behind the document are Extra at its end. `Memory` where there is none for the tree.
 pub fn decode(alloc: Global, bytes: &[u8]) -> Result<Doc, CodecFault>
     requires { length bytes.now ≤ longest }
+    // What is read has a spelling, and the bytes are it.
+    ensures found { IfOk result (λ d. IsDoc d.kids × (bytes.now ≡ doc_bytes d.kids)) }
+    // What has a spelling is read from it.
+    ensures only { (is : Items) → IsDoc is → bytes.now ≡ doc_bytes is → Gives (λ d. d.kids) result (Ok is) }
     // Which tree, or which fault.
     ensures exact { Gives (λ d. d.kids) result (document bytes.now) }
 {
-    let kids = whole_of(alloc, bytes)?;
-    Ok(Doc { kids })
+    whole_of(alloc, bytes)
 }
 
 /// The tree that the bytes at the front spell, and how many bytes they are; what follows them isn't
@@ -182,12 +185,16 @@ pub fn decode(alloc: Global, bytes: &[u8]) -> Result<Doc, CodecFault>
 /// at 0. `Memory` where there is none for the tree.
 pub fn decode_front(alloc: Global, bytes: &[u8]) -> Result<(Doc, usize), CodecFault>
     requires { length bytes.now ≤ longest }
+    // What is read has a spelling, and the bytes begin with it.
+    ensures found { IfOk result (λ x. IsDoc x.0.kids × (x.1 ≤ length bytes.now) × (take x.1 bytes.now ≡ doc_bytes x.0.kids)) }
+    // What has a spelling is read from it, whatever follows.
+    ensures only { (is : Items) (rest : List ℕ) → IsDoc is → bytes.now ≡ doc_bytes is ++ rest → Gives {Y = Items × ℕ} (λ x. (x.0.kids, x.1)) result (Ok (is, length (doc_bytes is))) }
     // Which tree and length, or which fault.
     ensures exact { Gives (λ x. (x.0.kids, x.1)) result (front_document bytes.now) }
+    // The smallest document has 5 bytes.
     ensures fits { IfOk result (λ x. (5 ≤ x.1) × (x.1 ≤ length bytes.now)) }
 {
-    let (kids, n) = front_of(alloc, bytes)?;
-    Ok((Doc { kids }, n))
+    front_of(alloc, bytes)
 }
 
 /// The length that the first four bytes of a document state (BSON 1.1, "document": int32, lowest byte
@@ -231,20 +238,21 @@ fn total_of(bytes: &[u8]) -> Result<usize, BsonFault>
 
 // The document at the front and its number of bytes.
 #[tactic(auto, unfolding(crate::specs::Reading::front_document))]
-fn front_of(alloc: Global, bytes: &[u8]) -> Result<(Kids, usize), CodecFault>
+fn front_of(alloc: Global, bytes: &[u8]) -> Result<(Doc, usize), CodecFault>
     requires { length bytes.now ≤ longest }
-    ensures read { Gives (λ x. (x.0, x.1)) result (front_document bytes.now) }
+    ensures read { Gives (λ x. (x.0.kids, x.1)) result (front_document bytes.now) }
     ensures fits { IfOk result (λ x. (5 ≤ x.1) × (x.1 ≤ length bytes.now)) }
 {
     let n = total_of(bytes)?;
-    framed_of(alloc, LEVELS - 1, n, bytes, 0)
+    let (kids, n) = framed_of(alloc, LEVELS - 1, n, bytes, 0)?;
+    Ok((Doc { kids }, n))
 }
 
 // The document that the bytes spell, all of them.
 #[tactic(auto, unfolding(crate::specs::Reading::document))]
-fn whole_of(alloc: Global, bytes: &[u8]) -> Result<Kids, CodecFault>
+fn whole_of(alloc: Global, bytes: &[u8]) -> Result<Doc, CodecFault>
     requires { length bytes.now ≤ longest }
-    ensures read { Gives (λ kids. kids) result (document bytes.now) }
+    ensures read { Gives (λ d. d.kids) result (document bytes.now) }
 {
     let n = total_of(bytes)?;
     if n < bytes.len() {
@@ -253,6 +261,6 @@ fn whole_of(alloc: Global, bytes: &[u8]) -> Result<Kids, CodecFault>
             offset: n,
         }));
     }
-    let (kids, _) = front_of(alloc, bytes)?;
-    Ok(kids)
+    let (document, _) = front_of(alloc, bytes)?;
+    Ok(document)
 }

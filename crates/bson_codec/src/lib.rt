@@ -14,9 +14,12 @@
 mod decoding;
 mod encoding;
 mod fault;
+pub mod laws;
+mod measuring;
 mod raw;
 mod table;
 
 pub use decoding::{decode, decode_front, stated_length};
 pub use encoding::{encode, put_value};
 pub use fault::{BsonFault, BsonKind, CodecFault};
+pub use measuring::well_formed;

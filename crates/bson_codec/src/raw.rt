@@ -70,8 +70,8 @@ pub fn zero_of(i: usize, bytes: &[u8], at: usize) -> Result<(), BsonFault>
     Ok(())
 }
 
-// How many bytes stand before the first 00.
-fn zero_position(bytes: &[u8]) -> Option<usize>
+/// How many bytes stand before the first 00.
+pub fn zero_position(bytes: &[u8]) -> Option<usize>
     ensures found { result ≡ before_zero bytes.now }
     ensures inside { IfSome result (λ n. n < length bytes.now) }
 {
