@@ -13,3 +13,6 @@ mod writing;
 
 pub use mark::mark_insert;
 pub use stop::MarkStop;
+
+#[cfg(test)]
+mod tests;

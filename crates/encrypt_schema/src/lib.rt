@@ -17,3 +17,6 @@ pub use faults::{InfoFault, InfoKind, SchemaFault};
 pub use fields::{ARRAY, BINARY, DOCUMENT, fields_as, raw, text};
 pub use policy::{Algorithm, KeyRef, Policy, TypeSet};
 pub use rows::{Row, Rows};
+
+#[cfg(test)]
+mod tests;
