@@ -1,0 +1,7 @@
+pub mod Tree
+pub mod Spelling
+pub mod Places
+pub mod Filled
+pub mod Code
+pub mod View
+pub mod Falls
