@@ -1,0 +1,14 @@
+pub mod Steps
+pub mod Levels
+pub mod Rounds
+pub mod Frames
+pub mod Pieces
+pub mod Lengths
+pub mod Raws
+pub mod Names
+pub mod Elements
+pub mod Documents
+pub mod Answered
+pub mod Measures
+pub mod Grammar
+pub mod Offsets

@@ -1,0 +1,41 @@
+-- Answers of readers: a value, or the first fault; and what a function that takes memory returns.
+use Rattle.std.specs.Prelude.{◌≡◌, ℕ, Bool, Result, Ok, Err, if◌then◌else◌}
+use Rattle.bson_codec.specs.declared.fault.BsonKind.{BsonKind}
+use Rattle.bson_codec.specs.declared.fault.BsonKind.TheVariants as kinds
+use Rattle.bson_codec.specs.declared.fault.BsonFault.{BsonFault}
+use Rattle.bson_codec.specs.declared.fault.CodecFault.{CodecFault}
+use Rattle.bson_codec.specs.declared.fault.CodecFault.TheVariants as errors
+
+-- the number of a kind of fault
+abbrev pub kind_number : BsonKind → ℕ
+kind_number kinds.Short = 1
+kind_number kinds.Length = 2
+kind_number kinds.Tag = 3
+kind_number kinds.NoEnd = 4
+kind_number kinds.Bool = 5
+kind_number kinds.Deep = 6
+kind_number kinds.Extra = 7
+
+-- a fault of this kind at this offset
+abbrev pub fault : {A : Type 0} → BsonKind → ℕ → Result A BsonFault
+fault kind offset = Err (record { kind = kind; offset = offset })
+
+-- the fault where the test holds
+abbrev pub fault_if : Bool → BsonKind → ℕ → Result (Unit {0}) BsonFault
+fault_if bad kind offset = if bad then fault kind offset else Ok tt
+
+-- one reading after another, up to the first fault
+infixl 10 ◌>>=◌
+abbrev pub ◌>>=◌ : {A B : Type 0} → Result A BsonFault → (A → Result B BsonFault) → Result B BsonFault
+(Ok x) >>= f = f x
+(Err e) >>= f = Err e
+
+-- an error of a function that takes memory: it says something of the reading unless memory ran out
+abbrev pub Fails : {Y : Type 0} → CodecFault → Result Y BsonFault → Type 0
+Fails errors.Memory read = Unit {0}
+Fails (errors.Bson f) read = read ≡ Err f
+
+-- what a function returned, seen by `view`, is what reading gives, unless memory ran out
+abbrev pub Gives : {X Y : Type 0} → (X → Y) → Result X CodecFault → Result Y BsonFault → Type 0
+Gives view (Ok x) read = read ≡ Ok (view x)
+Gives view (Err e) read = Fails e read

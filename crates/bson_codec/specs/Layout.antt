@@ -1,0 +1,89 @@
+-- BSON 1.1, the grammar as a property of trees: which trees have a spelling.
+-- `D` says which documents may stand inside a value.
+use Rattle.std.specs.Prelude.{◌≡◌, ◌+◌, ◌^◌, ◌<◌, ◌≤◌, ℕ, zero, suc, List, [], ◌∷◌, ◌++◌, length, Option, Some, None, ◌⊎◌}
+use Rattle.std.specs.Int.{to_le_bytes, w32}
+use Rattle.bson_tree.specs.Tree.{Tree, Items, leaf, node, no_items, item, tag_of}
+use Rattle.bson_tree.specs.Spelling.{doc_bytes}
+use Rattle.bson_codec.specs.declared.table.ValueLayout.{ValueLayout}
+use Rattle.bson_codec.specs.declared.table.ValueLayout.TheVariants as values
+use Rattle.bson_codec.specs.declared.table.RawLayout.{RawLayout}
+use Rattle.bson_codec.specs.declared.table.RawLayout.TheVariants as raws
+use Rattle.bson_codec.specs.Table.{layout_of}
+
+-- BSON 1.1, "cstring": bytes other than 00
+abbrev pub IsName : List ℕ → Type 0
+IsName [] = Unit {0}
+IsName (b ∷ name) = (0 < b) × IsName name
+
+-- BSON 1.1, "string": the bytes of a text: its length with the final 00, itself, 00
+abbrev pub string_bytes : List ℕ → List ℕ
+string_bytes text = to_le_bytes w32 (length text + 1) ++ (text ++ 0 ∷ [])
+
+-- BSON 1.1, "binary": the bytes of a binary: the length of its contents, the subtype, the contents
+abbrev pub binary_bytes : ℕ → List ℕ → List ℕ
+binary_bytes subtype contents = to_le_bytes w32 (length contents) ++ (subtype ∷ contents)
+
+-- the bytes are those of a string
+pub record IsString (bytes : List ℕ) : Type 0 where
+  pub text : List ℕ
+  pub fits : length text + 1 < 2 ^ 31
+  pub parts : bytes ≡ string_bytes text
+
+-- the bytes are those of a binary
+pub record IsBinary (bytes : List ℕ) : Type 0 where
+  pub subtype : ℕ
+  pub contents : List ℕ
+  pub fits : length contents < 2 ^ 31
+  pub parts : bytes ≡ binary_bytes subtype contents
+
+-- the bytes of a raw value have this layout
+abbrev pub IsRaw : (Items → Type 0) → RawLayout → List ℕ → Type 0
+IsRaw D (raws.Fixed width) bytes = length bytes ≡ width
+IsRaw D raws.Bool bytes = (bytes ≡ 0 ∷ []) ⊎ (bytes ≡ 1 ∷ [])
+IsRaw D raws.Text bytes = IsString bytes
+IsRaw D raws.Binary bytes = IsBinary bytes
+
+-- a document inside, with a length that a signed number of 32 bits holds
+pub record IsInside (D : Items → Type 0) (is : Items) : Type 0 where
+  pub inside : D is
+  pub fits : length (doc_bytes is) < 2 ^ 31
+
+-- the value has this layout
+abbrev pub HasLayout : (Items → Type 0) → Option ValueLayout → Tree → Type 0
+HasLayout D None t = ⊥
+HasLayout D (Some values.Document) (leaf tag bytes) = ⊥
+HasLayout D (Some values.Document) (node tag is) = IsInside D is
+HasLayout D (Some (values.Raw layout)) (leaf tag bytes) = IsRaw D layout bytes
+HasLayout D (Some (values.Raw layout)) (node tag is) = ⊥
+
+-- the value has the layout of its type
+abbrev pub IsValue : (Items → Type 0) → Tree → Type 0
+IsValue D t = HasLayout D (layout_of (tag_of t)) t
+
+-- each name and each value has its layout
+abbrev pub AreElements : (Items → Type 0) → Items → Type 0
+AreElements D no_items = Unit {0}
+AreElements D (item name t is) = IsName name × IsValue D t × AreElements D is
+
+-- the elements of a document that takes at most so many levels of nesting, its own included
+abbrev pub IsItems : ℕ → Items → Type 0
+IsItems zero is = ⊥
+IsItems (suc levels) is = AreElements (IsItems levels) is
+
+-- the most levels of nesting, a document itself being level 1
+abbrev pub level_limit : ℕ
+level_limit = 100
+
+-- the elements of a document that has a spelling
+pub record IsDoc (is : Items) : Type 0 where
+  pub elements : IsItems level_limit is
+  pub fits : length (doc_bytes is) < 2 ^ 31
+
+-- the longest document that is read or written here
+abbrev pub longest : ℕ
+longest = 67108864
+
+-- a document with a spelling of at most so many bytes
+pub record IsWellFormed (is : Items) : Type 0 where
+  pub spelled : IsDoc is
+  pub short : length (doc_bytes is) ≤ longest

@@ -1,0 +1,6 @@
+pub mod Fault
+pub mod Bytes
+pub mod Table
+pub mod Layout
+pub mod Reading
+pub mod Measure

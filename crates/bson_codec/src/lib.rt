@@ -1,0 +1,28 @@
+//! BSON 1.1 (bsonspec.org): the bytes of a document read into a tree and written from one.
+//!
+//! `decode` reads a whole list of bytes, `decode_front` the document at its front, and `encode` writes a
+//! document that `well_formed` accepts. What is refused has a first fault, with its offset.
+//!
+//! ```text
+//! let document = decode(alloc, &bytes)?;
+//! let again = encode(alloc, &document)?;      // the same bytes
+//! ```
+//!
+//! Texts and names aren't tested for UTF-8, and the names of array elements are kept as given.
+#![tactic(auto)]
+
+mod decoding;
+mod encoding;
+mod fault;
+pub mod laws;
+mod measuring;
+mod raw;
+mod table;
+
+pub use decoding::{decode, decode_front, stated_length};
+pub use encoding::{encode, put_value};
+pub use fault::{BsonFault, BsonKind, CodecFault};
+pub use measuring::well_formed;
+
+#[cfg(test)]
+mod tests;

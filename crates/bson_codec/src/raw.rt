@@ -1,0 +1,174 @@
+//! Lengths, names and raw values, each judged from its first byte on. `bytes` begins at the offset `at`
+//! and ends before the last byte of the document that it stands in.
+
+ghost use Rattle.std.specs.Prelude.{◌≡◌, ◌+◌, ◌<◌, ◌≤◌, ◌^◌, length, IfOk, IfSome};
+ghost use Rattle.bson_codec.specs.Reading.{signed_below, number_at, length_at, zero_at, before_zero, name_at, fixed_at, bool_at, string_at, binary_at, raw_at, inside_at};
+
+use crate::fault::{BsonFault, BsonKind};
+use crate::table::RawLayout;
+
+/// Whether a number of 32 bits stands for a signed number below `least`.
+pub fn is_signed_below(n: u32, least: u32) -> bool
+    ensures below { result ≡ signed_below n least }
+{
+    n < least || n >= 1 << 31
+}
+
+/// The four bytes of a length.
+#[tactic(auto, unfolding(crate::specs::Reading::number_at))]
+pub fn number_of(bytes: &[u8], at: usize) -> Result<u32, BsonFault>
+    requires { at + length bytes.now < 2 ^ 32 }
+    ensures read { result ≡ number_at at bytes.now }
+    ensures room { IfOk result (λ n. 4 ≤ length bytes.now) }
+{
+    if bytes.len() < 4 {
+        return Err(BsonFault {
+            kind: BsonKind::Short,
+            offset: at + bytes.len(),
+        });
+    }
+    Ok(u32::from_le_bytes([bytes[0], bytes[1], bytes[2], bytes[3]]))
+}
+
+/// A length that is at least `least` and, with `more` bytes beside what it counts, ends in time.
+#[tactic(auto, unfolding(crate::specs::Reading::length_at))]
+pub fn length_of(
+    least: u32,
+    more: usize,
+    stated: u32,
+    bytes: &[u8],
+    at: usize,
+) -> Result<usize, BsonFault>
+    requires { more < 16 }
+    ensures read { result ≡ length_at least more stated at bytes.now }
+    ensures fits { IfOk result (λ n. n + more ≤ length bytes.now) }
+    ensures least { IfOk result (λ n. least ≤ n) }
+{
+    let n = stated as usize;
+    if is_signed_below(stated, least) || bytes.len() < n + more {
+        return Err(BsonFault {
+            kind: BsonKind::Length,
+            offset: at,
+        });
+    }
+    Ok(n)
+}
+
+/// Byte number `i` is 00.
+#[tactic(auto, unfolding(crate::specs::Reading::zero_at))]
+pub fn zero_of(i: usize, bytes: &[u8], at: usize) -> Result<(), BsonFault>
+    requires inside { i < length bytes.now }
+    requires room { at + length bytes.now < 2 ^ 32 }
+    ensures read { result ≡ zero_at i at bytes.now }
+{
+    if bytes[i] != 0 {
+        return Err(BsonFault {
+            kind: BsonKind::NoEnd,
+            offset: at + i,
+        });
+    }
+    Ok(())
+}
+
+/// How many bytes stand before the first 00.
+pub fn zero_position(bytes: &[u8]) -> Option<usize>
+    ensures found { result ≡ before_zero bytes.now }
+    ensures inside { IfSome result (λ n. n < length bytes.now) }
+{
+    for (i, b) in bytes.iter().enumerate() {
+        if *b == 0 {
+            return Some(i);
+        }
+    }
+    None
+}
+
+/// The length of a name that 00 follows.
+#[tactic(auto, unfolding(crate::specs::Reading::name_at))]
+pub fn name_length(bytes: &[u8], at: usize) -> Result<usize, BsonFault>
+    requires { at + length bytes.now < 2 ^ 32 }
+    ensures read { result ≡ name_at at bytes.now }
+    ensures fits { IfOk result (λ n. n < length bytes.now) }
+{
+    match zero_position(bytes) {
+        Some(n) => Ok(n),
+        None => Err(BsonFault {
+            kind: BsonKind::NoEnd,
+            offset: at + bytes.len(),
+        }),
+    }
+}
+
+#[tactic(auto, unfolding(crate::specs::Reading::fixed_at))]
+fn fixed_length(width: usize, bytes: &[u8], at: usize) -> Result<usize, BsonFault>
+    requires { at + length bytes.now < 2 ^ 32 }
+    ensures read { result ≡ fixed_at width at bytes.now }
+    ensures fits { IfOk result (λ n. (n ≤ length bytes.now) × (n ≡ width)) }
+{
+    if bytes.len() < width {
+        return Err(BsonFault {
+            kind: BsonKind::Short,
+            offset: at + bytes.len(),
+        });
+    }
+    Ok(width)
+}
+
+#[tactic(auto, unfolding(crate::specs::Reading::bool_at))]
+fn bool_length(bytes: &[u8], at: usize) -> Result<usize, BsonFault>
+    requires { at + length bytes.now < 2 ^ 32 }
+    ensures read { result ≡ bool_at at bytes.now }
+    ensures fits { IfOk result (λ n. n ≤ length bytes.now) }
+{
+    let n = fixed_length(1, bytes, at)?;
+    if bytes[0] > 1 {
+        return Err(BsonFault {
+            kind: BsonKind::Bool,
+            offset: at,
+        });
+    }
+    Ok(n)
+}
+
+#[tactic(auto, unfolding(crate::specs::Reading::string_at))]
+fn string_length(bytes: &[u8], at: usize) -> Result<usize, BsonFault>
+    requires { at + length bytes.now < 2 ^ 32 }
+    ensures read { result ≡ string_at at bytes.now }
+    ensures fits { IfOk result (λ n. n ≤ length bytes.now) }
+{
+    let stated = number_of(bytes, at)?;
+    let n = length_of(1, 4, stated, bytes, at)?;
+    zero_of(n + 3, bytes, at)?;
+    Ok(n + 4)
+}
+
+#[tactic(auto, unfolding(crate::specs::Reading::binary_at))]
+fn binary_length(bytes: &[u8], at: usize) -> Result<usize, BsonFault>
+    requires { at + length bytes.now < 2 ^ 32 }
+    ensures read { result ≡ binary_at at bytes.now }
+    ensures fits { IfOk result (λ n. n ≤ length bytes.now) }
+{
+    let stated = number_of(bytes, at)?;
+    let n = length_of(0, 5, stated, bytes, at)?;
+    Ok(n + 5)
+}
+
+/// The number of bytes of a raw value of this layout, in which documents may add so many levels.
+pub fn raw_length(
+    levels: u32,
+    layout: RawLayout,
+    bytes: &[u8],
+    at: usize,
+) -> Result<usize, BsonFault>
+    requires { at + length bytes.now < 2 ^ 32 }
+    ensures read { result ≡ raw_at (inside_at levels) layout at bytes.now }
+    ensures fits { IfOk result (λ n. n ≤ length bytes.now) }
+{
+    let _ = levels;
+    match layout {
+        RawLayout::Fixed(width) => fixed_length(width, bytes, at),
+        RawLayout::Bool => bool_length(bytes, at),
+        RawLayout::Text => string_length(bytes, at),
+        RawLayout::Binary => binary_length(bytes, at),
+    }
+}
