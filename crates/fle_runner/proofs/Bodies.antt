@@ -1,15 +1,15 @@
 -- The bytes of one document: read whole, ended, or failed on the way.
-use Rattle.std.proofs.Common.{◌≡◌, ℕ, ◌+◌, ◌-◌, ◌^◌, ◌<◌, ◌≤◌, Option, Some, None, Result, Ok, Err, List, [], ◌++◌, length, take, drop, min, refl, sym, ◌∙◌, ap, subst, arith, append_assoc, length-append, length-drop}
+use Rattle.std.proofs.Common.{◌≡◌, ℕ, ◌+◌, ◌^◌, ◌<◌, ◌≤◌, Option, Some, Result, Ok, Err, List, ◌++◌, length, take, drop, min, refl, sym, ◌∙◌, ap, subst, arith, append_assoc, length-append}
 use Rattle.std.specs.Int.{from_le_bytes, w32}
 use Rattle.std.proofs.lemmas.List.{drop_min, drop_at, drop-drop, take_at}
 use Rattle.bson_tree.specs.Tree.{Items}
 use Rattle.bson_codec.specs.Reading.{document}
-use Rattle.bson_codec.specs.declared.BsonFault.{BsonFault}
+use Rattle.bson_codec.specs.declared.fault.BsonFault.{BsonFault}
 use Rattle.fle_outside.specs.Filling.{FillTakes}
 use Rattle.fle_outside.specs.declared.filling.Fill.TheVariants as fills
 use Rattle.fle_runner.specs.Next.{Handed}
-use Rattle.fle_runner.specs.Streams.{Docs, ends, doc, faulty, short, stated, spelled, documents, first_size}
-use Rattle.fle_runner.proofs.Streams.{IsSize, short_body, whole_body, first_size_body, first_size_least, none_left, short_head}
+use Rattle.fle_runner.specs.Streams.{ends, doc, faulty, short, stated, spelled, documents, first_size}
+use Rattle.fle_runner.proofs.Streams.{IsSize, short_body, whole_body, first_size_body, first_size_least, short_head}
 
 -- the first four bytes are read, and state the length
 pub size_of_head : (head told : List ℕ) (m : ℕ) → length head ≡ 4 → from_le_bytes w32 head ≡ m → 5 ≤ m → m ≤ 2 ^ 24 → IsSize (head ++ told) m
@@ -100,9 +100,10 @@ drop_head head told k = sym (drop-drop k (length head) (head ++ told)) ∙ ap (�
 pub fill_whole : (head told rest : List ℕ) (after : Option (List ℕ)) → FillTakes told after fills.Whole rest → FillTakes (head ++ told) after fills.Whole (head ++ rest)
 fill_whole head told rest after takes =
     let left : drop (length (head ++ rest)) (head ++ told) ≡ drop (length rest) told =
-      ap (λ (x : ℕ). drop x (head ++ told)) (length-append head rest) ∙ drop_head head told (length rest) in
-    (ap (λ (x : List ℕ). head ++ x) takes.0 ∙ (sym (append_assoc head rest (drop (length rest) told)) ∙ ap (λ (x : List ℕ). (head ++ rest) ++ x) (sym left)),
-      takes.1 ∙ ap (λ (x : List ℕ). Some x) (sym left))
+    ap (λ (x : ℕ). drop x (head ++ told)) (length-append head rest) ∙ drop_head head told (length rest) in (
+      ap (λ (x : List ℕ). head ++ x) takes.0 ∙ (sym (append_assoc head rest (drop (length rest) told)) ∙ ap (λ (x : List ℕ). (head ++ rest) ++ x) (sym left)),
+      takes.1 ∙ ap (λ (x : List ℕ). Some x) (sym left),
+    )
 
 pub fill_ended : (head told rest : List ℕ) (after : Option (List ℕ)) (n : ℕ) → FillTakes told after (fills.Ended n) rest → FillTakes (head ++ told) after (fills.Ended (length head + n)) (head ++ rest)
 fill_ended head told rest after n takes = (length-append head told ∙ ap (λ (x : ℕ). length head + x) takes.0, takes.1)

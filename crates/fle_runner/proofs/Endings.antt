@@ -1,11 +1,11 @@
 -- What an end without a failure leaves undone: nothing.
-use Rattle.std.proofs.Common.{◌≡◌, ℕ, Option, List, [], ◌∷◌, ◌++◌, length, refl, sym, ◌∙◌, ap, subst, append-nil}
+use Rattle.std.proofs.Common.{◌≡◌, ℕ, Option, List, [], ◌∷◌, ◌++◌, refl, sym, ◌∙◌, ap, subst, append-nil}
 use Rattle.fle_outside.specs.Writing.{Gains}
 use Rattle.fle_runner.specs.Codes.{status_of}
 use Rattle.fle_runner.specs.Ended.{Whole, IsSettled}
 use Rattle.fle_runner.specs.Outcome.{Outcome}
 use Rattle.fle_runner.specs.Plan.{Block, Output, draws_of, written}
-use Rattle.fle_runner.specs.Run.{Draws, IsDetermined, EndsIn, Ran}
+use Rattle.fle_runner.specs.Run.{Draws, EndsIn, Ran}
 use Rattle.fle_runner.specs.declared.why.Why.{Why}
 use Rattle.fle_runner.specs.declared.why.Why.TheVariants as whys
 
@@ -44,7 +44,7 @@ whole_of {o = o} {blocks = blocks} {blocks_after = blocks_after} {out = out} {ou
     let outputs : ran.done ≡ o.outputs = sym (ran.split ∙ (ap (λ (os : List Output). ran.done ++ os) none.outputs ∙ append-nil ran.done)) in
     let drawn : ran.first ++ ran.more ≡ ran.first = ap (λ (bs : List Block). ran.first ++ bs) none.blocks ∙ append-nil ran.first in
     let gained : written ran.done ran.first ++ ran.front ≡ written o.outputs ran.first =
-      ap (λ (bytes : List ℕ). written ran.done ran.first ++ bytes) none.bytes ∙ (append-nil (written ran.done ran.first) ∙ ap (λ (os : List Output). written os ran.first) outputs) in
+    ap (λ (bytes : List ℕ). written ran.done ran.first ++ bytes) none.bytes ∙ (append-nil (written ran.done ran.first) ∙ ap (λ (os : List Output). written os ran.first) outputs) in
     record {
       drawn = ran.first;
       enough = ran.enough ∙ ap (λ (os : List Output). draws_of os) outputs;

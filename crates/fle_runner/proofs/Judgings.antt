@@ -1,12 +1,12 @@
 -- One document judged: what its verdict makes of the run.
-use Rattle.std.proofs.Common.{◌≡◌, ℕ, ◌+◌, ◌^◌, ◌<◌, ◌≤◌, Option, Some, None, Result, Ok, Err, List, [], ◌∷◌, ◌++◌, length, drop, nat_lt, true, false, refl, sym, ◌∙◌, ap, subst, arith, append-nil, zero-add, Vec, Global}
+use Rattle.std.proofs.Common.{◌≡◌, ℕ, ◌+◌, ◌^◌, ◌<◌, ◌≤◌, Option, Some, None, Err, List, [], ◌∷◌, length, drop, nat_lt, true, false, refl, sym, ◌∙◌, ap, subst, arith, append-nil, zero-add, Vec, Global}
 use Rattle.std.proofs.lemmas.Bool.Decides.{nat_tests}
 use Rattle.bson_tree.specs.Tree.{Items}
 use Rattle.fle_outside.specs.Writing.{Gains, IsProperPrefix, Puts}
 use Rattle.fle_outside.specs.declared.answers.Failed.{Failed}
 use Rattle.fle_runner.specs.Judge.{JudgeIs, size_in}
-use Rattle.fle_runner.specs.Outcome.{Outcome, Course, stop, with_front, rest_why, judged, outcome}
-use Rattle.fle_runner.specs.Plan.{Block, Plan, Output, Verdict, writes, refused, too_long, size_of}
+use Rattle.fle_runner.specs.Outcome.{Outcome, Course, stop, rest_why, judged, outcome}
+use Rattle.fle_runner.specs.Plan.{Block, Output, Verdict, writes, refused, too_long, size_of}
 use Rattle.fle_runner.specs.Run.{Draws, IsDetermined, EndsIn, HandedPast, SourceLeft, Stopped, Went}
 use Rattle.fle_runner.specs.Streams.{Docs, doc, ends, Rest}
 use Rattle.fle_runner.specs.declared.reason.Reason.{Reason}
@@ -149,7 +149,7 @@ pub refusal : (v : Verdict) (o : Outcome) (n most : ℕ) (told : List ℕ) (afte
 refusal (writes plan) o n most told after blocks blocks_after out reason place left says = absurd says
 refusal (refused r p) o n most told after blocks blocks_after out reason place left says =
     let is : stop (whys.Refused r p) n ≡ stop (whys.Refused reason place) n =
-      ap (λ (x : Reason). stop (whys.Refused x p) n) says.0 ∙ ap (λ (x : List ℕ). stop (whys.Refused reason x) n) says.1 in
+    ap (λ (x : Reason). stop (whys.Refused x p) n) says.0 ∙ ap (λ (x : List ℕ). stop (whys.Refused reason x) n) says.1 in
     stopped_clean (stop (whys.Refused r p) n) told after most blocks blocks_after out (whys.Refused reason place) n is tt left says.2
 refusal too_long o n most told after blocks blocks_after out reason place left says = absurd says
 

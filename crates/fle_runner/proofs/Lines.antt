@@ -1,17 +1,18 @@
 -- Bytes written one after another into a sink.
-use Rattle.std.proofs.Common.{◌≡◌, ℕ, ◌+◌, ◌<◌, ◌≤◌, Option, Some, Result, Ok, Err, List, [], ◌∷◌, ◌++◌, length, refl, sym, ◌∙◌, ap, arith, append_assoc, append-nil, length-append, OnOk, OnErr, get_or, take, drop, ◌-◌, codes, decimal}
+use Rattle.std.proofs.Common.{◌≡◌, ℕ, ◌+◌, ◌<◌, ◌≤◌, Option, Some, Result, Ok, Err, List, [], ◌∷◌, ◌++◌, length, sym, ◌∙◌, ap, arith, append_assoc, length-append, OnOk, OnErr, get_or, take, drop, ◌-◌, codes, decimal}
 use Rattle.std.proofs.lemmas.List.{take_all}
 use Rattle.fle_outside.specs.Counts.{Rose}
-use Rattle.fle_outside.specs.Writing.{IsProperPrefix, Gains, Puts, WritesWhole}
+use Rattle.fle_outside.specs.Writing.{Puts, WritesWhole}
 use Rattle.fle_outside.specs.declared.answers.Failed.{Failed}
 use Rattle.fle_runner.specs.Line.{dots, place_text}
 
 puts_then : (a b c : Option (List ℕ)) (u : Unit {0}) (r : Result (Unit {0}) Failed) (x y : List ℕ) → Puts a b (Ok u) x → Puts b c r y → Puts a c r (x ++ y)
 puts_then a b c u (Ok v) x y first second = λ w is. second (w ++ x) (first w is) ∙ ap (λ (bytes : List ℕ). Some bytes) (append_assoc w x y)
-puts_then a b c u (Err f) x y first second =
-    (x ++ second.0,
-      (second.1.0, second.1.1, ap (λ (bytes : List ℕ). x ++ bytes) second.1.2 ∙ sym (append_assoc x second.0 second.1.0)),
-      λ w is. second.2 (w ++ x) (first w is) ∙ ap (λ (bytes : List ℕ). Some bytes) (append_assoc w x second.0))
+puts_then a b c u (Err f) x y first second = (
+  x ++ second.0,
+  (second.1.0, second.1.1, ap (λ (bytes : List ℕ). x ++ bytes) second.1.2 ∙ sym (append_assoc x second.0 second.1.0)),
+  λ w is. second.2 (w ++ x) (first w is) ∙ ap (λ (bytes : List ℕ). Some bytes) (append_assoc w x second.0),
+)
 
 cause_then : (r : Result (Unit {0}) Failed) (f f1 f2 : ℕ) → f ≤ f1 → OnErr r (Rose f1 f2) → OnErr r (Rose f f2)
 cause_then (Ok v) f f1 f2 later cause = tt

@@ -1,13 +1,11 @@
 -- A file on its way into memory.
-use Rattle.std.proofs.Common.{◌≡◌, ℕ, ◌+◌, ◌<◌, ◌≤◌, Option, Some, None, Result, Ok, Err, List, [], ◌∷◌, ◌++◌, length, take, drop, nat_lt, true, false, refl, sym, ◌∙◌, ap, subst, arith, append_assoc, append-nil, length-append, Vec, Global, inl, inr}
+use Rattle.std.proofs.Common.{◌≡◌, ℕ, ◌<◌, ◌≤◌, Option, Some, None, Ok, Err, List, [], ◌∷◌, ◌++◌, length, take, drop, nat_lt, true, false, refl, sym, ◌∙◌, ap, arith, append_assoc, append-nil, length-append, Vec, Global, inl, inr}
 use Rattle.std.proofs.lemmas.Bool.{cases_lt}
 use Rattle.std.proofs.lemmas.List.{drop_at}
 use Rattle.std.proofs.lemmas.Bool.Decides.{nat_tests}
 use Rattle.fle_outside.specs.Files.{GivesAt}
 use Rattle.fle_outside.specs.declared.answers.FileAnswer.TheVariants as reads
-use Rattle.fle_runner.specs.Task.{Task, fails, with_file}
 use Rattle.fle_runner.specs.Files.{FileIs, LoadIs}
-use Rattle.fle_runner.specs.declared.file.FileStop.TheVariants as stops
 use Rattle.fle_runner.specs.declared.why.Why.TheVariants as whys
 use Rattle.fle_runner.specs.declared.why.SetupFault.TheVariants as setups
 
@@ -56,14 +54,14 @@ pub loaded : (number limit : ℕ) (file : Option (List ℕ)) (bytes : Vec ℕ Gl
 loaded number limit None bytes is within = absurd is
 loaded number limit (Some file) bytes is within = λ next.
     elim (cases_lt limit (length file)) [
-      inl more ↦ absurd (omega (arith, is.1 more, within))
-    | inr fits ↦ (let t : nat_lt limit (length file) ≡ false = grind (arith, nat_tests) in rw (t, is.0 fits) refl)
+      | inl more ↦ absurd (omega (arith, is.1 more, within))
+      | inr fits ↦ (let t : nat_lt limit (length file) ≡ false = grind (arith, nat_tests) in rw (t, is.0 fits) refl)
     ]
 
 pub too_long : (number limit : ℕ) (file : Option (List ℕ)) (bytes : Vec ℕ Global) → FileIs limit file (Ok bytes) → limit < length bytes.items → LoadIs number limit file (Err (whys.Setup number setups.TooLong 0))
 too_long number limit None bytes is over = absurd is
 too_long number limit (Some file) bytes is over = λ next.
     elim (cases_lt limit (length file)) [
-      inl more ↦ (let t : nat_lt limit (length file) ≡ true = grind (arith, nat_tests) in rw t refl)
-    | inr fits ↦ absurd (omega (arith, ap length (is.0 fits), over, fits))
+      | inl more ↦ (let t : nat_lt limit (length file) ≡ true = grind (arith, nat_tests) in rw t refl)
+      | inr fits ↦ absurd (omega (arith, ap length (is.0 fits), over, fits))
     ]

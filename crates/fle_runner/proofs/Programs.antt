@@ -1,11 +1,10 @@
 -- What a verb did where it stopped before the input.
-use Rattle.std.proofs.Common.{◌≡◌, ℕ, ◌+◌, ◌≤◌, Option, Some, None, Result, Ok, Err, List, [], ◌∷◌, ◌++◌, length, drop, refl, sym, ◌∙◌, ap, subst, arith, Vec, Global}
-use Rattle.fle_outside.specs.Writing.{Gains}
+use Rattle.std.proofs.Common.{◌≡◌, ℕ, Option, Some, None, Err, List, [], refl, sym, subst, arith}
 use Rattle.fle_runner.specs.Did.{Did, IsNumbered}
 use Rattle.fle_runner.specs.Files.{LoadIs, IsOfFiles}
 use Rattle.fle_runner.specs.Outcome.{Outcome, stop}
-use Rattle.fle_runner.specs.Plan.{Block, Output}
-use Rattle.fle_runner.specs.Run.{Draws, IsDetermined, EndsIn, SourceLeft, Ran}
+use Rattle.fle_runner.specs.Plan.{Block}
+use Rattle.fle_runner.specs.Run.{IsDetermined, EndsIn, SourceLeft, Ran}
 use Rattle.fle_runner.specs.Task.{Task, fails, outcome_of, most_of, with_file}
 use Rattle.fle_runner.specs.declared.why.Why.{Why}
 use Rattle.fle_runner.specs.declared.why.Why.TheVariants as whys

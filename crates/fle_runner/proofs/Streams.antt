@@ -1,11 +1,25 @@
 -- Reading a stream goes document by document, however much is left.
-use Rattle.std.proofs.Common.{◌≡◌, ℕ, zero, suc, ◌+◌, ◌-◌, ◌^◌, ◌<◌, ◌≤◌, ◌==◌, ◌||◌, ◌⊎◌, Bool, true, false, Option, Some, None, Result, Ok, Err, List, [], ◌∷◌, length, take, drop, nat_lt, nat_le, min, inl, inr, cond, if◌then◌else◌, refl, sym, ◌∙◌, ap, subst, arith, length-drop, add-one}
+use Rattle.std.proofs.Common.{◌≡◌, ℕ, zero, suc, ◌+◌, ◌^◌, ◌<◌, ◌≤◌, ◌==◌, ◌||◌, Bool, true, false, Result, Ok, Err, List, length, take, drop, nat_lt, nat_le, min, inl, inr, cond, refl, ◌∙◌, ap, subst, arith, length-drop, add-one}
 use Rattle.std.proofs.lemmas.Bool.{cases_lt}
 use Rattle.std.proofs.lemmas.Bool.Decides.{nat_tests}
 use Rattle.bson_tree.specs.Tree.{Items}
-use Rattle.bson_codec.specs.Reading.{document}
-use Rattle.bson_codec.specs.declared.BsonFault.{BsonFault}
+use Rattle.bson_codec.specs.Fault.{fault}
+use Rattle.bson_codec.specs.Reading.{document, signed_below, stated_at}
+use Rattle.bson_codec.specs.declared.fault.BsonKind.TheVariants as kinds
+use Rattle.bson_codec.specs.declared.fault.BsonFault.{BsonFault}
 use Rattle.fle_runner.specs.Streams.{Rest, nothing, over, faulty, Docs, ends, doc, Front, whole, stops, short, low, front_of, stated, front, spelled, first_by, rounds, documents, first_size}
+
+abbrev made_err : BsonFault → Result ℕ BsonFault
+made_err f = Err f
+
+abbrev made_ok : ℕ → Result ℕ BsonFault
+made_ok n = Ok n
+
+err_is : (f h : BsonFault) → made_err f ≡ made_err h → f ≡ h
+err_is f h e = cc
+
+ok_is : (n m : ℕ) → made_ok n ≡ made_ok m → n ≡ m
+ok_is n m e = cc
 
 -- a test that didn't stop
 cond_whole : (b : Bool) (r : Rest) (x : Front) (k : ℕ) → cond b (stops r) x ≡ whole k → (b ≡ false) × (x ≡ whole k)
@@ -68,18 +82,18 @@ rounds_same zero m bytes fits _ = absurd (omega (arith, fits))
 rounds_same (suc n) zero bytes _ fits = absurd (omega (arith, fits))
 rounds_same (suc n) (suc m) bytes fits more =
     first_same (rounds n) (rounds m) bytes (front bytes)
-      (λ k is. rounds_same n m (drop k bytes) (behind_shorter k n bytes is fits) (behind_shorter k m bytes is more))
+    (λ k is. rounds_same n m (drop k bytes) (behind_shorter k n bytes is fits) (behind_shorter k m bytes is more))
 
 pub documents_step : (bytes : List ℕ) → documents bytes ≡ first_by documents bytes (front bytes)
 unfolding documents rounds
 documents_step bytes =
     rw (add-one (length bytes))
     (first_same (rounds (length bytes)) documents bytes (front bytes)
-      (λ k is.
-        let fits : length bytes < suc (length bytes) = omega arith in
-        let shorter = behind_shorter k (length bytes) bytes is fits in
-        let more : length (drop k bytes) < length (drop k bytes) + 1 = omega arith in
-        rounds_same (length bytes) (length (drop k bytes) + 1) (drop k bytes) shorter more))
+    (λ k is.
+    let fits : length bytes < suc (length bytes) = omega arith in
+    let shorter = behind_shorter k (length bytes) bytes is fits in
+    let more : length (drop k bytes) < length (drop k bytes) + 1 = omega arith in
+    rounds_same (length bytes) (length (drop k bytes) + 1) (drop k bytes) shorter more))
 
 -- how a stream begins, by its length and its stated length
 by_front : (bytes : List ℕ) (fr : Front) → front_of (length bytes) (stated bytes) ≡ fr → documents bytes ≡ first_by documents bytes fr
@@ -92,8 +106,8 @@ none_left bytes none = by_front bytes (stops nothing) (let t : (length bytes == 
 pub short_head : (bytes : List ℕ) → 0 < length bytes → length bytes < 4 → documents bytes ≡ ends (short (length bytes))
 short_head bytes some few = by_front bytes (stops (short (length bytes)))
     (let t : (length bytes == 0) ≡ false = grind (arith, nat_tests) in
-     let u : nat_lt (length bytes) 4 ≡ true = grind (arith, nat_tests) in
-     rw (t, u) refl)
+    let u : nat_lt (length bytes) 4 ≡ true = grind (arith, nat_tests) in
+    rw (t, u) refl)
 
 least_read : (bytes : List ℕ) (m : ℕ) (read : Result Items BsonFault) → WholeFront (length bytes) (stated bytes) m → min 4 (length bytes) ≤ first_size (spelled documents m bytes read) (length bytes)
 least_read bytes m (Ok is) w = omega (arith, w.least)
@@ -116,31 +130,43 @@ is_lower a b lower = grind (arith, nat_tests)
 is_not_lower : (a b : ℕ) → b ≤ a → nat_lt a b ≡ false
 is_not_lower a b least = grind (arith, nat_tests)
 
-is_signed : (m : ℕ) → 2 ^ 31 ≤ m → (nat_lt m 5 || nat_le (2 ^ 31) m) ≡ true
-is_signed m least =
-    let t : nat_lt m 5 ≡ false = is_not_lower m 5 (omega (arith, least)) in
-    let u : nat_le (2 ^ 31) m ≡ true = grind (arith, nat_tests) in
-    rw (t, u) refl
-
 is_plain : (m : ℕ) → 5 ≤ m → m < 2 ^ 31 → (nat_lt m 5 || nat_le (2 ^ 31) m) ≡ false
 is_plain m least lower =
     let t : nat_lt m 5 ≡ false = is_not_lower m 5 least in
     let u : nat_le (2 ^ 31) m ≡ false = grind (arith, nat_tests) in
     rw (t, u) refl
 
-pub low_length : (bytes : List ℕ) → 4 ≤ length bytes → stated bytes < 5 → documents bytes ≡ ends low
-low_length bytes four lower =
-    let t = is_lower (stated bytes) 5 lower in
-    by_front bytes (stops low) (rw (is_some (length bytes) four, is_four (length bytes) four, t) refl)
+-- what stating a length answered
+pub record StatedLow (m : ℕ) (f : BsonFault) : Type 0 where
+  pub below : signed_below m 5 ≡ true
+  pub fault : faulty f ≡ low
 
-pub signed_length : (bytes : List ℕ) → 4 ≤ length bytes → 2 ^ 31 ≤ stated bytes → documents bytes ≡ ends low
-signed_length bytes four least =
-    by_front bytes (stops low) (rw (is_some (length bytes) four, is_four (length bytes) four, is_signed (stated bytes) least) refl)
+pub record StatedOk (m n : ℕ) : Type 0 where
+  pub plain : signed_below m 5 ≡ false
+  pub same : n ≡ m
 
-pub over_limit : (bytes : List ℕ) → 4 ≤ length bytes → 2 ^ 24 < stated bytes → stated bytes < 2 ^ 31 → documents bytes ≡ ends over
-over_limit bytes four above lower =
+low_by : (b : Bool) (m : ℕ) (f : BsonFault) → made_err f ≡ cond b (fault kinds.Length 0) (Ok m) → (b ≡ true) × (faulty f ≡ low)
+low_by true m f is = (refl, ap faulty (err_is f (record { kind = kinds.Length; offset = 0 }) is))
+low_by false m f is = cc
+
+ok_by : (b : Bool) (m n : ℕ) → made_ok n ≡ cond b (fault kinds.Length 0) (Ok m) → (b ≡ false) × (n ≡ m)
+ok_by true m n is = cc
+ok_by false m n is = (refl, ok_is n m is)
+
+pub stated_low : (m : ℕ) (f : BsonFault) → Err f ≡ stated_at m → StatedLow m f
+stated_low m f is = let both = low_by (signed_below m 5) m f is in record { below = both.0; fault = both.1 }
+
+pub stated_ok : (m n : ℕ) → Ok n ≡ stated_at m → StatedOk m n
+stated_ok m n is = let both = ok_by (signed_below m 5) m n is in record { plain = both.0; same = both.1 }
+
+pub low_length : (bytes : List ℕ) → 4 ≤ length bytes → signed_below (stated bytes) 5 ≡ true → documents bytes ≡ ends low
+low_length bytes four below =
+    by_front bytes (stops low) (rw (is_some (length bytes) four, is_four (length bytes) four, below) refl)
+
+pub over_limit : (bytes : List ℕ) → 4 ≤ length bytes → signed_below (stated bytes) 5 ≡ false → 2 ^ 24 < stated bytes → documents bytes ≡ ends over
+over_limit bytes four plain above =
     by_front bytes (stops over)
-    (rw (is_some (length bytes) four, is_four (length bytes) four, is_plain (stated bytes) (omega (arith, above)) lower, is_lower (2 ^ 24) (stated bytes) above) refl)
+    (rw (is_some (length bytes) four, is_four (length bytes) four, plain, is_lower (2 ^ 24) (stated bytes) above) refl)
 
 -- a length that a document of the input may state
 pub record IsSize (bytes : List ℕ) (m : ℕ) : Type 0 where
@@ -171,6 +197,6 @@ first_size_least bytes = rw (documents_step bytes) (least_by bytes (front bytes)
 
 pub first_size_body : (bytes : List ℕ) (m : ℕ) → IsSize bytes m → min m (length bytes) ≤ first_size (documents bytes) (length bytes)
 first_size_body bytes m size = elim (cases_lt (length bytes) m) [
-      inl less ↦ rw (short_body bytes m size less) (omega arith)
-    | inr enough ↦ rw (whole_body bytes m size enough) (body_read bytes m (document (take m bytes)) enough)
-    ]
+  | inl less ↦ rw (short_body bytes m size less) (omega arith)
+  | inr enough ↦ rw (whole_body bytes m size enough) (body_read bytes m (document (take m bytes)) enough)
+]

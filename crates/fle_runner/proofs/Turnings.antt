@@ -1,10 +1,10 @@
 -- A run on its way: outputs are written, and the course of what is left is what comes.
-use Rattle.std.proofs.Common.{◌≡◌, ℕ, ◌+◌, ◌-◌, ◌<◌, ◌≤◌, Option, Some, None, List, [], ◌∷◌, ◌++◌, length, take, drop, refl, sym, ◌∙◌, ap, subst, arith, append_assoc, append-nil, add_assoc, zero-add, length-append, length-drop}
+use Rattle.std.proofs.Common.{◌≡◌, ℕ, ◌+◌, ◌≤◌, Option, Some, List, [], ◌∷◌, ◌++◌, length, take, drop, refl, sym, ◌∙◌, ap, subst, arith, append_assoc, append-nil, add_assoc, zero-add, length-append, length-drop}
 use Rattle.std.proofs.lemmas.List.{take_all, take-append-le, drop-append-le, drop-drop}
 use Rattle.fle_outside.specs.Writing.{Gains}
 use Rattle.fle_runner.specs.Plan.{Block, Plan, Output, read_of, draws_of, size_of, written}
 use Rattle.fle_runner.specs.Outcome.{Outcome, Course, with_front}
-use Rattle.fle_runner.specs.Run.{Draws, IsDetermined, EndsIn, HandedPast, SourceLeft, Stopped, Went, Ran}
+use Rattle.fle_runner.specs.Run.{Draws, HandedPast, SourceLeft, Stopped, Went, Ran}
 use Rattle.fle_runner.specs.Turn.{IsOfStream}
 use Rattle.fle_runner.specs.declared.why.Why.{Why}
 use Rattle.fle_runner.specs.declared.why.Why.TheVariants as whys
@@ -102,10 +102,10 @@ goes {course = course} {start = start} {after = after} {blocks = blocks} {blocks
     let one : Output = record { read = n; plan = went.plan } in
     let behind : drop n (drop taken start) ≡ drop (taken + n) start = drop-drop n taken start in
     let comes : course taken (drop taken start) ≡ with_front (one ∷ []) n (course (taken + n) (drop (taken + n) start)) =
-      went.comes ∙ ap (λ (bytes : List ℕ). with_front (one ∷ []) n (course (taken + n) bytes)) behind in
+    went.comes ∙ ap (λ (bytes : List ℕ). with_front (one ∷ []) n (course (taken + n) bytes)) behind in
     let all : written (going.done ++ one ∷ []) (going.drawn ++ went.drawn) ≡ written going.done going.drawn ++ went.plan.bytes went.drawn =
-      written-append going.done (one ∷ []) going.drawn went.drawn going.enough
-      ∙ ap (λ (bytes : List ℕ). written going.done going.drawn ++ bytes) (written_one n went.plan went.drawn went.enough) in
+    written-append going.done (one ∷ []) going.drawn went.drawn going.enough
+    ∙ ap (λ (bytes : List ℕ). written going.done going.drawn ++ bytes) (written_one n went.plan went.drawn went.enough) in
     record {
       here = went.left ∙ ap (λ (bytes : List ℕ). Some bytes) behind;
       done = going.done ++ one ∷ [];

@@ -1,5 +1,5 @@
 -- The numbers of statuses, reasons, limits and faults of files.
-use Rattle.std.specs.Prelude.{ℕ, List}
+use Rattle.std.specs.Prelude.{ℕ}
 use Rattle.fle_runner.specs.declared.reason.Reason.{Reason}
 use Rattle.fle_runner.specs.declared.reason.Reason.TheVariants as reasons
 use Rattle.fle_runner.specs.declared.status.Status.{Status}

@@ -1,6 +1,6 @@
 -- What a judge answers, by what the document comes to.
 use Rattle.std.specs.Prelude.{◌≡◌, ℕ, ◌≤◌, Option, List, [], length}
-use Rattle.fle_runner.specs.Plan.{Block, Plan, Verdict, writes, refused, too_long}
+use Rattle.fle_runner.specs.Plan.{Block, Verdict, writes, refused, too_long}
 use Rattle.fle_runner.specs.Run.{Draws}
 use Rattle.fle_runner.specs.declared.judging.Judged.{Judged}
 use Rattle.fle_runner.specs.declared.judging.Judged.TheVariants as judgements

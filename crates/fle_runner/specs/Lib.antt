@@ -14,3 +14,4 @@ pub mod Mark
 pub mod Verbs
 pub mod Did
 pub mod Ended
+pub mod Told

@@ -1,7 +1,7 @@
 -- What a run comes to where nothing fails: its end, and the outputs before it.
 use Rattle.std.specs.Prelude.{ℕ, ◌+◌, ◌^◌, List, [], ◌∷◌, ◌++◌, nat_lt, if◌then◌else◌}
 use Rattle.bson_tree.specs.Tree.{Items}
-use Rattle.fle_runner.specs.Plan.{Plan, Output, Verdict, writes, refused, too_long}
+use Rattle.fle_runner.specs.Plan.{Output, Verdict, writes, refused, too_long}
 use Rattle.fle_runner.specs.Streams.{Docs, doc, ends, Rest, nothing, over, faulty}
 use Rattle.fle_runner.specs.declared.why.Why.{Why}
 use Rattle.fle_runner.specs.declared.why.Why.TheVariants as whys

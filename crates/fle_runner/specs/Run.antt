@@ -1,7 +1,7 @@
 -- What a run did, whatever failed on the way.
-use Rattle.std.specs.Prelude.{◌≡◌, ℕ, ◌+◌, ◌<◌, ◌≤◌, Option, Some, None, List, [], ◌∷◌, ◌++◌, length, drop}
+use Rattle.std.specs.Prelude.{◌≡◌, ℕ, ◌+◌, ◌<◌, ◌≤◌, Option, Some, List, [], ◌∷◌, ◌++◌, length, drop}
 use Rattle.fle_outside.specs.Writing.{Gains, IsProperPrefix}
-use Rattle.fle_runner.specs.Plan.{Block, Plan, Output, read_of, draws_of, size_of, written}
+use Rattle.fle_runner.specs.Plan.{Block, Plan, Output, read_of, draws_of, written}
 use Rattle.fle_runner.specs.Outcome.{Outcome, Course, with_front}
 use Rattle.fle_runner.specs.declared.why.Why.{Why}
 use Rattle.fle_runner.specs.declared.why.Why.TheVariants as whys

@@ -1,10 +1,10 @@
 -- BSON 1.1: a stream is the spellings of documents, one after another, and a rest.
-use Rattle.std.specs.Prelude.{ℕ, zero, suc, ◌+◌, ◌^◌, ◌==◌, ◌||◌, Option, Some, None, Result, Ok, Err, List, length, take, drop, nat_lt, nat_le, if◌then◌else◌}
+use Rattle.std.specs.Prelude.{ℕ, zero, suc, ◌+◌, ◌^◌, ◌==◌, Result, Ok, Err, List, length, take, drop, nat_lt, if◌then◌else◌}
 use Rattle.std.specs.Int.{from_le_bytes, w32}
 use Rattle.bson_tree.specs.Tree.{Items}
-use Rattle.bson_codec.specs.Reading.{document}
-use Rattle.bson_codec.specs.declared.BsonFault.{BsonFault}
-use Rattle.bson_codec.specs.declared.BsonKind.TheVariants as kinds
+use Rattle.bson_codec.specs.Reading.{document, signed_below}
+use Rattle.bson_codec.specs.declared.fault.BsonFault.{BsonFault}
+use Rattle.bson_codec.specs.declared.fault.BsonKind.TheVariants as kinds
 
 -- what stands behind the last document: nothing, a length above the limit, or bytes with this fault
 pub data Rest : Type 0 where
@@ -30,12 +30,12 @@ short n = faulty (record { kind = kinds.Short; offset = n })
 abbrev pub low : Rest
 low = faulty (record { kind = kinds.Length; offset = 0 })
 
--- n bytes are left and the signed 32-bit number in front of them has the bits of m: what is judged first comes first
+-- n bytes are left, and the 32 bits in front of them are the signed number whose bits are those of m: what is judged first comes first
 abbrev pub front_of : ℕ → ℕ → Front
 front_of n m =
     if n == 0 then stops nothing
     else (if nat_lt n 4 then stops (short n)
-    else (if (nat_lt m 5 || nat_le (2 ^ 31) m) then stops low
+    else (if signed_below m 5 then stops low
     else (if nat_lt (2 ^ 24) m then stops over
     else (if nat_lt n m then stops (short n) else whole m))))
 

@@ -1,5 +1,5 @@
 -- What the words and the files ask for.
-use Rattle.std.specs.Prelude.{◌≡◌, ℕ, ◌+◌, Option, Some, None, List, length, nat_lt, if◌then◌else◌}
+use Rattle.std.specs.Prelude.{ℕ, ◌+◌, Option, Some, None, List, length, nat_lt, if◌then◌else◌}
 use Rattle.bson_tree.specs.Tree.{Items}
 use Rattle.fle_runner.specs.Plan.{Verdict}
 use Rattle.fle_runner.specs.Outcome.{Outcome, stop, outcome}

@@ -1,5 +1,5 @@
 -- What one turn of a verb that reads the input does.
-use Rattle.std.specs.Prelude.{◌≡◌, ℕ, ◌≤◌, Option, List}
+use Rattle.std.specs.Prelude.{ℕ, Option, List}
 use Rattle.fle_runner.specs.Plan.{Block}
 use Rattle.fle_runner.specs.Outcome.{Course}
 use Rattle.fle_runner.specs.Run.{Went, Stopped}

@@ -16,7 +16,13 @@ use fle_outside::{Folder, Sink, Source};
 use std::alloc::Global;
 
 /// Does what the words ask for.
-pub fn act<S: Source, F: Folder, O: Sink>(alloc: Global, words: &[String], input: &mut S, files: &mut F, out: &mut O) -> End
+pub fn act<S: Source, F: Folder, O: Sink>(
+    alloc: Global,
+    words: &[String],
+    input: &mut S,
+    files: &mut F,
+    out: &mut O,
+) -> End
     ensures did { (all : Files) (told : List ℕ) → F.files files.old ≡ Some all → S.left input.old ≡ Some told
         → Did (task (map string_bytes words.now) all) told (S.left input.new) None None (O.written out.old) (O.written out.new) result.number result.written result.why }
     ensures folder_cause { result.why ≡ Why.FolderFault → Rose (F.faults files.old) (F.faults files.new) }

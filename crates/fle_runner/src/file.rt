@@ -24,7 +24,13 @@ pub enum FileStop {
 }
 
 /// Loads the file of this number in the order of the words, of at most `limit` bytes.
-pub fn load_file<F: Folder>(alloc: Global, files: &mut F, number: u8, name: &str, limit: usize) -> Result<Vec<u8>, Why>
+pub fn load_file<F: Folder>(
+    alloc: Global,
+    files: &mut F,
+    number: u8,
+    name: &str,
+    limit: usize,
+) -> Result<Vec<u8>, Why>
     requires { limit < 2 ^ 40 }
     ensures load { (all : Files) → F.files files.old ≡ Some all → LoadIs number limit (file_of all name.now) result }
     ensures small { IfOk result (λ bytes. vec_len bytes ≤ limit) }
@@ -48,7 +54,12 @@ pub fn load_file<F: Folder>(alloc: Global, files: &mut F, number: u8, name: &str
 }
 
 /// Reads a file to its end, or until more than `limit` bytes are read.
-fn read_file<F: Folder>(alloc: Global, files: &mut F, name: &str, limit: usize) -> Result<Vec<u8>, FileStop>
+fn read_file<F: Folder>(
+    alloc: Global,
+    files: &mut F,
+    name: &str,
+    limit: usize,
+) -> Result<Vec<u8>, FileStop>
     requires { limit < 2 ^ 40 }
     ensures file { (all : Files) → F.files files.old ≡ Some all → FileIs limit (file_of all name.now) result }
     ensures same { F.files files.new ≡ F.files files.old }

@@ -59,12 +59,24 @@ impl<J: Judge> Verb for Judging<J> {
 
     ghost most = { λ s told. first_size (documents told) (length told) };
 
-    fn turn<S: Source, O: Sink>(&mut self, alloc: Global, taken: u64, input: &mut S, out: &mut O) -> Turn {
+    fn turn<S: Source, O: Sink>(
+        &mut self,
+        alloc: Global,
+        taken: u64,
+        input: &mut S,
+        out: &mut O,
+    ) -> Turn {
         if STREAM_LIMIT <= taken {
             return Turn::Stopped(Why::Limit(Bound::Stream));
         }
         match next_document(alloc, input) {
-            Next::Document(document, size) => judge_document(alloc, &mut self.judge, &document, size, out),
+            Next::Document(document, size) => judge_document(
+                alloc,
+                &mut self.judge,
+                &document,
+                size,
+                out,
+            ),
             Next::Nothing => Turn::Stopped(Why::Done),
             Next::Over => Turn::Stopped(Why::Limit(Bound::Document)),
             Next::Faulty(fault) => Turn::Stopped(Why::Malformed(fault)),
@@ -75,7 +87,13 @@ impl<J: Judge> Verb for Judging<J> {
 }
 
 /// Judges a document of `size` bytes, and writes its output.
-fn judge_document<J: Judge, O: Sink>(alloc: Global, judge: &mut J, document: &Doc, size: usize, out: &mut O) -> Turn
+fn judge_document<J: Judge, O: Sink>(
+    alloc: Global,
+    judge: &mut J,
+    document: &Doc,
+    size: usize,
+    out: &mut O,
+) -> Turn
     requires { IsInput document.now.kids }
     ensures same { J.verdict judge.new ≡ J.verdict judge.old }
     ensures size { (n : ℕ) → result ≡ Turn.Wrote n → n ≡ size }

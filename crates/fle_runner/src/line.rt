@@ -15,19 +15,37 @@ pub fn put_end<G: Sink>(diag: &mut G, why: &Why, number: u64) -> Result<(), Fail
     let status = why.status().code();
     match why {
         Why::Done => Ok(()),
-        Why::Refused(reason, place) => put_line(diag, status, number, reason.code(), place.as_slice()),
+        Why::Refused(reason, place) => put_line(
+            diag,
+            status,
+            number,
+            reason.code(),
+            place.as_slice(),
+        ),
         Why::Malformed(_) => put_line(diag, status, number, 0, &[]),
         Why::Limit(bound) => put_line(diag, status, number, bound.code(), &[]),
         Why::Setup(file, fault, document) => {
             put_line(diag, status, *file as u64, fault.code(), &[*document])
         }
-        Why::ReadFault | Why::WriteFault | Why::EntropyFault => put_line(diag, status, number, 0, &[]),
+        Why::ReadFault | Why::WriteFault | Why::EntropyFault => put_line(
+            diag,
+            status,
+            number,
+            0,
+            &[],
+        ),
         Why::Words | Why::FolderFault | Why::Memory => put_line(diag, status, 0, 0, &[]),
     }
 }
 
 /// Writes one line: the status, the number of a document or file, the reason, the place.
-fn put_line<G: Sink>(diag: &mut G, status: u8, number: u64, reason: u8, place: &[u32]) -> Result<(), Failed>
+fn put_line<G: Sink>(
+    diag: &mut G,
+    status: u8,
+    number: u64,
+    reason: u8,
+    place: &[u32],
+) -> Result<(), Failed>
     ensures { WritesWhole (G.written diag.old) (G.written diag.new) (G.faults diag.old) (G.faults diag.new) (G.assured diag.old) (G.assured diag.new) result (line_text status number reason place.now) }
 {
     match put_head(diag, status, number, reason) {

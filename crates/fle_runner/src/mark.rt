@@ -16,7 +16,7 @@ use crate::stream::judge_stream;
 use crate::why::{SetupFault, Why};
 use bson_tree::{Doc, Place};
 use command_marker::{MarkStop, mark_insert};
-use encrypt_schema::{InfoFault, InfoKind, Infos};
+use encrypt_schema::{InfoFault, InfoKind, Infos, SchemaFault};
 use fle_outside::{Folder, Sink, Source};
 use std::alloc::Global;
 
@@ -47,7 +47,14 @@ impl Judge for Marker<'_> {
 }
 
 /// Marks each command of the input.
-pub fn mark<S: Source, F: Folder, O: Sink>(alloc: Global, db: &str, schemas: &str, input: &mut S, files: &mut F, out: &mut O) -> End
+pub fn mark<S: Source, F: Folder, O: Sink>(
+    alloc: Global,
+    db: &str,
+    schemas: &str,
+    input: &mut S,
+    files: &mut F,
+    out: &mut O,
+) -> End
     ensures did { (all : Files) (told : List ℕ) → F.files files.old ≡ Some all → S.left input.old ≡ Some told
         → Did (mark_task db.now (file_of all schemas.now)) told (S.left input.new) None None (O.written out.old) (O.written out.new) result.number result.written result.why }
     ensures folder_cause { result.why ≡ Why.FolderFault → Rose (F.faults files.old) (F.faults files.new) }
@@ -85,6 +92,6 @@ fn setup_fault(kind: InfoKind) -> SetupFault
 {
     match kind {
         InfoKind::Bson => SetupFault::InfosBson,
-        InfoKind::NotBuilt => SetupFault::InfosNotBuilt,
+        InfoKind::Schema(SchemaFault::NotBuilt) => SetupFault::InfosNotBuilt,
     }
 }

@@ -5,21 +5,15 @@ ghost use Rattle.std.specs.Int.{from_le_bytes, w32};
 ghost use Rattle.fle_outside.specs.Counts.{Rose};
 ghost use Rattle.fle_outside.specs.Filling.{FillTakes, FillWithin};
 ghost use Rattle.fle_runner.specs.Next.{NextIs, NextSound};
-ghost use Rattle.fle_runner.specs.Streams.{faulty, short as short_of, low as low_of};
+ghost use Rattle.fle_runner.specs.Streams.{faulty, short as short_of};
 
-use bson_codec::{BsonFault, BsonKind, CodecFault, decode};
+use bson_codec::{BsonFault, BsonKind, CodecFault, decode, stated_length};
 use bson_tree::Doc;
 use fle_outside::{Fill, Source, fill_piece};
 use std::alloc::Global;
 
-/// The smallest document: its length and its end.
-const MIN_LENGTH: u32 = 5;
-
 /// The largest document of the input, in bytes.
 const MAX_LENGTH: u32 = 16_777_216;
-
-/// The bits of the lowest negative number: a length with this bit is below 0.
-const SIGN: u32 = 0x8000_0000;
 
 /// What stands next in a stream.
 #[derive(Drop)]
@@ -51,16 +45,11 @@ pub fn next_document<S: Source>(alloc: Global, source: &mut S) -> Next
         Fill::Failed => Next::Failed,
         Fill::Ended(0) => Next::Nothing,
         Fill::Ended(n) => Next::Faulty(short(n)),
-        Fill::Whole => {
-            let size = u32::from_le_bytes(head);
-            if size < MIN_LENGTH || SIGN <= size {
-                return Next::Faulty(low());
-            }
-            if MAX_LENGTH < size {
-                return Next::Over;
-            }
-            next_body(alloc, source, &head, size as usize)
-        }
+        Fill::Whole => match stated_length(head) {
+            Err(fault) => Next::Faulty(fault),
+            Ok(size) if MAX_LENGTH < size => Next::Over,
+            Ok(size) => next_body(alloc, source, &head, size as usize),
+        },
     }
 }
 
@@ -115,15 +104,5 @@ fn short(n: usize) -> BsonFault
     BsonFault {
         kind: BsonKind::Short,
         offset: n,
-    }
-}
-
-/// The stated length is below 5.
-fn low() -> BsonFault
-    ensures { faulty result ≡ low_of }
-{
-    BsonFault {
-        kind: BsonKind::Length,
-        offset: 0,
     }
 }

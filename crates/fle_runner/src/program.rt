@@ -32,8 +32,8 @@ pub fn fle<S: Source, F: Folder, O: Sink, G: Sink>(
     // One ending explains the status, the line, what was written and what the input has left.
     ensures ended { (all : Files) (told : List ℕ) → F.files files.old ≡ Some all → S.left input.old ≡ Some told
         → Ended (task (map string_bytes words.now) all) told (S.left input.new) None None (O.written out.old) (O.written out.new)
-            (S.faults input.old) (S.faults input.new) (F.faults files.old) (F.faults files.new) (O.faults out.old) (O.faults out.new)
-            (G.written diag.old) (G.written diag.new) (G.faults diag.old) (G.faults diag.new) (G.assured diag.old) (G.assured diag.new) result }
+        (S.faults input.old) (S.faults input.new) (F.faults files.old) (F.faults files.new) (O.faults out.old) (O.faults out.new)
+        (G.written diag.old) (G.written diag.new) (G.faults diag.old) (G.faults diag.new) (G.assured diag.old) (G.assured diag.new) result }
     // Where no count rose and memory lasted, the status is that of the outcome.
     ensures settled { (all : Files) (told : List ℕ) → F.files files.old ≡ Some all → S.left input.old ≡ Some told
         → (Rose (S.faults input.old) (S.faults input.new) → ⊥) → (Rose (F.faults files.old) (F.faults files.new) → ⊥) → (Rose (O.faults out.old) (O.faults out.new) → ⊥)
@@ -53,7 +53,7 @@ pub fn fle<S: Source, F: Folder, O: Sink, G: Sink>(
 }
 
 /// Writes the line of an end, and answers its status.
-fn report<G: Sink>(diag: &mut G, end: &End) -> Status
+pub fn report<G: Sink>(diag: &mut G, end: &End) -> Status
     ensures status { result ≡ status_of end.now.why }
     ensures says { (r : Result (Unit {0}) Failed) × WritesWhole (G.written diag.old) (G.written diag.new) (G.faults diag.old) (G.faults diag.new) (G.assured diag.old) (G.assured diag.new) r (line_of end.now.why end.now.number) }
 {

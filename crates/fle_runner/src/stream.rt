@@ -15,7 +15,12 @@ use fle_outside::{Sink, Source};
 use std::alloc::Global;
 
 /// Judges each document of the input, and writes its output, until one ends the run.
-pub fn judge_stream<J: Judge + Drop, S: Source, O: Sink>(alloc: Global, judge: J, input: &mut S, out: &mut O) -> End
+pub fn judge_stream<J: Judge + Drop, S: Source, O: Sink>(
+    alloc: Global,
+    judge: J,
+    input: &mut S,
+    out: &mut O,
+) -> End
     ensures did { (told : List ℕ) → S.left input.old ≡ Some told
         → Did (each (J.verdict judge)) told (S.left input.new) None None (O.written out.old) (O.written out.new) result.number result.written result.why }
     ensures kind { IsOfStream result.why }

@@ -30,7 +30,13 @@ pub trait Verb {
     ghost most: { Self → List ℕ → ℕ };
 
     /// Reads what makes one output, and writes it.
-    fn turn<S: Source, O: Sink>(&mut self, alloc: Global, taken: u64, input: &mut S, out: &mut O) -> Turn
+    fn turn<S: Source, O: Sink>(
+        &mut self,
+        alloc: Global,
+        taken: u64,
+        input: &mut S,
+        out: &mut O,
+    ) -> Turn
         ensures same_course { course self.new ≡ course self.old }
         ensures same_most { most self.new ≡ most self.old }
         ensures progress { (n : ℕ) → result ≡ Turn.Wrote n → (taken < 2 ^ 40) × (0 < n) × (n ≤ 2 ^ 26) }
@@ -56,7 +62,12 @@ pub struct Stop {
 }
 
 /// Takes turns of a verb until one ends the run.
-pub fn run_turns<T: Verb, S: Source, O: Sink>(alloc: Global, verb: &mut T, input: &mut S, out: &mut O) -> Stop
+pub fn run_turns<T: Verb, S: Source, O: Sink>(
+    alloc: Global,
+    verb: &mut T,
+    input: &mut S,
+    out: &mut O,
+) -> Stop
     ensures ran { (told : List ℕ) → S.left input.old ≡ Some told
         → Ran (T.course verb.old 0 told) told (S.left input.new) (T.most verb.old) None None (O.written out.old) (O.written out.new) result.written result.why }
     ensures few { result.written < 2 ^ 41 }

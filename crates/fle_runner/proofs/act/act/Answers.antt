@@ -1,5 +1,5 @@
 -- The words have no form, or that of `mark`.
-use Rattle.std.proofs.Common.{◌≡◌, Option, sym, ap}
+use Rattle.std.proofs.Common.{Option, sym, ap}
 use Rattle.fle_runner.specs.Words.{Form}
 use Rattle.fle_runner.specs.Verbs.{task_of}
 use Rattle.fle_runner.proofs.Programs.{did_task, did_words}

@@ -1,7 +1,7 @@
 -- Each read goes on with the file's next bytes.
-use Rattle.std.proofs.Common.{◌≡◌, ℕ, ◌+◌, ◌≤◌, length, List, arith, refl}
-use Rattle.fle_outside.specs.Files.{file_of, GivesAt}
-use Rattle.fle_runner.proofs.Loads.{IsFront, front_none, front_more, front_end, front_over, missing}
+use Rattle.std.proofs.Common.{arith, refl}
+use Rattle.fle_outside.specs.Files.{file_of}
+use Rattle.fle_runner.proofs.Loads.{front_none}
 use Rattle.fle_runner.proofs.file.read_file.Goals as goal
 
 pub loop-piece-init : goal.loop-piece-init

@@ -1,5 +1,5 @@
 -- The bytes so far are the front of the file.
-use Rattle.std.proofs.Common.{◌≡◌, ◌+◌, ◌-◌, ◌^◌, ◌<◌, ◌≤◌, Some, vec_len}
+use Rattle.std.proofs.Common.{◌≡◌, ◌+◌, ◌-◌, ◌≤◌, Some, vec_len}
 use Rattle.fle_outside.specs.Files.{Files, file_of}
 use Rattle.fle_runner.proofs.Loads.{IsFront}
 use Rattle.fle_runner.proofs.file.read_file.Given as goal

@@ -1,5 +1,5 @@
 -- What the verdict makes of the run, by what the judge answered.
-use Rattle.std.proofs.Common.{◌≡◌, ℕ, ◌+◌, List, None, drop, sym, subst}
+use Rattle.std.proofs.Common.{◌+◌, None, drop, sym, subst}
 use Rattle.fle_runner.specs.Outcome.{Outcome}
 use Rattle.fle_runner.specs.Run.{Stopped}
 use Rattle.fle_runner.specs.declared.why.Why.TheVariants as whys

@@ -1,5 +1,5 @@
 -- The dot and the first number, and the others behind them.
-use Rattle.std.proofs.Common.{ℕ, ◌<◌, ◌-◌, length, take, drop, arith, append-nil}
+use Rattle.std.proofs.Common.{◌<◌, ◌-◌, length, take, drop, arith, append-nil}
 use Rattle.fle_runner.specs.Line.{dots}
 use Rattle.fle_runner.proofs.Lines.{then_all, stop_all, dots_split}
 use Rattle.fle_runner.proofs.line.+put_dots.Goals as goal

@@ -1,5 +1,5 @@
 -- The first number, and the others behind it.
-use Rattle.std.proofs.Common.{ℕ, ◌<◌, ◌-◌, length, take, drop, arith}
+use Rattle.std.proofs.Common.{◌<◌, ◌-◌, length, take, drop, arith}
 use Rattle.fle_runner.specs.Line.{dots}
 use Rattle.fle_runner.proofs.Lines.{then_all, stop_all, place_split}
 use Rattle.fle_runner.proofs.line.put_place.Goals as goal

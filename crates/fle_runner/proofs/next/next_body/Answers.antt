@@ -1,9 +1,6 @@
 -- What stands behind the length: read, ended, or failed on the way.
-use Rattle.std.proofs.Common.{◌≡◌, ℕ, length, ◌++◌, sym, ◌∙◌, subst, arith, Result, Ok, Err}
+use Rattle.std.proofs.Common.{◌≡◌, length, ◌++◌, ◌∙◌, arith}
 use Rattle.std.proofs.lemmas.List.{take_at}
-use Rattle.bson_codec.specs.Reading.{document}
-use Rattle.bson_codec.specs.declared.BsonFault.{BsonFault}
-use Rattle.fle_runner.specs.Streams.{documents, ends}
 use Rattle.fle_runner.proofs.Bodies.{size_of_head, unread_body, failed_body, ended_body, whole_read, read_ok, read_fault, read_memory}
 use Rattle.fle_runner.proofs.next.next_body.Goals as goal
 

@@ -1,5 +1,5 @@
 -- The verb's end is the program's.
-use Rattle.std.proofs.Common.{◌≡◌, sym, subst}
+use Rattle.std.proofs.Common.{subst}
 use Rattle.fle_runner.specs.Ended.{IsSettled}
 use Rattle.fle_runner.specs.declared.status.Status.{Status}
 use Rattle.fle_runner.proofs.Endings.{whole_of}

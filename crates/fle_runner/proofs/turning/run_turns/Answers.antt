@@ -1,5 +1,5 @@
 -- Each turn writes one more output, or ends the run.
-use Rattle.std.proofs.Common.{◌≡◌, ℕ, List, Some, None, refl, ap, ◌∙◌, arith, drop}
+use Rattle.std.proofs.Common.{None, refl, ap, ◌∙◌, arith, drop}
 use Rattle.fle_runner.specs.declared.why.Why.{Why}
 use Rattle.fle_runner.specs.declared.turning.Turn.TheVariants as turns
 use Rattle.fle_runner.proofs.Turnings.{begins, goes, stops, room_left}
@@ -30,9 +30,9 @@ loop-n-preserved g c =
       out_later = omega (arith, before.out_later, c.in-Wrote.ensures.out_later);
       sure = λ assured. (c.in-Wrote.ensures.in_sure (before.sure assured)).1;
       going = λ told is.
-        let going = before.going told is in
-        let went = rw before.same_course at (c.in-Wrote.ensures.turn (drop c.loop-n.taken told) going.here) in
-        goes going went;
+          let going = before.going told is in
+          let went = rw before.same_course at (c.in-Wrote.ensures.turn (drop c.loop-n.taken told) going.here) in
+          goes going went;
     }
 
 pub returns-in-Stopped-clause-ran : goal.returns-in-Stopped-clause-ran

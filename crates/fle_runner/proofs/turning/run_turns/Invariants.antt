@@ -1,5 +1,5 @@
 -- The outputs so far are written; what comes of the bytes that are left comes of all.
-use Rattle.std.proofs.Common.{◌≡◌, ◌+◌, ◌-◌, ◌^◌, ◌<◌, ◌≤◌, List, ℕ, Some, None}
+use Rattle.std.proofs.Common.{◌≡◌, ◌-◌, ◌^◌, ◌<◌, ◌≤◌, List, ℕ, Some, None}
 use Rattle.fle_runner.proofs.Turnings.{Going}
 use Rattle.fle_runner.proofs.turning.run_turns.Given as goal
 
@@ -13,7 +13,7 @@ invariant-loop-n g l = record {
   out_later : g.O.Sink.faults l.fn.out ≤ g.O.Sink.faults l.out;
   sure : g.S.Source.assured l.fn.input → g.S.Source.assured l.input;
   going : (told : List ℕ) → g.S.Source.left l.fn.input ≡ Some told
-    → Going (g.T.Verb.course l.fn.verb) told (g.S.Source.left l.input) None None (g.O.Sink.written l.fn.out) (g.O.Sink.written l.out) 0 0 (g.O.Sink.assured l.fn.out) (g.O.Sink.assured l.out) l.written l.taken;
+      → Going (g.T.Verb.course l.fn.verb) told (g.S.Source.left l.input) None None (g.O.Sink.written l.fn.out) (g.O.Sink.written l.out) 0 0 (g.O.Sink.assured l.fn.out) (g.O.Sink.assured l.out) l.written l.taken;
 }
 
 abbrev pub decreases-loop-n : goal.decreases-loop-n

@@ -1,8 +1,8 @@
 -- What stands next in the stream says what the turn does.
-use Rattle.std.proofs.Common.{◌≡◌, ℕ, ◌+◌, ◌≤◌, List, None, [], drop, length, refl, sym, ◌∙◌, ap, arith}
-use Rattle.fle_runner.specs.Outcome.{Outcome, outcome, judged, stop}
+use Rattle.std.proofs.Common.{◌+◌, ◌≤◌, None, [], drop, length, ◌∙◌, ap, arith}
+use Rattle.fle_runner.specs.Outcome.{Outcome, outcome}
 use Rattle.fle_runner.specs.Plan.{size_of}
-use Rattle.fle_runner.specs.Streams.{Docs, documents, first_size, ends, nothing, over, faulty}
+use Rattle.fle_runner.specs.Streams.{Docs, documents, first_size, nothing, over, faulty}
 use Rattle.fle_runner.specs.declared.why.Why.TheVariants as whys
 use Rattle.fle_runner.specs.declared.why.Bound.TheVariants as bounds
 use Rattle.fle_runner.proofs.Judgings.{outcome_doc, outcome_end, outcome_late, untold, stopped_clean, stopped_memory, ends_memory_none, past, size_in-≤}
