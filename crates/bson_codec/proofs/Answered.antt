@@ -1,5 +1,5 @@
 -- What reading says of a result, said by the grammar.
-use Rattle.std.proofs.Common.{◌≡◌, ℕ, ◌+◌, ◌≤◌, List, ◌++◌, length, take, Result, Ok, Err, subst, sym}
+use Rattle.std.proofs.Common.{◌≡◌, ℕ, ◌≤◌, List, ◌++◌, length, take, Result, Ok, Err, subst, sym}
 use Rattle.std.specs.Prelude.{IfOk}
 use Rattle.bson_tree.specs.Tree.{Items}
 use Rattle.bson_tree.specs.Spelling.{doc_bytes}

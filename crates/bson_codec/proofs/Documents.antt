@@ -1,15 +1,14 @@
 -- Documents: what is read is spelled so, and what is spelled so is read.
-use Rattle.std.proofs.Common.{◌≡◌, ℕ, zero, suc, ◌+◌, ◌-◌, ◌^◌, ◌<◌, ◌≤◌, Bool, true, false, cond, ltb, leb, eqb, List, [], ◌∷◌, ◌++◌, length, take, drop, Result, Ok, Err, refl, sym, ap, subst, ◌∙◌, append_assoc, arith}
+use Rattle.std.proofs.Common.{◌≡◌, ℕ, zero, suc, ◌+◌, ◌-◌, ◌^◌, ◌<◌, ◌≤◌, false, ltb, leb, eqb, List, [], ◌∷◌, ◌++◌, length, take, drop, Ok, refl, sym, ap, subst, ◌∙◌, arith}
 use Rattle.std.specs.Int.{w32, to_le_bytes}
 use Rattle.std.proofs.lemmas.Bool.{ltb-false, le-ltb, leb-false, lt-leb, ne_eqb}
-use Rattle.std.proofs.lemmas.List.{drop-drop, length-append, length-drop, length-take-le, append-nil, nil_from_length, take-append-drop}
-use Rattle.bson_tree.specs.Tree.{Items, no_items}
+use Rattle.std.proofs.lemmas.List.{drop-drop, length-drop, append-nil, nil_from_length}
+use Rattle.bson_tree.specs.Tree.{Items}
 use Rattle.bson_tree.specs.Spelling.{framed, items_bytes, doc_bytes}
-use Rattle.bson_codec.specs.declared.fault.BsonFault.{BsonFault}
-use Rattle.bson_codec.specs.Fault.{fault_if, ◌>>=◌}
+use Rattle.bson_codec.specs.Fault.{fault_if}
 use Rattle.bson_codec.specs.Layout.{IsInside, AreElements, IsItems, IsDoc, level_limit}
 use Rattle.bson_codec.specs.Reading.{Reader, signed_below, number_at, length_at, zero_at, elements_at, framed_at, nested_at, inside_at, stated_at, total_at, front_document, document}
-use Rattle.bson_codec.proofs.Steps.{made, ok_is, bind_ok, none_if, chose_ok, neither, refused}
+use Rattle.bson_codec.proofs.Steps.{ok_is, bind_ok, none_if, chose_ok, neither, refused}
 use Rattle.bson_codec.specs.Bytes.{AreBytes}
 use Rattle.bson_codec.proofs.Pieces.{AreBytes-drop, AreBytes-take, Begins, begins_take, begins_then, begins_is, begins_fits, begins_of, begins_first, begins_second}
 use Rattle.bson_codec.proofs.Lengths.{number_takes, number_again, length_takes, length_again, zero_takes, zero_again}

@@ -1,6 +1,6 @@
 -- Values and elements, whatever reads the documents inside: what is read is spelled so, and what is spelled
 -- so is read.
-use Rattle.std.proofs.Common.{◌≡◌, ℕ, zero, suc, ◌+◌, ◌-◌, ◌^◌, ◌<◌, ◌≤◌, List, [], ◌∷◌, ◌++◌, length, take, drop, Option, Some, None, Result, Ok, Err, refl, sym, ap, subst, ◌∙◌, append_assoc, arith}
+use Rattle.std.proofs.Common.{◌≡◌, ℕ, zero, suc, ◌+◌, ◌<◌, ◌≤◌, List, [], ◌∷◌, ◌++◌, length, take, drop, Option, Some, None, Result, Ok, refl, sym, ap, subst, ◌∙◌, append_assoc, arith}
 use Rattle.std.proofs.lemmas.List.{drop_at, length-append, length-drop}
 use Rattle.bson_tree.specs.Tree.{Tree, Items, leaf, node, no_items, item, tag_of}
 use Rattle.bson_tree.specs.Spelling.{value_bytes, items_bytes, doc_bytes}
@@ -9,7 +9,7 @@ use Rattle.bson_codec.specs.declared.table.ValueLayout.{ValueLayout}
 use Rattle.bson_codec.specs.declared.table.ValueLayout.TheVariants as values
 use Rattle.bson_codec.specs.Fault.{◌>>=◌}
 use Rattle.bson_codec.specs.Table.{layout_of}
-use Rattle.bson_codec.specs.Layout.{IsName, IsRaw, IsInside, HasLayout, IsValue, AreElements}
+use Rattle.bson_codec.specs.Layout.{IsName, IsInside, HasLayout, IsValue, AreElements}
 use Rattle.bson_codec.specs.Reading.{Reader, First, name_at, layout_at, raw_at, value_at, first_at, rounds_at, elements_at}
 use Rattle.bson_codec.proofs.Steps.{made, ok_is, bind_ok}
 use Rattle.bson_codec.specs.Bytes.{AreBytes}

@@ -1,5 +1,5 @@
 -- What the two directions of reading say of the grammar.
-use Rattle.std.proofs.Common.{◌≡◌, ℕ, ◌+◌, List, [], ◌∷◌, ◌++◌, length, Result, Ok, Err, refl, sym, ap, subst, ◌∙◌, arith, ◌↔◌}
+use Rattle.std.proofs.Common.{◌≡◌, ℕ, List, [], ◌++◌, length, Result, Ok, Err, refl, sym, ap, subst, ◌∙◌, arith, ◌↔◌}
 use Rattle.std.specs.Prelude.{IsOk, is_ok}
 use Rattle.std.proofs.lemmas.List.{append-nil, nil_from_length, length-append}
 use Rattle.bson_tree.specs.Tree.{Items}
@@ -8,7 +8,7 @@ use Rattle.bson_codec.specs.declared.fault.BsonFault.{BsonFault}
 use Rattle.bson_codec.specs.Bytes.{AreBytes}
 use Rattle.bson_codec.specs.Layout.{IsDoc}
 use Rattle.bson_codec.specs.Reading.{document, front_document}
-use Rattle.bson_codec.proofs.Steps.{made, ok_is}
+use Rattle.bson_codec.proofs.Steps.{ok_is}
 use Rattle.bson_codec.proofs.Pieces.{Begins, begins_of}
 use Rattle.bson_codec.proofs.Documents.{document_takes, document_again, front_again}
 

@@ -1,13 +1,11 @@
 -- Lengths and the byte 00: what is read is spelled so, and what is spelled so is read.
-use Rattle.std.proofs.Common.{◌≡◌, ℕ, zero, suc, ◌+◌, ◌-◌, ◌^◌, ◌<◌, ◌≤◌, Bool, true, false, cond, not, ltb, leb, eqb, ◌||◌, List, [], ◌∷◌, ◌++◌, length, get_or, take, drop, Result, Ok, Err, refl, sym, ap, subst, ◌∙◌, arith}
+use Rattle.std.proofs.Common.{◌≡◌, ℕ, ◌+◌, ◌^◌, ◌<◌, ◌≤◌, true, false, not, ltb, leb, eqb, ◌||◌, List, [], ◌∷◌, length, get_or, take, drop, Ok, refl, sym, ap, subst, ◌∙◌, arith}
 use Rattle.std.specs.Int.{w32, from_le_bytes, to_le_bytes}
 use Rattle.std.proofs.lemmas.Bool.{ltb-false, le-ltb, leb-false, lt-leb, not-false, eqb-true, eq-eqb}
 use Rattle.std.proofs.lemmas.List.{length-take-le, get_or-drop}
 use Rattle.std.proofs.lemmas.Nat.{le_bytes_4, from_le_bytes-to_le_bytes_4}
-use Rattle.bson_codec.specs.declared.fault.BsonFault.{BsonFault}
-use Rattle.bson_codec.specs.Fault.{fault_if, ◌>>=◌}
 use Rattle.bson_codec.specs.Reading.{signed_below, number_at, length_at, zero_at}
-use Rattle.bson_codec.proofs.Steps.{made, ok_is, none_if, chose_ok, neither}
+use Rattle.bson_codec.proofs.Steps.{made, none_if, chose_ok, neither}
 use Rattle.bson_codec.specs.Bytes.{AreBytes}
 use Rattle.bson_codec.proofs.Pieces.{AreBytes-take, Begins, begins_take, begins_is, begins_fits, begins_byte}
 

@@ -1,12 +1,12 @@
 -- Names and types: what is read has its layout, and what has its layout is read.
-use Rattle.std.proofs.Common.{◌≡◌, ℕ, zero, suc, ◌+◌, ◌<◌, ◌≤◌, Bool, true, false, cond, eqb, List, [], ◌∷◌, ◌++◌, length, take, drop, Option, Some, None, option_map, Result, Ok, Err, refl, sym, ap, subst, ◌∙◌, append_assoc, arith, add-one}
+use Rattle.std.proofs.Common.{◌≡◌, ℕ, zero, suc, ◌+◌, Bool, true, false, cond, eqb, List, [], ◌∷◌, ◌++◌, length, take, drop, Option, Some, None, option_map, Result, Ok, Err, refl, sym, ap, subst, ◌∙◌, append_assoc, arith, add-one}
 use Rattle.std.proofs.lemmas.Bool.{ne_eqb}
 use Rattle.bson_codec.specs.declared.fault.BsonFault.{BsonFault}
 use Rattle.bson_codec.specs.declared.table.ValueLayout.{ValueLayout}
 use Rattle.bson_codec.specs.Table.{layout_of}
 use Rattle.bson_codec.specs.Layout.{IsName}
 use Rattle.bson_codec.specs.Reading.{before_zero, name_by, name_at, layout_by, layout_at}
-use Rattle.bson_codec.proofs.Steps.{made, ok_is}
+use Rattle.bson_codec.proofs.Steps.{ok_is}
 use Rattle.bson_codec.proofs.Pieces.{Begins}
 
 -- a name of n bytes, and 00

@@ -1,14 +1,13 @@
 -- Raw values: what is read has the layout, and what has the layout is read.
-use Rattle.std.proofs.Common.{◌≡◌, ℕ, zero, suc, ◌+◌, ◌-◌, ◌^◌, ◌<◌, ◌≤◌, Bool, true, false, cond, ltb, List, [], ◌∷◌, ◌++◌, length, get_or, take, drop, Result, Ok, Err, refl, sym, ap, subst, ◌∙◌, arith, inl, inr, ◌⊎◌}
+use Rattle.std.proofs.Common.{◌≡◌, ℕ, zero, suc, ◌+◌, ◌-◌, ◌^◌, ◌<◌, ◌≤◌, false, ltb, List, [], ◌∷◌, ◌++◌, length, get_or, take, drop, Ok, refl, sym, ap, subst, ◌∙◌, arith, inl, inr, ◌⊎◌}
 use Rattle.std.specs.Int.{w32, to_le_bytes}
 use Rattle.std.proofs.lemmas.Bool.{ltb-false, le-ltb}
 use Rattle.std.proofs.lemmas.List.{drop-drop, length-drop, length-append, length-take-le}
 use Rattle.bson_tree.specs.Tree.{Items}
-use Rattle.bson_codec.specs.declared.fault.BsonFault.{BsonFault}
 use Rattle.bson_codec.specs.declared.table.RawLayout.{RawLayout}
 use Rattle.bson_codec.specs.declared.table.RawLayout.TheVariants as raws
-use Rattle.bson_codec.specs.Fault.{fault_if, ◌>>=◌}
-use Rattle.bson_codec.specs.Layout.{IsString, IsBinary, IsRaw, string_bytes, binary_bytes}
+use Rattle.bson_codec.specs.Fault.{fault_if}
+use Rattle.bson_codec.specs.Layout.{IsRaw, string_bytes, binary_bytes}
 use Rattle.bson_codec.specs.Reading.{Reader, number_at, length_at, zero_at, fixed_at, bool_at, string_at, binary_at, raw_at}
 use Rattle.bson_codec.proofs.Steps.{made, ok_is, bind_ok, none_if, chose_ok}
 use Rattle.bson_codec.specs.Bytes.{AreBytes}

@@ -23,3 +23,6 @@ pub use decoding::{decode, decode_front, stated_length};
 pub use encoding::{encode, put_value};
 pub use fault::{BsonFault, BsonKind, CodecFault};
 pub use measuring::well_formed;
+
+#[cfg(test)]
+mod tests;

@@ -1,5 +1,5 @@
 -- At the end of the loop nothing is left to measure.
-use Rattle.std.proofs.Common.{◌≡◌, ◌≤◌, ◌+◌, length, ℕ, sym, ap, subst, arith}
+use Rattle.std.proofs.Common.{◌≡◌, ◌≤◌, length, sym, ap, subst, arith}
 use Rattle.bson_tree.specs.Tree.{Items, no_items, after, count}
 use Rattle.bson_tree.specs.Spelling.{items_bytes}
 use Rattle.bson_codec.specs.Layout.{AreElements, IsItems}

@@ -1,0 +1,10 @@
+-- The line up to the place, and the rest behind it.
+use Rattle.fle_runner.specs.Line.{tail_text}
+use Rattle.fle_runner.proofs.Lines.{then_all, stop_all}
+use Rattle.fle_runner.proofs.line.put_line.Goals as goal
+
+pub returns-in-Ok : goal.returns-in-Ok
+returns-in-Ok g c = then_all c.in-Ok.ensures c.put_tail.ensures
+
+pub returns-in-Err : goal.returns-in-Err
+returns-in-Err g c = stop_all (tail_text c.args.place.now) c.in-Err.ensures

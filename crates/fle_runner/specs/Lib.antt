@@ -1,0 +1,17 @@
+pub mod Codes
+pub mod Streams
+pub mod Next
+pub mod Plan
+pub mod Outcome
+pub mod Run
+pub mod Turn
+pub mod Judge
+pub mod Line
+pub mod Task
+pub mod Files
+pub mod Words
+pub mod Mark
+pub mod Verbs
+pub mod Did
+pub mod Ended
+pub mod Told

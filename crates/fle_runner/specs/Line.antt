@@ -1,0 +1,41 @@
+-- The diagnostic line: `fle: S D R P`, the status, the number of a document or file, the reason, the place.
+use Rattle.std.specs.Prelude.{ℕ, List, [], ◌∷◌, ◌++◌, codes, decimal}
+use Rattle.fle_runner.specs.Codes.{reason_code, bound_code, setup_code}
+use Rattle.fle_runner.specs.declared.why.Why.{Why}
+use Rattle.fle_runner.specs.declared.why.Why.TheVariants as whys
+
+-- child numbers with a dot before each
+abbrev pub dots : List ℕ → List ℕ
+dots [] = []
+dots (step ∷ steps) = codes "." ++ (decimal step ++ dots steps)
+
+-- a place: child numbers from 0 joined by dots, and `-` for the document itself
+abbrev pub place_text : List ℕ → List ℕ
+place_text [] = codes "-"
+place_text (step ∷ steps) = decimal step ++ dots steps
+
+-- the line up to the place
+abbrev pub head_text : ℕ → ℕ → ℕ → List ℕ
+head_text status number reason = codes "fle: " ++ (decimal status ++ (codes " " ++ (decimal number ++ (codes " " ++ (decimal reason ++ codes " ")))))
+
+-- the place and the line feed
+abbrev pub tail_text : List ℕ → List ℕ
+tail_text place = place_text place ++ codes "\n"
+
+-- one line
+abbrev pub line_text : ℕ → ℕ → ℕ → List ℕ → List ℕ
+line_text status number reason place = head_text status number reason ++ tail_text place
+
+-- the line of a run that ended for this reason, with the number of the document that it was at
+abbrev pub line_of : Why → ℕ → List ℕ
+line_of whys.Done number = []
+line_of (whys.Refused reason place) number = line_text 1 number (reason_code reason) place
+line_of whys.Words number = line_text 2 0 0 []
+line_of (whys.Malformed fault) number = line_text 3 number 0 []
+line_of (whys.Setup file fault document) number = line_text 4 file (setup_code fault) (document ∷ [])
+line_of whys.FolderFault number = line_text 5 0 0 []
+line_of whys.ReadFault number = line_text 5 number 0 []
+line_of whys.WriteFault number = line_text 6 number 0 []
+line_of whys.EntropyFault number = line_text 7 number 0 []
+line_of whys.Memory number = line_text 8 0 0 []
+line_of (whys.Limit bound) number = line_text 9 number (bound_code bound) []

@@ -1,0 +1,35 @@
+-- What reading the next document of a stream gives.
+use Rattle.std.specs.Prelude.{◌≡◌, ℕ, ◌≤◌, ◌^◌, Option, Some, List, [], length, drop}
+use Rattle.bson_tree.specs.Tree.{Items}
+use Rattle.bson_tree.specs.Spelling.{doc_bytes}
+use Rattle.bson_codec.specs.Layout.{IsDoc}
+use Rattle.fle_runner.specs.Streams.{documents, doc, ends, nothing, over, faulty, first_size}
+use Rattle.fle_runner.specs.declared.next.Next.{Next}
+use Rattle.fle_runner.specs.declared.next.Next.TheVariants as nexts
+
+-- a source that told what it had left has handed out at most so many bytes of it
+abbrev pub Handed : List ℕ → Option (List ℕ) → ℕ → Type 0
+Handed told after most = (m : ℕ) × (m ≤ most) × (after ≡ Some (drop m told))
+
+-- the answer says what stands first in the stream; a document or the end is read exactly, and where the source failed or memory wanted at most the first document is read
+abbrev pub NextIs : List ℕ → Option (List ℕ) → Next → Type 0
+NextIs told after (nexts.Document d n) = (documents told ≡ doc n d.kids (documents (drop n told))) × (after ≡ Some (drop n told))
+NextIs told after nexts.Nothing = (documents told ≡ ends nothing) × (after ≡ Some [])
+NextIs told after nexts.Over = documents told ≡ ends over
+NextIs told after (nexts.Faulty fault) = documents told ≡ ends (faulty fault)
+NextIs told after nexts.Failed = Handed told after (first_size (documents told) (length told))
+NextIs told after nexts.Memory = Handed told after (first_size (documents told) (length told))
+
+-- a tree that a document of the input spells
+pub record IsInput (is : Items) : Type 0 where
+  pub spelled : IsDoc is
+  pub small : length (doc_bytes is) ≤ 2 ^ 24
+
+-- told or not, a document that was read is one that the input may hold, of so many bytes
+abbrev pub NextSound : Next → Type 0
+NextSound (nexts.Document d n) = IsInput d.kids × (5 ≤ n) × (n ≤ 2 ^ 24)
+NextSound nexts.Nothing = Unit {0}
+NextSound nexts.Over = Unit {0}
+NextSound (nexts.Faulty fault) = Unit {0}
+NextSound nexts.Failed = Unit {0}
+NextSound nexts.Memory = Unit {0}

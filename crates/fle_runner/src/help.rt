@@ -1,0 +1,49 @@
+//! What the program says of itself.
+
+ghost use Rattle.std.specs.Prelude.{◌≡◌};
+ghost use Rattle.fle_runner.specs.Told.{Told, told_why};
+
+use crate::end::End;
+use crate::program::report;
+use crate::status::Status;
+use crate::why::Why;
+use fle_outside::{Failed, Sink, write_whole};
+
+/// The answer to `--version`.
+pub const VERSION: &str = "fle 0.1.0\n";
+
+/// The answer to `--help`.
+pub const HELP: &str = "fle: MongoDB client-side field level encryption, the client's part
+
+usage: fle mark DB SCHEMAS
+       fle --help | --version
+
+  mark DB SCHEMAS   read commands of the database DB from standard input and write the
+                    marking reply to each; SCHEMAS is a file of collection infos
+
+Input, output and files are BSON documents, one after another. Where the status isn't 0,
+standard error has one line, `fle: S D R P`: the status, the number of the document or file,
+the reason, the place.
+
+status: 0 done, 1 refused, 2 words, 3 malformed input, 4 file at fault, 5 read failed,
+        6 write failed, 7 no random blocks, 8 no memory, 9 limit passed
+";
+
+/// Writes a text to `out`; where that fails, the status and the line say so.
+pub fn tell<O: Sink, G: Sink>(out: &mut O, diag: &mut G, text: &str) -> Status
+    ensures { Told (O.written out.old) (O.written out.new) (O.faults out.old) (O.faults out.new) (O.assured out.old) (O.assured out.new)
+        (G.written diag.old) (G.written diag.new) (G.faults diag.old) (G.faults diag.new) (G.assured diag.old) (G.assured diag.new) text.now result }
+{
+    let wrote = write_whole(out, text.as_bytes());
+    report(diag, &End::unread(why_told(wrote)))
+}
+
+/// Why a program ends that only writes a text.
+fn why_told(wrote: Result<(), Failed>) -> Why
+    ensures { result ≡ told_why wrote }
+{
+    match wrote {
+        Ok(()) => Why::Done,
+        Err(Failed) => Why::WriteFault,
+    }
+}

@@ -1,0 +1,110 @@
+//! The diagnostic line of a run.
+
+ghost use Rattle.fle_outside.specs.Writing.{WritesWhole};
+ghost use Rattle.fle_runner.specs.Line.{line_of, line_text, head_text, tail_text, place_text, dots};
+
+use crate::why::Why;
+use fle_outside::{Failed, Sink, put_parts, write_whole};
+use itoa::Buffer;
+
+/// Writes the line of a run that ended for this reason, with this document's number: none where
+/// everything was done.
+pub fn put_end<G: Sink>(diag: &mut G, why: &Why, number: u64) -> Result<(), Failed>
+    ensures { WritesWhole (G.written diag.old) (G.written diag.new) (G.faults diag.old) (G.faults diag.new) (G.assured diag.old) (G.assured diag.new) result (line_of why.now number) }
+{
+    let status = why.status().code();
+    match why {
+        Why::Done => Ok(()),
+        Why::Refused(reason, place) => put_line(
+            diag,
+            status,
+            number,
+            reason.code(),
+            place.as_slice(),
+        ),
+        Why::Malformed(_) => put_line(diag, status, number, 0, &[]),
+        Why::Limit(bound) => put_line(diag, status, number, bound.code(), &[]),
+        Why::Setup(file, fault, document) => {
+            put_line(diag, status, *file as u64, fault.code(), &[*document])
+        }
+        Why::ReadFault | Why::WriteFault | Why::EntropyFault => put_line(
+            diag,
+            status,
+            number,
+            0,
+            &[],
+        ),
+        Why::Words | Why::FolderFault | Why::Memory => put_line(diag, status, 0, 0, &[]),
+    }
+}
+
+/// Writes one line: the status, the number of a document or file, the reason, the place.
+fn put_line<G: Sink>(
+    diag: &mut G,
+    status: u8,
+    number: u64,
+    reason: u8,
+    place: &[u32],
+) -> Result<(), Failed>
+    ensures { WritesWhole (G.written diag.old) (G.written diag.new) (G.faults diag.old) (G.faults diag.new) (G.assured diag.old) (G.assured diag.new) result (line_text status number reason place.now) }
+{
+    match put_head(diag, status, number, reason) {
+        Ok(()) => put_tail(diag, place),
+        Err(Failed) => Err(Failed),
+    }
+}
+
+/// Writes the line up to the place.
+fn put_head<G: Sink>(diag: &mut G, status: u8, number: u64, reason: u8) -> Result<(), Failed>
+    ensures { WritesWhole (G.written diag.old) (G.written diag.new) (G.faults diag.old) (G.faults diag.new) (G.assured diag.old) (G.assured diag.new) result (head_text status number reason) }
+{
+    let mut s = Buffer::new();
+    let mut d = Buffer::new();
+    let mut r = Buffer::new();
+    let status = s.format(status).as_bytes();
+    let number = d.format(number).as_bytes();
+    let reason = r.format(reason).as_bytes();
+    put_parts(diag, &[b"fle: ", status, b" ", number, b" ", reason, b" "])
+}
+
+/// Writes the place and the end of the line.
+fn put_tail<G: Sink>(diag: &mut G, place: &[u32]) -> Result<(), Failed>
+    ensures { WritesWhole (G.written diag.old) (G.written diag.new) (G.faults diag.old) (G.faults diag.new) (G.assured diag.old) (G.assured diag.new) result (tail_text place.now) }
+{
+    match put_place(diag, place) {
+        Ok(()) => write_whole(diag, b"\n"),
+        Err(Failed) => Err(Failed),
+    }
+}
+
+/// Writes a place: `-` for the document itself, else its child numbers joined by dots.
+fn put_place<G: Sink>(diag: &mut G, place: &[u32]) -> Result<(), Failed>
+    ensures { WritesWhole (G.written diag.old) (G.written diag.new) (G.faults diag.old) (G.faults diag.new) (G.assured diag.old) (G.assured diag.new) result (place_text place.now) }
+{
+    match place {
+        [] => write_whole(diag, b"-"),
+        [step, rest @ ..] => {
+            let mut buffer = Buffer::new();
+            match write_whole(diag, buffer.format(*step).as_bytes()) {
+                Ok(()) => put_dots(diag, rest),
+                Err(Failed) => Err(Failed),
+            }
+        }
+    }
+}
+
+/// Writes child numbers with a dot before each.
+fn put_dots<G: Sink>(diag: &mut G, place: &[u32]) -> Result<(), Failed>
+    ensures { WritesWhole (G.written diag.old) (G.written diag.new) (G.faults diag.old) (G.faults diag.new) (G.assured diag.old) (G.assured diag.new) result (dots place.now) }
+{
+    match place {
+        [] => Ok(()),
+        [step, rest @ ..] => {
+            let mut buffer = Buffer::new();
+            match put_parts(diag, &[b".", buffer.format(*step).as_bytes()]) {
+                Ok(()) => put_dots(diag, rest),
+                Err(Failed) => Err(Failed),
+            }
+        }
+    }
+}

@@ -1,0 +1,84 @@
+//! The program `fle`: the client's part of MongoDB's client-side field level encryption, over standard
+//! input and output and named files.
+//!
+//! `program::fle` is the program over any objects of the outside; here stand the real ones. `main`
+//! answers `--help` and `--version` itself, each only as the sole word.
+//!
+//! ```text
+//! fle mark hr schemas.bson < commands.bson > replies.bson
+//! ```
+#![tactic(auto)]
+
+mod act;
+mod end;
+mod file;
+mod help;
+mod judging;
+mod line;
+mod mark;
+mod next;
+mod program;
+mod reason;
+mod status;
+mod stream;
+mod turning;
+mod why;
+mod words;
+
+use end::End;
+use fle_outside::{FileFolder, StderrSink, StdinSource, StdoutSink};
+use help::{HELP, VERSION, tell};
+use program::{fle, report};
+use status::Status;
+use std::env;
+use std::io::ErrorKind;
+use std::process::ExitCode;
+use std::rt::Env;
+use why::Why;
+
+fn main(rt: HostRuntime) -> ExitCode {
+    let mut diag = StderrSink::new(rt.stderr());
+    let status = match words_after_name(&rt) {
+        Ok(words) => {
+            let mut out = StdoutSink::new(rt.stdout());
+            match sole_word(&words) {
+                "--help" => tell(&mut out, &mut diag, HELP),
+                "--version" => tell(&mut out, &mut diag, VERSION),
+                _ => {
+                    let mut input = StdinSource::new(rt.stdin());
+                    let mut files = FileFolder::new(&rt);
+                    fle(
+                        rt.alloc(),
+                        &words,
+                        &mut input,
+                        &mut files,
+                        &mut out,
+                        &mut diag,
+                    )
+                }
+            }
+        }
+        Err(why) => report(&mut diag, &End::unread(why)),
+    };
+    ExitCode::from(status.code())
+}
+
+/// The words after the program's name. One that isn't UTF-8 has no form.
+fn words_after_name<R: Env + AllocGlobal>(rt: &R) -> Result<Vec<String>, Why> {
+    match env::args(rt) {
+        Ok(words) => match words.skip(1).collect(rt.alloc()) {
+            Ok(words) => Ok(words),
+            Err(_) => Err(Why::Memory),
+        },
+        Err(error) if error.kind() == ErrorKind::InvalidData => Err(Why::Words),
+        Err(_) => Err(Why::Memory),
+    }
+}
+
+/// The word, where there is one alone; else the empty text.
+fn sole_word(words: &[String]) -> &str {
+    match words {
+        [word] => word.as_str(),
+        _ => "",
+    }
+}

@@ -1,0 +1,108 @@
+//! The next document of a stream.
+
+ghost use Rattle.std.specs.Prelude.{◌≡◌, ◌+◌, ◌^◌, ◌<◌, ◌≤◌, ◌++◌, List, ℕ, Some, length};
+ghost use Rattle.std.specs.Int.{from_le_bytes, w32};
+ghost use Rattle.fle_outside.specs.Counts.{Rose};
+ghost use Rattle.fle_outside.specs.Filling.{FillTakes, FillWithin};
+ghost use Rattle.fle_runner.specs.Next.{NextIs, NextSound};
+ghost use Rattle.fle_runner.specs.Streams.{faulty, short as short_of};
+
+use bson_codec::{BsonFault, BsonKind, CodecFault, decode, stated_length};
+use bson_tree::Doc;
+use fle_outside::{Fill, Source, fill_piece};
+use std::alloc::Global;
+
+/// The largest document of the input, in bytes.
+const MAX_LENGTH: u32 = 16_777_216;
+
+/// What stands next in a stream.
+#[derive(Drop)]
+pub enum Next {
+    /// A document and the number of its bytes.
+    Document(Doc, usize),
+    /// Nothing is left.
+    Nothing,
+    /// The stated length is above the limit.
+    Over,
+    /// The bytes that are left spell no document at their beginning; this is their first fault.
+    Faulty(BsonFault),
+    /// The source failed.
+    Failed,
+    /// There was no memory.
+    Memory,
+}
+
+/// Reads the next document of a stream, and no byte behind it.
+pub fn next_document<S: Source>(alloc: Global, source: &mut S) -> Next
+    ensures next { (told : List ℕ) → S.left source.old ≡ Some told → NextIs told (S.left source.new) result }
+    ensures sound { NextSound result }
+    ensures later { S.faults source.old ≤ S.faults source.new }
+    ensures cause { result ≡ Next.Failed → Rose (S.faults source.old) (S.faults source.new) }
+    ensures sure { S.assured source.old → (result ≡ Next.Failed → ⊥) × S.assured source.new }
+{
+    let mut head = [0u8; 4];
+    match fill_piece(source, &mut head) {
+        Fill::Failed => Next::Failed,
+        Fill::Ended(0) => Next::Nothing,
+        Fill::Ended(n) => Next::Faulty(short(n)),
+        Fill::Whole => match stated_length(head) {
+            Err(fault) => Next::Faulty(fault),
+            Ok(size) if MAX_LENGTH < size => Next::Over,
+            Ok(size) => next_body(alloc, source, &head, size as usize),
+        },
+    }
+}
+
+/// Reads the document behind its length, and decodes it.
+fn next_body<S: Source>(alloc: Global, source: &mut S, head: &[u8], size: usize) -> Next
+    requires four { length head.now ≡ 4 }
+    requires says { from_le_bytes w32 head.now ≡ size }
+    requires least { 5 ≤ size }
+    requires most { size ≤ 2 ^ 24 }
+    ensures next { (told : List ℕ) → S.left source.old ≡ Some told → NextIs (head.now ++ told) (S.left source.new) result }
+    ensures sound { NextSound result }
+    ensures later { S.faults source.old ≤ S.faults source.new }
+    ensures cause { result ≡ Next.Failed → Rose (S.faults source.old) (S.faults source.new) }
+    ensures sure { S.assured source.old → (result ≡ Next.Failed → ⊥) × S.assured source.new }
+{
+    match vec![in alloc; 0u8; size] {
+        Err(_) => Next::Memory,
+        Ok(mut bytes) => match fill_document(source, head, &mut bytes) {
+            Fill::Failed => Next::Failed,
+            Fill::Ended(n) => Next::Faulty(short(n)),
+            Fill::Whole => match decode(alloc, &bytes) {
+                Ok(document) => Next::Document(document, size),
+                Err(CodecFault::Bson(fault)) => Next::Faulty(fault),
+                Err(CodecFault::Memory) => Next::Memory,
+            },
+        },
+    }
+}
+
+/// Fills the buffer of a document, whose first bytes are read.
+fn fill_document<S: Source>(source: &mut S, head: &[u8], document: &mut [u8]) -> Fill
+    requires { length head.now ≤ length document.old }
+    ensures bytes { (told : List ℕ) → S.left source.old ≡ Some told → FillTakes (head.now ++ told) (S.left source.new) result document.new }
+    ensures within { FillWithin result (length document.new) }
+    ensures later { S.faults source.old ≤ S.faults source.new }
+    ensures cause { result ≡ Fill.Failed → Rose (S.faults source.old) (S.faults source.new) }
+    ensures sure { S.assured source.old → (result ≡ Fill.Failed → ⊥) × S.assured source.new }
+{
+    let (front, rest) = document.split_at_mut(head.len());
+    front.copy_from_slice(head);
+    match fill_piece(source, rest) {
+        Fill::Whole => Fill::Whole,
+        Fill::Ended(n) => Fill::Ended(head.len() + n),
+        Fill::Failed => Fill::Failed,
+    }
+}
+
+/// Fewer bytes are left than the document has: `n` of them.
+fn short(n: usize) -> BsonFault
+    ensures { faulty result ≡ short_of n }
+{
+    BsonFault {
+        kind: BsonKind::Short,
+        offset: n,
+    }
+}
