@@ -9,10 +9,10 @@ abbrev pub passes_below : ℕ → (ℕ → Bool) → Bool
 passes_below zero p = true
 passes_below (suc n) p = p n && passes_below n p
 
-first_true : (a b : Bool) → (a && b) ≡ true → a ≡ true
+pub first_true : (a b : Bool) → (a && b) ≡ true → a ≡ true
 first_true a b h = grind (arith, nat_tests)
 
-second_true : (a b : Bool) → (a && b) ≡ true → b ≡ true
+pub second_true : (a b : Bool) → (a && b) ≡ true → b ≡ true
 second_true a b h = grind (arith, nat_tests)
 
 pub passes_at : (n : ℕ) (p : ℕ → Bool) → passes_below n p ≡ true → (k : ℕ) → k < n → p k ≡ true

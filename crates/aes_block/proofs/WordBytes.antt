@@ -22,7 +22,7 @@ word_bytes-made a b c d la lb lc ld w e = be_bytes_4 (a ∷ b ∷ c ∷ d ∷ []
   fits (suc (suc (suc zero))) = ld
   fits (suc (suc (suc (suc i)))) = omega arith
 
-joined : {a b c d p q r s : List ℕ} → a ≡ p → b ≡ q → c ≡ r → d ≡ s → a ++ (b ++ (c ++ d)) ≡ p ++ (q ++ (r ++ s))
+pub joined : {a b c d p q r s : List ℕ} → a ≡ p → b ≡ q → c ≡ r → d ≡ s → a ++ (b ++ (c ++ d)) ≡ p ++ (q ++ (r ++ s))
 joined e f g h = cc
 
 -- four words that were made of 16 bytes have these bytes
