@@ -1,13 +1,13 @@
 -- The steps take blocks to blocks (FIPS 197, 3.4, 5.1 and 5.3).
-use Rattle.std.proofs.Common.{◌≡◌, ℕ, ◌+◌, ◌*◌, ◌/◌, ◌%◌, ◌<◌, ◌≤◌, List, [], ◌∷◌, length, get_or, true, inl, inr, arith, refl, ap, sym, ◌∙◌}
-use Rattle.std.specs.Prelude.{nat_lt, slice_index, bit_xor}
+use Rattle.std.proofs.Common.{◌≡◌, ℕ, ◌*◌, ◌<◌, List, [], ◌∷◌, get_or, true, inl, inr, arith, refl, ◌∙◌}
+use Rattle.std.specs.Prelude.{nat_lt, slice_index}
 use Rattle.std.proofs.lemmas.Nat.{xor_of_8}
 use Rattle.std.proofs.lemmas.Bool.{cases_lt}
 use Rattle.std.proofs.lemmas.List.{get_or_past, length-map}
 use Rattle.std.proofs.lemmas.List.Elements.{All-from_recursion, All-map}
 use Rattle.aes_block.specs.Field.{times_x, product_by, product, power, inverse}
 use Rattle.aes_block.specs.Substitution.{affine, inv_affine, sub_byte, inv_sub_byte}
-use Rattle.aes_block.specs.Block.{IsBlock, four_words, word_bytes}
+use Rattle.aes_block.specs.Block.{IsBlock, four_words}
 use Rattle.aes_block.specs.Steps.{sub_bytes, inv_sub_bytes, shift_rows, inv_shift_rows, mix_columns, inv_mix_columns, round_key, add_round_key}
 use Rattle.aes_block.proofs.Computed.{passes_below, passes_at}
 use Rattle.aes_block.proofs.Entries.{add_round_key-entries}

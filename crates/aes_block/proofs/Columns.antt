@@ -1,10 +1,10 @@
 -- A column made of four table entries and a key's word.
-use Rattle.std.proofs.Common.{◌≡◌, ℕ, ◌++◌, List, [], ◌∷◌, ◌<◌, ap, ◌∙◌, refl}
+use Rattle.std.proofs.Common.{◌≡◌, ℕ, List, [], ◌∷◌, ◌<◌, ap, ◌∙◌}
 use Rattle.std.specs.Prelude.{bit_xor}
 use Rattle.std.specs.Int.{w32, from_be_bytes}
 use Rattle.aes_block.specs.Block.{word_bytes, xor_bytes}
 use Rattle.aes_block.specs.Field.{product}
-use Rattle.aes_block.specs.Steps.{sum4, mixed_column}
+use Rattle.aes_block.specs.Steps.{mixed_column}
 use Rattle.aes_block.proofs.Xor.{five_sorted, five_turned, five_turned_twice, five_turned_back, four_equal, word_bytes-xor}
 use Rattle.aes_block.proofs.WordBytes.{word_bytes-made}
 

@@ -1,5 +1,5 @@
 -- A table's word that holds four products of a byte.
-use Rattle.std.proofs.Common.{◌≡◌, ℕ, ◌/◌, ◌%◌, ◌^◌, ◌<◌, Bool, true, List, [], ◌∷◌}
+use Rattle.std.proofs.Common.{◌≡◌, ℕ, ◌/◌, ◌%◌, ◌^◌, ◌<◌, Bool, true, [], ◌∷◌}
 use Rattle.std.specs.Prelude.{◌==◌, ◌&&◌}
 use Rattle.aes_block.specs.Block.{word_bytes}
 use Rattle.aes_block.specs.Field.{product}

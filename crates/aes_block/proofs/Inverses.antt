@@ -1,5 +1,5 @@
 -- InvCipher undoes Cipher and the other way round (FIPS 197, 5.3), for a block under any words.
-use Rattle.std.proofs.Common.{◌≡◌, ℕ, zero, suc, ◌+◌, ◌-◌, List, arith, refl, ap, sym, ◌∙◌}
+use Rattle.std.proofs.Common.{◌≡◌, ℕ, zero, suc, ◌+◌, ◌-◌, List, arith, ap, ◌∙◌}
 use Rattle.aes_block.specs.Block.{IsBlock}
 use Rattle.aes_block.specs.Steps.{sub_bytes, inv_sub_bytes, shift_rows, inv_shift_rows, mix_columns, inv_mix_columns, round_key, add_round_key}
 use Rattle.aes_block.specs.Cipher.{rounds, inv_rounds, cipher, inv_cipher}

@@ -1,7 +1,7 @@
 -- MixColumns and InvMixColumns undo each other, and the second is linear (FIPS 197, 5.1.3, 5.3.3
 -- and 5.3.5).
 use Rattle.std.proofs.Common.{◌≡◌, ℕ, ◌<◌, List, true, refl, ap, sym, ◌∙◌}
-use Rattle.std.specs.Prelude.{◌==◌, slice_index, bit_xor}
+use Rattle.std.specs.Prelude.{◌==◌, slice_index}
 use Rattle.aes_block.specs.Field.{times_x, product_by, product}
 use Rattle.aes_block.specs.Block.{IsBlock}
 use Rattle.aes_block.specs.Steps.{sum4, mix_columns, inv_mix_columns, add_round_key}

@@ -1,12 +1,12 @@
 -- A column map is linear, and undone by another where its constants are inverse (FIPS 197, 4.3).
-use Rattle.std.proofs.Common.{◌≡◌, ℕ, ◌<◌, ◌++◌, List, [], ◌∷◌, refl, ap, sym, ◌∙◌}
+use Rattle.std.proofs.Common.{◌≡◌, ℕ, ◌<◌, [], ◌∷◌, ap, sym, ◌∙◌}
 use Rattle.std.specs.Prelude.{bit_xor}
 use Rattle.std.specs.Int.Bits.{xor_zero_r}
 use Rattle.std.proofs.lemmas.Nat.{xor_of_8}
 use Rattle.aes_block.specs.Field.{product}
 use Rattle.aes_block.specs.Block.{xor_bytes}
 use Rattle.aes_block.specs.Steps.{sum4, mixed_column}
-use Rattle.aes_block.proofs.Linear.{xor_swap, product-xor, product_fits, sum4-xor}
+use Rattle.aes_block.proofs.Linear.{product-xor, product_fits, sum4-xor}
 use Rattle.aes_block.proofs.Xor.{four_equal, sum4-turned}
 
 pub sum4_equal : {a b c d p q r s : ℕ} → a ≡ p → b ≡ q → c ≡ r → d ≡ s → sum4 a b c d ≡ sum4 p q r s

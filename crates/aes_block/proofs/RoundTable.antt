@@ -1,5 +1,5 @@
 -- The table ROUND_TABLE against its definition, entry by entry.
-use Rattle.std.proofs.Common.{◌≡◌, ℕ, ◌+◌, ◌*◌, ◌/◌, ◌%◌, ◌^◌, ◌<◌, List, [], ◌∷◌, true, arith, refl, ap, ◌∙◌}
+use Rattle.std.proofs.Common.{◌≡◌, ℕ, ◌+◌, ◌/◌, ◌%◌, ◌^◌, ◌<◌, [], ◌∷◌, true, arith, refl}
 use Rattle.std.specs.Prelude.{bit_xor, slice_index}
 use Rattle.aes_block.specs.declared.tables.TheConstants.{ROUND_TABLE}
 use Rattle.aes_block.specs.Field.{times_x, product_by, product, power, inverse}

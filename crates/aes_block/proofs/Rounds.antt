@@ -1,5 +1,5 @@
 -- One round more, and the last, of Cipher and InvCipher (FIPS 197, 5.1 and 5.3).
-use Rattle.std.proofs.Common.{◌≡◌, ℕ, suc, ◌+◌, ◌-◌, ◌≤◌, List, arith, refl, ◌∙◌}
+use Rattle.std.proofs.Common.{◌≡◌, ℕ, suc, ◌-◌, List, refl, ◌∙◌}
 use Rattle.aes_block.specs.Steps.{sub_bytes, inv_sub_bytes, shift_rows, inv_shift_rows, mix_columns, inv_mix_columns, round_key, add_round_key}
 use Rattle.aes_block.specs.Cipher.{rounds, inv_rounds, cipher, inv_cipher}
 

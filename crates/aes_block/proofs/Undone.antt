@@ -1,6 +1,6 @@
 -- Each step undone by its inverse, on a block (FIPS 197, 5.3).
 use Rattle.std.proofs.Common.{◌≡◌, ℕ, ◌<◌, List, true, refl, ap, sym, ◌∙◌}
-use Rattle.std.specs.Prelude.{◌==◌, slice_index, bit_xor}
+use Rattle.std.specs.Prelude.{◌==◌, bit_xor}
 use Rattle.std.specs.Int.Bits.{xor_assoc, xor_self, xor_zero_r}
 use Rattle.aes_block.specs.Field.{times_x, product_by, product, power, inverse}
 use Rattle.aes_block.specs.Substitution.{affine, inv_affine, sub_byte, inv_sub_byte}

@@ -1,4 +1,4 @@
-use Rattle.std.proofs.Common.{arith, rules}
+use Rattle.std.proofs.Common.{rules}
 use Rattle.aes_block.proofs.SubstitutionTables.{slice_index-sbox}
 use Rattle.aes_block.proofs.steps.sub_byte.Goals as goal
 

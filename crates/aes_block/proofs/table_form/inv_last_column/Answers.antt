@@ -1,4 +1,4 @@
-use Rattle.std.proofs.Common.{◌≡◌, ◌%◌, ap, ◌∙◌, rules, arith}
+use Rattle.std.proofs.Common.{◌≡◌, ◌%◌, ap, ◌∙◌, arith}
 use Rattle.aes_block.specs.Block.{word_bytes, xor_bytes}
 use Rattle.aes_block.specs.Substitution.{inv_sub_byte}
 use Rattle.aes_block.proofs.Columns.{bytes-sum}
