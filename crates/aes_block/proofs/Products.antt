@@ -1,7 +1,7 @@
 -- Products by the constants of the two column maps, each over all bytes.
 use Rattle.std.proofs.Common.{◌≡◌, ℕ, ◌+◌, ◌-◌, ◌*◌, ◌%◌, ◌<◌, ◌≤◌, true, refl, arith}
 use Rattle.std.specs.Prelude.{◌==◌, bit_xor}
-use Rattle.aes_block.specs.Field.{times_x, product_by, product}
+use Rattle.aes_block.specs.Field.{times_x, product_by, product, power, inverse}
 use Rattle.aes_block.proofs.Computed.{passes_below, same_below}
 
 entries_1 : passes_below 256 (λ a. product a 1 == a) ≡ true
@@ -70,3 +70,13 @@ pub times_x-high : (a : ℕ) → 128 ≤ a → a < 256 → bit_xor (a * 2 % 256)
 times_x-high a h l =
     let e : a - 128 + 128 ≡ a = omega arith in
     rw e at (same_below 128 (λ a. bit_xor ((a + 128) * 2 % 256) 27) (λ a. times_x (a + 128)) high_doubles (a - 128) (omega arith))
+
+inverse_pairs : passes_below 255 (λ n. product (n + 1) (inverse (n + 1)) == 1) ≡ true
+unfolding inverse power product product_by times_x
+inverse_pairs = refl
+
+-- the power 254 is the multiplicative inverse
+pub product-inverse : (a : ℕ) → 0 < a → a < 256 → product a (inverse a) ≡ 1
+product-inverse a positive l =
+    let e : a - 1 + 1 ≡ a = omega arith in
+    rw e at (same_below 255 (λ n. product (n + 1) (inverse (n + 1))) (λ n. 1) inverse_pairs (a - 1) (omega arith))

@@ -1,7 +1,6 @@
 -- Words, their bytes, and lists whose elements fit.
-use Rattle.std.proofs.Common.{◌≡◌, ℕ, zero, suc, ◌+◌, ◌<◌, ◌^◌, List, [], ◌∷◌, ◌++◌, length, get_or, arith, refl, ap, sym, ◌∙◌}
-use Rattle.std.specs.Int.{w32, from_be_bytes, to_be_bytes}
-use Rattle.std.specs.List.{All}
+use Rattle.std.proofs.Common.{◌≡◌, ℕ, zero, suc, ◌<◌, ◌^◌, List, [], ◌∷◌, ◌++◌, length, get_or, arith, refl}
+use Rattle.std.specs.Int.{w32, from_be_bytes}
 use Rattle.std.proofs.lemmas.Nat.{be_bytes_4}
 use Rattle.std.proofs.lemmas.List.Elements.{All-from_get_or}
 use Rattle.aes_block.specs.Block.{IsBlock, IsSchedule, word_bytes}
@@ -22,7 +21,7 @@ word_bytes-made a b c d la lb lc ld w e = be_bytes_4 (a ∷ b ∷ c ∷ d ∷ []
   fits (suc (suc (suc zero))) = ld
   fits (suc (suc (suc (suc i)))) = omega arith
 
-joined : {a b c d p q r s : List ℕ} → a ≡ p → b ≡ q → c ≡ r → d ≡ s → a ++ (b ++ (c ++ d)) ≡ p ++ (q ++ (r ++ s))
+pub joined : {a b c d p q r s : List ℕ} → a ≡ p → b ≡ q → c ≡ r → d ≡ s → a ++ (b ++ (c ++ d)) ≡ p ++ (q ++ (r ++ s))
 joined e f g h = cc
 
 -- four words that were made of 16 bytes have these bytes

@@ -1,6 +1,6 @@
 -- The steps of a round and their inverses (FIPS 197, 5.1 and 5.3). A state is a list of 16 bytes,
 -- its four columns one after another.
-use Rattle.std.specs.Prelude.{ℕ, ◌+◌, ◌-◌, ◌*◌, ◌%◌, List, [], ◌∷◌, map, slice_index, bit_xor}
+use Rattle.std.specs.Prelude.{ℕ, ◌+◌, ◌-◌, ◌*◌, ◌%◌, List, [], ◌∷◌, ◌++◌, map, slice_index, bit_xor}
 use Rattle.aes_block.specs.Field.{product}
 use Rattle.aes_block.specs.Substitution.{sub_byte, inv_sub_byte}
 use Rattle.aes_block.specs.Block.{four_words, xor_bytes}
@@ -37,14 +37,20 @@ inv_shift_rows s = state (λ r c. cell s r ((c + 4 - r) % 4))
 abbrev pub sum4 : ℕ → ℕ → ℕ → ℕ → ℕ
 sum4 a b c d = bit_xor (bit_xor a b) (bit_xor c d)
 
--- FIPS 197, 4.3: each byte of a column becomes m0 times itself, plus m1, m2 and m3 times the bytes
--- below it, the first row counted as below the last
+-- FIPS 197, 4.3: a column of the bytes a, b, c and d, each of which becomes m0 times itself, plus
+-- m1, m2 and m3 times the bytes below it, where a is below d
+abbrev pub mixed_column : ℕ → ℕ → ℕ → ℕ → ℕ → ℕ → ℕ → ℕ → List ℕ
+mixed_column m0 m1 m2 m3 a b c d =
+    sum4 (product a m0) (product b m1) (product c m2) (product d m3)
+    ∷ sum4 (product b m0) (product c m1) (product d m2) (product a m3)
+    ∷ sum4 (product c m0) (product d m1) (product a m2) (product b m3)
+    ∷ sum4 (product d m0) (product a m1) (product b m2) (product c m3) ∷ []
+
+-- FIPS 197, 4.3: each column of a state
 abbrev pub mixed : ℕ → ℕ → ℕ → ℕ → List ℕ → List ℕ
-mixed m0 m1 m2 m3 s = state (λ r c. sum4
-    (product (cell s r c) m0)
-    (product (cell s ((r + 1) % 4) c) m1)
-    (product (cell s ((r + 2) % 4) c) m2)
-    (product (cell s ((r + 3) % 4) c) m3))
+mixed m0 m1 m2 m3 s = column 0 ++ (column 1 ++ (column 2 ++ column 3)) where
+  column : ℕ → List ℕ
+  column c = mixed_column m0 m1 m2 m3 (cell s 0 c) (cell s 1 c) (cell s 2 c) (cell s 3 c)
 
 -- FIPS 197, 5.1.3: each column times 03 x^3 + 01 x^2 + 01 x + 02, modulo x^4 + 1
 unfoldable pub mix_columns : List ℕ → List ℕ

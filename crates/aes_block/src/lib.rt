@@ -16,14 +16,18 @@
 
 mod expansion;
 mod inverse;
+pub mod laws;
 mod plain_form;
 mod sbox;
 mod schedule;
 mod steps;
+mod table_form;
+mod tables;
 mod words;
 
 pub use plain_form::{cipher, inv_cipher};
 pub use schedule::{Schedule, expand};
+pub use table_form::{cipher_tables, inv_cipher_tables};
 
 #[cfg(test)]
 mod tests;

@@ -3,6 +3,7 @@
 ghost use Rattle.std.specs.Prelude.{◌≡◌};
 ghost use Rattle.aes_block.specs.Block.{IsSchedule};
 ghost use Rattle.aes_block.specs.Expansion.{expanded};
+ghost use Rattle.aes_block.specs.Inverse.{IsInverse};
 
 use crate::expansion::expanded_words;
 use crate::inverse::inverse_words;
@@ -11,8 +12,8 @@ use std::marker::Model;
 /// The key schedule of a 256-bit key: the 60 words of FIPS 197, 5.2.
 #[derive(Drop)]
 pub struct Schedule {
-    pub(crate) words: [u32; 60],
-    pub(crate) inverse: [u32; 60],
+    words: [u32; 60],
+    inverse: [u32; 60],
 }
 
 impl Model for Schedule {
@@ -44,5 +45,12 @@ impl Schedule {
         ensures schedule { IsSchedule self.now }
     {
         &self.words
+    }
+
+    // The words of the equivalent inverse cipher.
+    pub(crate) fn inverse(&self) -> &[u32; 60]
+        ensures { ∥ IsInverse result.now self.now ∥₁ }
+    {
+        &self.inverse
     }
 }

@@ -1,5 +1,5 @@
 use crate::steps::{inv_sub_byte, sub_byte};
-use crate::{cipher, expand, inv_cipher};
+use crate::{cipher, cipher_tables, expand, inv_cipher, inv_cipher_tables};
 use fle_vectors::{BLOCK_C3, EXPANSION_A3, SUBSTITUTIONS};
 
 // FIPS 197, 5.1.1, figure 7.
@@ -24,4 +24,15 @@ fn fips197_c3_step_by_step(rt: HostRuntime) {
     let schedule = expand(&BLOCK_C3.key);
     assert_eq!(rt; cipher(&schedule, BLOCK_C3.plain), BLOCK_C3.sealed);
     assert_eq!(rt; inv_cipher(&schedule, BLOCK_C3.sealed), BLOCK_C3.plain);
+}
+
+// FIPS 197, C.3.
+#[test]
+fn fips197_c3_by_tables(rt: HostRuntime) {
+    let schedule = expand(&BLOCK_C3.key);
+    assert_eq!(rt; cipher_tables(&schedule, BLOCK_C3.plain), BLOCK_C3.sealed);
+    assert_eq!(rt;
+        inv_cipher_tables(&schedule, BLOCK_C3.sealed),
+        BLOCK_C3.plain
+    );
 }

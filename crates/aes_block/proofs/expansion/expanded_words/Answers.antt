@@ -1,5 +1,4 @@
 use Rattle.std.proofs.Common.{◌∙◌, arith, rules, length-append}
-use Rattle.aes_block.specs.Expansion.{words_to, expanded}
 use Rattle.aes_block.proofs.Expanding.{take-first_words, take-word_at, whole}
 use Rattle.aes_block.proofs.expansion.expanded_words.Goals as goal
 

@@ -1,4 +1,3 @@
-use Rattle.std.proofs.Common.{refl}
 use Rattle.aes_block.specs.Expansion.{key_words}
 use Rattle.aes_block.proofs.expansion.key_words.Goals as goal
 

@@ -1,6 +1,6 @@
-use Rattle.std.proofs.Common.{◌≡◌, ◌+◌, ◌-◌, ap, ◌∙◌, arith}
+use Rattle.std.proofs.Common.{◌+◌, ◌-◌, ap, ◌∙◌, arith}
 use Rattle.aes_block.specs.Steps.{add_round_key}
-use Rattle.aes_block.specs.Cipher.{rounds, cipher}
+use Rattle.aes_block.specs.Cipher.{rounds}
 use Rattle.aes_block.proofs.Rounds.{rounds-next, cipher-last}
 use Rattle.aes_block.proofs.plain_form.cipher.Goals as goal
 

@@ -1,6 +1,6 @@
-use Rattle.std.proofs.Common.{◌≡◌, ◌+◌, ◌-◌, ap, ◌∙◌, arith}
+use Rattle.std.proofs.Common.{◌+◌, ◌-◌, ap, ◌∙◌, arith}
 use Rattle.aes_block.specs.Steps.{add_round_key}
-use Rattle.aes_block.specs.Cipher.{inv_rounds, inv_cipher}
+use Rattle.aes_block.specs.Cipher.{inv_rounds}
 use Rattle.aes_block.proofs.Rounds.{inv_rounds-next, inv_cipher-last}
 use Rattle.aes_block.proofs.plain_form.inv_cipher.Goals as goal
 

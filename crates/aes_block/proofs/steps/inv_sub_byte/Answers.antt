@@ -1,5 +1,5 @@
-use Rattle.std.proofs.Common.{arith, rules}
-use Rattle.aes_block.proofs.Tables.{slice_index-inv_sbox}
+use Rattle.std.proofs.Common.{rules}
+use Rattle.aes_block.proofs.SubstitutionTables.{slice_index-inv_sbox}
 use Rattle.aes_block.proofs.steps.inv_sub_byte.Goals as goal
 
 pub returns : goal.returns

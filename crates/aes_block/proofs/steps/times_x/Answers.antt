@@ -1,4 +1,4 @@
-use Rattle.std.proofs.Common.{rules, arith}
+use Rattle.std.proofs.Common.{rules}
 use Rattle.aes_block.proofs.Products.{times_x-low, times_x-high}
 use Rattle.aes_block.proofs.steps.times_x.Goals as goal
 

@@ -1,5 +1,5 @@
 -- The tables against their definitions, entry by entry.
-use Rattle.std.proofs.Common.{◌≡◌, ℕ, ◌<◌, get_or, true, refl}
+use Rattle.std.proofs.Common.{◌≡◌, ℕ, ◌<◌, true, refl}
 use Rattle.std.specs.Prelude.{◌==◌, slice_index}
 use Rattle.aes_block.specs.declared.sbox.TheConstants.{SBOX, INV_SBOX}
 use Rattle.aes_block.specs.Field.{times_x, product_by, product, power, inverse}
