@@ -36,7 +36,8 @@ word_at w i = bit_xor (slice_index w (i - 8)) (added_word i (slice_index w (i - 
 -- FIPS 197, 5.2: word i of the key, from its bytes 4 i, 4 i + 1, 4 i + 2 and 4 i + 3
 abbrev pub key_word : List ℕ → ℕ → ℕ
 key_word key i = from_be_bytes w32 (
-    slice_index key (4 * i) ∷ slice_index key (4 * i + 1) ∷ slice_index key (4 * i + 2) ∷ slice_index key (4 * i + 3) ∷ [])
+    slice_index key (4 * i) ∷ slice_index key (4 * i + 1)
+    ∷ slice_index key (4 * i + 2) ∷ slice_index key (4 * i + 3) ∷ [])
 
 -- FIPS 197, 5.2: the first eight words, which are the key's
 unfoldable pub key_words : List ℕ → List ℕ

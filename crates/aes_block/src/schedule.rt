@@ -7,6 +7,7 @@ ghost use Rattle.aes_block.specs.Inverse.{IsInverse};
 
 use crate::expansion::expanded_words;
 use crate::inverse::inverse_words;
+use std::alloc::AllocError;
 use std::marker::Model;
 
 /// The key schedule of a 256-bit key: the 60 words of FIPS 197, 5.2.
@@ -26,6 +27,21 @@ impl Model for Schedule {
     ghost view = { λ s. s.words };
 
     ghost invariant = { λ s. IsSchedule s.words × ∥ IsInverse s.inverse s.words ∥₁ };
+}
+
+impl Clone for Schedule {
+    ghost use Rattle.std.specs.Prelude.{◌≡◌, ⊤};
+
+    ghost is_clone = { λ x y. y ≡ x };
+
+    ghost is_infallible = { λ _. ⊤ };
+
+    fn clone(&self) -> Result<Schedule, AllocError> {
+        Ok(Schedule {
+            words: self.words,
+            inverse: self.inverse,
+        })
+    }
 }
 
 /// Expands a 256-bit key.

@@ -87,7 +87,8 @@ fn add_key(s: [u32; 4], w: &[u32; 60], r: usize) -> [u32; 4]
 fn column(a: u32, b: u32, c: u32, d: u32, key: u32) -> u32
     ensures { word_bytes result ≡ xor_bytes
         (mixed_column 0x02 0x03 0x01 0x01
-        (sub_byte (a / 2 ^ 24 % 256)) (sub_byte (b / 2 ^ 16 % 256)) (sub_byte (c / 2 ^ 8 % 256)) (sub_byte (d % 256)))
+        (sub_byte (a / 2 ^ 24 % 256)) (sub_byte (b / 2 ^ 16 % 256))
+        (sub_byte (c / 2 ^ 8 % 256)) (sub_byte (d % 256)))
         (word_bytes key) }
 {
     let p = ROUND_TABLE[byte_at(a, 24)];
@@ -100,7 +101,8 @@ fn column(a: u32, b: u32, c: u32, d: u32, key: u32) -> u32
 #[inline(always)]
 fn round(s: [u32; 4], w: &[u32; 60], r: usize) -> [u32; 4]
     requires { r ≤ 14 }
-    ensures { four_words result 0 ≡ add_round_key (mix_columns (shift_rows (sub_bytes (four_words s 0)))) (round_key w.now r) }
+    ensures { four_words result 0
+        ≡ add_round_key (mix_columns (shift_rows (sub_bytes (four_words s 0)))) (round_key w.now r) }
 {
     let [a, b, c, d] = s;
     [
@@ -115,7 +117,8 @@ fn round(s: [u32; 4], w: &[u32; 60], r: usize) -> [u32; 4]
 #[inline(always)]
 fn last_column(a: u32, b: u32, c: u32, d: u32, key: u32) -> u32
     ensures { word_bytes result ≡ xor_bytes
-        (sub_byte (a / 2 ^ 24 % 256) ∷ sub_byte (b / 2 ^ 16 % 256) ∷ sub_byte (c / 2 ^ 8 % 256) ∷ sub_byte (d % 256) ∷ [])
+        (sub_byte (a / 2 ^ 24 % 256) ∷ sub_byte (b / 2 ^ 16 % 256)
+        ∷ sub_byte (c / 2 ^ 8 % 256) ∷ sub_byte (d % 256) ∷ [])
         (word_bytes key) }
 {
     let column = [
@@ -129,7 +132,8 @@ fn last_column(a: u32, b: u32, c: u32, d: u32, key: u32) -> u32
 
 #[inline(always)]
 fn last_round(s: [u32; 4], w: &[u32; 60]) -> [u32; 4]
-    ensures { four_words result 0 ≡ add_round_key (shift_rows (sub_bytes (four_words s 0))) (round_key w.now 14) }
+    ensures { four_words result 0
+        ≡ add_round_key (shift_rows (sub_bytes (four_words s 0))) (round_key w.now 14) }
 {
     let [a, b, c, d] = s;
     [
@@ -145,7 +149,8 @@ fn last_round(s: [u32; 4], w: &[u32; 60]) -> [u32; 4]
 fn inv_column(a: u32, b: u32, c: u32, d: u32, key: u32) -> u32
     ensures { word_bytes result ≡ xor_bytes
         (mixed_column 0x0e 0x0b 0x0d 0x09
-        (inv_sub_byte (a / 2 ^ 24 % 256)) (inv_sub_byte (b / 2 ^ 16 % 256)) (inv_sub_byte (c / 2 ^ 8 % 256)) (inv_sub_byte (d % 256)))
+        (inv_sub_byte (a / 2 ^ 24 % 256)) (inv_sub_byte (b / 2 ^ 16 % 256))
+        (inv_sub_byte (c / 2 ^ 8 % 256)) (inv_sub_byte (d % 256)))
         (word_bytes key) }
 {
     let p = INV_ROUND_TABLE[byte_at(a, 24)];
@@ -158,7 +163,8 @@ fn inv_column(a: u32, b: u32, c: u32, d: u32, key: u32) -> u32
 #[inline(always)]
 fn inv_round(s: [u32; 4], w: &[u32; 60], r: usize) -> [u32; 4]
     requires { r ≤ 14 }
-    ensures { four_words result 0 ≡ add_round_key (inv_mix_columns (inv_sub_bytes (inv_shift_rows (four_words s 0)))) (round_key w.now r) }
+    ensures { four_words result 0
+        ≡ add_round_key (inv_mix_columns (inv_sub_bytes (inv_shift_rows (four_words s 0)))) (round_key w.now r) }
 {
     let [a, b, c, d] = s;
     [
@@ -173,7 +179,8 @@ fn inv_round(s: [u32; 4], w: &[u32; 60], r: usize) -> [u32; 4]
 #[inline(always)]
 fn inv_last_column(a: u32, b: u32, c: u32, d: u32, key: u32) -> u32
     ensures { word_bytes result ≡ xor_bytes
-        (inv_sub_byte (a / 2 ^ 24 % 256) ∷ inv_sub_byte (b / 2 ^ 16 % 256) ∷ inv_sub_byte (c / 2 ^ 8 % 256) ∷ inv_sub_byte (d % 256) ∷ [])
+        (inv_sub_byte (a / 2 ^ 24 % 256) ∷ inv_sub_byte (b / 2 ^ 16 % 256)
+        ∷ inv_sub_byte (c / 2 ^ 8 % 256) ∷ inv_sub_byte (d % 256) ∷ [])
         (word_bytes key) }
 {
     let column = [
@@ -187,7 +194,8 @@ fn inv_last_column(a: u32, b: u32, c: u32, d: u32, key: u32) -> u32
 
 #[inline(always)]
 fn inv_last_round(s: [u32; 4], w: &[u32; 60]) -> [u32; 4]
-    ensures { four_words result 0 ≡ add_round_key (inv_sub_bytes (inv_shift_rows (four_words s 0))) (round_key w.now 14) }
+    ensures { four_words result 0
+        ≡ add_round_key (inv_sub_bytes (inv_shift_rows (four_words s 0))) (round_key w.now 14) }
 {
     let [a, b, c, d] = s;
     [

@@ -1,6 +1,7 @@
 use crate::steps::{inv_sub_byte, sub_byte};
 use crate::{cipher, cipher_tables, expand, inv_cipher, inv_cipher_tables};
 use fle_vectors::{BLOCK_C3, EXPANSION_A3, SUBSTITUTIONS};
+use std::alloc::AllocError;
 
 // FIPS 197, 5.1.1, figure 7.
 #[test]
@@ -16,6 +17,13 @@ fn fips197_s_box_entries(rt: HostRuntime) {
 fn fips197_a3_key_expansion(rt: HostRuntime) {
     let schedule = expand(&EXPANSION_A3.key);
     assert_eq!(rt; *schedule.words(), EXPANSION_A3.words);
+}
+
+#[test]
+fn a_clone_has_the_same_words(rt: HostRuntime) -> Result<(), AllocError> {
+    let schedule = expand(&EXPANSION_A3.key).clone()?;
+    assert_eq!(rt; *schedule.words(), EXPANSION_A3.words);
+    Ok(())
 }
 
 // FIPS 197, C.3.
