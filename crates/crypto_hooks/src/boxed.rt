@@ -10,26 +10,36 @@ use aes_block::Schedule;
 /// A boxed function of a key schedule and a block.
 pub type BlockBox = Box<dyn Fn(&Schedule, [u8; 16]) -> [u8; 16]>;
 
-/// A block cipher of two boxed closures, the first of which encrypts a block and the second decrypts one.
+/// A block cipher of two boxed closures, the first of which encrypts a block and the second
+/// decrypts one.
 ///
 /// One type for every pair of closures, where [`crate::Hooks`] is one for each.
 #[derive(Drop)]
 pub struct BoxHooks {
     seal: BlockBox,
     unseal: BlockBox,
-    ghost seals: { (p : _) (b : List ℕ) → IsSchedule p.now → IsBlock b → BlockBox.pre seal p b },
-    ghost sealed: { (p : _) (b r : List ℕ) → IsSchedule p.now → IsBlock b → BlockBox.post seal p b r → r ≡ cipher p.now b },
-    ghost unseals: { (p : _) (b : List ℕ) → IsSchedule p.now → IsBlock b → BlockBox.pre unseal p b },
-    ghost unsealed: { (p : _) (b r : List ℕ) → IsSchedule p.now → IsBlock b → BlockBox.post unseal p b r → r ≡ inv_cipher p.now b },
+    ghost seals: { (p : _) (b : List ℕ) → IsSchedule p.now → IsBlock b
+        → BlockBox.pre seal p b },
+    ghost sealed: { (p : _) (b r : List ℕ) → IsSchedule p.now → IsBlock b
+        → BlockBox.post seal p b r → r ≡ cipher p.now b },
+    ghost unseals: { (p : _) (b : List ℕ) → IsSchedule p.now → IsBlock b
+        → BlockBox.pre unseal p b },
+    ghost unsealed: { (p : _) (b r : List ℕ) → IsSchedule p.now → IsBlock b
+        → BlockBox.post unseal p b r → r ≡ inv_cipher p.now b },
 }
 
 impl BoxHooks {
-    /// Keeps two boxed closures that answer Cipher and InvCipher for every key schedule and every block.
+    /// Keeps two boxed closures that answer Cipher and InvCipher for every key schedule and every
+    /// block.
     pub fn new(seal: BlockBox, unseal: BlockBox) -> BoxHooks
-        requires seals { (p : _) (b : List ℕ) → IsSchedule p.now → IsBlock b → BlockBox.pre seal p b }
-        requires sealed { (p : _) (b r : List ℕ) → IsSchedule p.now → IsBlock b → BlockBox.post seal p b r → r ≡ cipher p.now b }
-        requires unseals { (p : _) (b : List ℕ) → IsSchedule p.now → IsBlock b → BlockBox.pre unseal p b }
-        requires unsealed { (p : _) (b r : List ℕ) → IsSchedule p.now → IsBlock b → BlockBox.post unseal p b r → r ≡ inv_cipher p.now b }
+        requires seals { (p : _) (b : List ℕ) → IsSchedule p.now → IsBlock b
+            → BlockBox.pre seal p b }
+        requires sealed { (p : _) (b r : List ℕ) → IsSchedule p.now → IsBlock b
+            → BlockBox.post seal p b r → r ≡ cipher p.now b }
+        requires unseals { (p : _) (b : List ℕ) → IsSchedule p.now → IsBlock b
+            → BlockBox.pre unseal p b }
+        requires unsealed { (p : _) (b r : List ℕ) → IsSchedule p.now → IsBlock b
+            → BlockBox.post unseal p b r → r ≡ inv_cipher p.now b }
         ensures { ⟦<BoxHooks as Block256>⟧.answers result }
     {
         BoxHooks { seal, unseal }

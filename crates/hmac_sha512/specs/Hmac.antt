@@ -10,7 +10,8 @@ zero_filled k = k ++ replicate (128 - length k) 0
 unfoldable pub key_block : List ℕ → List ℕ
 key_block k = (if nat_lt 128 (length k) then zero_filled (sha512 k) else zero_filled k)
 
--- RFC 2104, section 2, steps (2) and (5): K XOR ipad and K XOR opad, the pad being one byte repeated
+-- RFC 2104, section 2, steps (2) and (5): K XOR ipad and K XOR opad, the pad being one byte
+-- repeated
 unfoldable pub padded_key : ℕ → List ℕ → List ℕ
 padded_key pad k = map (λ b. bit_xor b pad) (key_block k)
 

@@ -1,4 +1,5 @@
-//! The key made to a block (RFC 2104, section 2), and the hash function begun on the block under a pad.
+//! The key made to a block (RFC 2104, section 2), and the hash function begun on the block under a
+//! pad.
 
 ghost use Rattle.std.specs.Prelude.{◌≡◌, ◌≤◌, bit_xor, length, List, map, ℕ};
 ghost use Rattle.sha2.specs.Hashers.{Holds512};

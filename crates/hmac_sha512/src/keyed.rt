@@ -7,7 +7,8 @@ use crate::key_block::{block_of_key, inner_state, outer_state};
 use crate::running::Mac;
 use sha2::Sha512;
 
-/// A key whose two pads the hash function has read, so that each message costs two of its blocks less.
+/// A key whose two pads the hash function has read, so that each message costs two of its blocks
+/// less.
 #[derive(Clone, Drop)]
 pub struct KeyedMac {
     inner: Sha512,

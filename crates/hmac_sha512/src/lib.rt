@@ -1,7 +1,8 @@
-//! HMAC-SHA-512: the keyed message authentication code of RFC 2104 over the hash function of FIPS 180-4.
+//! HMAC-SHA-512: the keyed message authentication code of RFC 2104 over the hash function of FIPS
+//! 180-4.
 //!
-//! [`mac`] is the code of one message. [`Mac`] takes a message in parts. [`KeyedMac`] keeps a key that serves
-//! many messages, each of which then costs two runs of the hash function less.
+//! [`mac`] is the code of one message. [`Mac`] takes a message in parts. [`KeyedMac`] keeps a key
+//! that serves many messages, each of which then costs two runs of the hash function less.
 //!
 //! ```rust
 //! let keyed = KeyedMac::new(key);
@@ -11,7 +12,8 @@
 //! let code: [u8; 64] = running.finish();
 //! ```
 //!
-//! It doesn't compare codes, doesn't run in constant time and doesn't wipe what it leaves in memory.
+//! It doesn't compare codes, doesn't run in constant time and doesn't wipe what it leaves in
+//! memory.
 #![tactic(auto)]
 
 pub use keyed::KeyedMac;

@@ -10,7 +10,8 @@ use sha2::{Digest, Sha512};
 
 /// The code of a message that is read part by part (RFC 2104).
 ///
-/// Two running digests of SHA-512: the inner one reads the message, the outer one waits for its digest.
+/// Two running digests of SHA-512: the inner one reads the message, the outer one waits for its
+/// digest.
 #[derive(Drop)]
 pub struct Mac {
     inner: Sha512,
