@@ -1,0 +1,2 @@
+pub mod Adler32
+pub mod Words
