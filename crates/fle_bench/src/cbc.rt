@@ -4,6 +4,9 @@ ghost use Rattle.std.specs.Prelude.{◌≡◌, ◌≤◌, ◌<◌, ◌+◌, ◌*
 ghost use Rattle.aes_block.specs.Cipher.{cipher, inv_cipher};
 ghost use Rattle.cbc_mode.specs.Cbc.{cbc_sealed};
 ghost use Rattle.cbc_mode.specs.Padding.{pad};
+ghost use Rattle.fle_bench.specs.Adler32.{adler32};
+ghost use Rattle.fle_bench.specs.Message.{message_bytes};
+ghost use Rattle.aes_block.specs.Expansion.{expanded};
 
 use crate::checksum::adler32;
 use crate::job::{Direction, MOST_BYTES, Way};
@@ -22,6 +25,8 @@ pub fn run(
     turns: u32,
 ) -> Result<u32, AllocError>
     requires { size ≤ MOST_BYTES }
+    ensures { IfOk result (λ sum. direction ≡ Direction.Seal → 0 < turns
+        → sum ≡ adler32 (cbc_sealed (expanded CBC_AES256.key) CBC_AES256.iv (pad (message_bytes size)))) }
 {
     let seal = |s: &Schedule, b: [u8; 16]| -> [u8; 16]
         ensures { result ≡ cipher s.entry.now b }
@@ -51,6 +56,8 @@ fn through<B: Block256>(
 ) -> Result<u32, AllocError>
     requires hooks { B.answers hooks.now }
     requires bounded { size ≤ MOST_BYTES }
+    ensures { IfOk result (λ sum. direction ≡ Direction.Seal → 0 < turns
+        → sum ≡ adler32 (cbc_sealed (expanded CBC_AES256.key) CBC_AES256.iv (pad (message_bytes size)))) }
 {
     let schedule = expand(&CBC_AES256.key);
     let plain = message(alloc, size)?;
@@ -72,7 +79,7 @@ fn through<B: Block256>(
 /// A message whose bytes count up from 0 to 250, again and again.
 fn message(alloc: Global, size: usize) -> Result<Vec<u8>, AllocError>
     ensures len { IfOk result (λ v. length v.items ≡ size) }
-    ensures counts { IfOk result (λ v. (k : ℕ) → k < size → slice_index v.items k ≡ k % 251) }
+    ensures bytes { IfOk result (λ v. v.items ≡ message_bytes size) }
 {
     let mut bytes = Vec::new(alloc);
     for i in 0..size {

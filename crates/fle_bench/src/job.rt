@@ -1,7 +1,8 @@
 //! What is to be run, from the words of the command line.
 
-ghost use Rattle.std.specs.Prelude.{◌≡◌, ◌≤◌, IfSome};
+ghost use Rattle.std.specs.Prelude.{◌≡◌, ◌≢◌, IfNone, IfSome};
 ghost use Rattle.fle_bench.specs.Words.{word_of};
+ghost use Rattle.fle_bench.specs.declared.job.Subject.{Subject};
 
 /// The most bytes of a run: 64 MiB.
 pub const MOST_BYTES: usize = 67108864;
@@ -32,7 +33,8 @@ pub enum Subject {
 
 /// The subject that a word names.
 pub fn subject_of(word: &str) -> Option<Subject>
-    ensures { IfSome result (λ s. word.now ≡ word_of s) }
+    ensures named { IfSome result (λ s. word.now ≡ word_of s) }
+    ensures unknown { IfNone result ((s : Subject) → word.now ≢ word_of s) }
 {
     match word {
         "cbc-seal-tables" => Some(Subject::Cbc(Direction::Seal, Way::Tables)),

@@ -1,8 +1,9 @@
-use Rattle.std.proofs.Common.{◌≡◌, ℕ, ◌%◌, ◌<◌, length, get_or}
+use Rattle.std.proofs.Common.{◌≡◌, length}
+use Rattle.fle_bench.specs.Message.{message_bytes}
 use Rattle.fle_bench.proofs.cbc.message.Given as goal
 
 abbrev pub invariant-loop-i : goal.invariant-loop-i
 invariant-loop-i l = record {
   len : length l.bytes.items ≡ l.i;
-  counts : (k : ℕ) → k < l.i → get_or l.bytes.items k 0 ≡ k % 251;
+  bytes : l.bytes.items ≡ message_bytes l.i;
 }
