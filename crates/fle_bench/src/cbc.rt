@@ -1,17 +1,17 @@
 //! CBC with AES-256 (SP 800-38A, 6.2), through each way to the block cipher.
 
-ghost use Rattle.std.specs.Prelude.{◌≡◌, ◌≤◌, ◌<◌, ◌+◌, ◌*◌, ◌/◌, ◌%◌, length, slice_index, ℕ, IfOk};
+ghost use Rattle.std.specs.Prelude.{◌≡◌, ◌≤◌, ◌<◌, ◌+◌, ◌*◌, ◌/◌, length, IfOk};
 ghost use Rattle.aes_block.specs.Cipher.{cipher, inv_cipher};
+ghost use Rattle.aes_block.specs.Expansion.{expanded};
 ghost use Rattle.cbc_mode.specs.Cbc.{cbc_sealed};
 ghost use Rattle.cbc_mode.specs.Padding.{pad};
 ghost use Rattle.fle_bench.specs.Adler32.{adler32};
 ghost use Rattle.fle_bench.specs.Message.{message_bytes};
-ghost use Rattle.aes_block.specs.Expansion.{expanded};
 
 use crate::checksum::adler32;
 use crate::job::{Direction, MOST_BYTES, Way};
 use aes_block::{Schedule, cipher_tables, expand, inv_cipher_tables};
-use cbc_mode::{CbcFault, cbc_open_into, cbc_seal_into, padded_len};
+use cbc_mode::{cbc_open_into, cbc_seal_into, padded_len};
 use crypto_hooks::{Block256, BlockBox, BoxHooks, Hooks, Tables};
 use fle_vectors::CBC_AES256;
 use std::alloc::{AllocError, Global};
