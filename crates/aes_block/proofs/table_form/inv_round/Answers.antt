@@ -1,0 +1,8 @@
+use Rattle.aes_block.specs.Block.{four_words}
+use Rattle.aes_block.specs.Steps.{inv_sub_bytes, inv_shift_rows, inv_mix_columns, round_key, add_round_key}
+use Rattle.aes_block.proofs.WordBytes.{joined}
+use Rattle.aes_block.proofs.table_form.inv_round.Goals as goal
+
+pub returns : goal.returns
+unfolding four_words inv_sub_bytes inv_shift_rows inv_mix_columns round_key add_round_key
+returns c = joined c.inv_column.ensures c.inv_column-2.ensures c.inv_column-3.ensures c.inv_column-4.ensures

@@ -1,0 +1,214 @@
+// The steps of a round on the bytes of a state (FIPS 197, 5.1 and 5.3).
+
+ghost use Rattle.std.specs.Prelude.{◌≡◌, ◌≤◌};
+ghost use Rattle.aes_block.specs.Field.{product, times_x};
+ghost use Rattle.aes_block.specs.Substitution.{inv_sub_byte, sub_byte};
+ghost use Rattle.aes_block.specs.Steps.{add_round_key, inv_mix_columns, inv_shift_rows, inv_sub_bytes, mix_columns, round_key, shift_rows, sub_bytes, sum4};
+
+use crate::sbox::{INV_SBOX, SBOX};
+use crate::words::bytes_of;
+
+// 1b: the modulus of FIPS 197, 4.2, without its power x^8.
+const REDUCTION: u8 = 0x1b;
+
+const HIGHEST_BIT: u8 = 0x80;
+
+pub(crate) fn sub_byte(b: u8) -> u8
+    ensures { result ≡ sub_byte b }
+{
+    SBOX[b as usize]
+}
+
+pub(crate) fn inv_sub_byte(b: u8) -> u8
+    ensures { result ≡ inv_sub_byte b }
+{
+    INV_SBOX[b as usize]
+}
+
+fn times_x(a: u8) -> u8
+    ensures { result ≡ times_x a }
+{
+    if a < HIGHEST_BIT {
+        a << 1
+    } else {
+        (a << 1) ^ REDUCTION
+    }
+}
+
+pub(crate) fn sub_bytes(s: [u8; 16]) -> [u8; 16]
+    ensures { result ≡ sub_bytes s }
+{
+    [
+        sub_byte(s[0]),
+        sub_byte(s[1]),
+        sub_byte(s[2]),
+        sub_byte(s[3]),
+        sub_byte(s[4]),
+        sub_byte(s[5]),
+        sub_byte(s[6]),
+        sub_byte(s[7]),
+        sub_byte(s[8]),
+        sub_byte(s[9]),
+        sub_byte(s[10]),
+        sub_byte(s[11]),
+        sub_byte(s[12]),
+        sub_byte(s[13]),
+        sub_byte(s[14]),
+        sub_byte(s[15]),
+    ]
+}
+
+pub(crate) fn inv_sub_bytes(s: [u8; 16]) -> [u8; 16]
+    ensures { result ≡ inv_sub_bytes s }
+{
+    [
+        inv_sub_byte(s[0]),
+        inv_sub_byte(s[1]),
+        inv_sub_byte(s[2]),
+        inv_sub_byte(s[3]),
+        inv_sub_byte(s[4]),
+        inv_sub_byte(s[5]),
+        inv_sub_byte(s[6]),
+        inv_sub_byte(s[7]),
+        inv_sub_byte(s[8]),
+        inv_sub_byte(s[9]),
+        inv_sub_byte(s[10]),
+        inv_sub_byte(s[11]),
+        inv_sub_byte(s[12]),
+        inv_sub_byte(s[13]),
+        inv_sub_byte(s[14]),
+        inv_sub_byte(s[15]),
+    ]
+}
+
+pub(crate) fn shift_rows(s: [u8; 16]) -> [u8; 16]
+    ensures { result ≡ shift_rows s }
+{
+    [
+        s[0], s[5], s[10], s[15], s[4], s[9], s[14], s[3], s[8], s[13], s[2], s[7], s[12], s[1],
+        s[6], s[11],
+    ]
+}
+
+pub(crate) fn inv_shift_rows(s: [u8; 16]) -> [u8; 16]
+    ensures { result ≡ inv_shift_rows s }
+{
+    [
+        s[0], s[13], s[10], s[7], s[4], s[1], s[14], s[11], s[8], s[5], s[2], s[15], s[12], s[9],
+        s[6], s[3],
+    ]
+}
+
+// A byte of a column that goes through MixColumns, from that byte and the three below it.
+fn mixed_byte(a: u8, b: u8, c: u8, d: u8) -> u8
+    ensures { result ≡ sum4 (product a 0x02) (product b 0x03) (product c 0x01) (product d 0x01) }
+{
+    (times_x(a) ^ (times_x(b) ^ b)) ^ (c ^ d)
+}
+
+// A byte of a column that goes through InvMixColumns, from that byte and the three below it.
+fn unmixed_byte(a: u8, b: u8, c: u8, d: u8) -> u8
+    ensures { result ≡ sum4 (product a 0x0e) (product b 0x0b) (product c 0x0d) (product d 0x09) }
+{
+    (times_14(a) ^ times_11(b)) ^ (times_13(c) ^ times_9(d))
+}
+
+fn times_9(a: u8) -> u8
+    ensures { result ≡ product a 0x09 }
+{
+    times_x(times_x(times_x(a))) ^ a
+}
+
+fn times_11(a: u8) -> u8
+    ensures { result ≡ product a 0x0b }
+{
+    times_x(times_x(times_x(a)) ^ a) ^ a
+}
+
+fn times_13(a: u8) -> u8
+    ensures { result ≡ product a 0x0d }
+{
+    times_x(times_x(times_x(a) ^ a)) ^ a
+}
+
+fn times_14(a: u8) -> u8
+    ensures { result ≡ product a 0x0e }
+{
+    times_x(times_x(times_x(a) ^ a) ^ a)
+}
+
+pub(crate) fn mix_columns(s: [u8; 16]) -> [u8; 16]
+    ensures { result ≡ mix_columns s }
+{
+    [
+        mixed_byte(s[0], s[1], s[2], s[3]),
+        mixed_byte(s[1], s[2], s[3], s[0]),
+        mixed_byte(s[2], s[3], s[0], s[1]),
+        mixed_byte(s[3], s[0], s[1], s[2]),
+        mixed_byte(s[4], s[5], s[6], s[7]),
+        mixed_byte(s[5], s[6], s[7], s[4]),
+        mixed_byte(s[6], s[7], s[4], s[5]),
+        mixed_byte(s[7], s[4], s[5], s[6]),
+        mixed_byte(s[8], s[9], s[10], s[11]),
+        mixed_byte(s[9], s[10], s[11], s[8]),
+        mixed_byte(s[10], s[11], s[8], s[9]),
+        mixed_byte(s[11], s[8], s[9], s[10]),
+        mixed_byte(s[12], s[13], s[14], s[15]),
+        mixed_byte(s[13], s[14], s[15], s[12]),
+        mixed_byte(s[14], s[15], s[12], s[13]),
+        mixed_byte(s[15], s[12], s[13], s[14]),
+    ]
+}
+
+pub(crate) fn inv_mix_columns(s: [u8; 16]) -> [u8; 16]
+    ensures { result ≡ inv_mix_columns s }
+{
+    [
+        unmixed_byte(s[0], s[1], s[2], s[3]),
+        unmixed_byte(s[1], s[2], s[3], s[0]),
+        unmixed_byte(s[2], s[3], s[0], s[1]),
+        unmixed_byte(s[3], s[0], s[1], s[2]),
+        unmixed_byte(s[4], s[5], s[6], s[7]),
+        unmixed_byte(s[5], s[6], s[7], s[4]),
+        unmixed_byte(s[6], s[7], s[4], s[5]),
+        unmixed_byte(s[7], s[4], s[5], s[6]),
+        unmixed_byte(s[8], s[9], s[10], s[11]),
+        unmixed_byte(s[9], s[10], s[11], s[8]),
+        unmixed_byte(s[10], s[11], s[8], s[9]),
+        unmixed_byte(s[11], s[8], s[9], s[10]),
+        unmixed_byte(s[12], s[13], s[14], s[15]),
+        unmixed_byte(s[13], s[14], s[15], s[12]),
+        unmixed_byte(s[14], s[15], s[12], s[13]),
+        unmixed_byte(s[15], s[12], s[13], s[14]),
+    ]
+}
+
+pub(crate) fn round_key(w: &[u32; 60], r: usize) -> [u8; 16]
+    requires { r ≤ 14 }
+    ensures { result ≡ round_key w.now r }
+{
+    bytes_of([w[4 * r], w[4 * r + 1], w[4 * r + 2], w[4 * r + 3]])
+}
+
+pub(crate) fn add_round_key(s: [u8; 16], k: [u8; 16]) -> [u8; 16]
+    ensures { result ≡ add_round_key s k }
+{
+    [
+        s[0] ^ k[0],
+        s[1] ^ k[1],
+        s[2] ^ k[2],
+        s[3] ^ k[3],
+        s[4] ^ k[4],
+        s[5] ^ k[5],
+        s[6] ^ k[6],
+        s[7] ^ k[7],
+        s[8] ^ k[8],
+        s[9] ^ k[9],
+        s[10] ^ k[10],
+        s[11] ^ k[11],
+        s[12] ^ k[12],
+        s[13] ^ k[13],
+        s[14] ^ k[14],
+        s[15] ^ k[15],
+    ]
+}

@@ -1,0 +1,46 @@
+use crate::steps::{inv_sub_byte, sub_byte};
+use crate::{cipher, cipher_tables, expand, inv_cipher, inv_cipher_tables};
+use fle_vectors::{BLOCK_C3, EXPANSION_A3, SUBSTITUTIONS};
+use std::alloc::AllocError;
+
+// FIPS 197, 5.1.1, figure 7.
+#[test]
+fn fips197_s_box_entries(rt: HostRuntime) {
+    for entry in SUBSTITUTIONS {
+        assert_eq!(rt; sub_byte(entry.byte), entry.substitute);
+        assert_eq!(rt; inv_sub_byte(entry.substitute), entry.byte);
+    }
+}
+
+// FIPS 197, A.3.
+#[test]
+fn fips197_a3_key_expansion(rt: HostRuntime) {
+    let schedule = expand(&EXPANSION_A3.key);
+    assert_eq!(rt; *schedule.words(), EXPANSION_A3.words);
+}
+
+#[test]
+fn a_clone_has_the_same_words(rt: HostRuntime) -> Result<(), AllocError> {
+    let schedule = expand(&EXPANSION_A3.key).clone()?;
+    assert_eq!(rt; *schedule.words(), EXPANSION_A3.words);
+    Ok(())
+}
+
+// FIPS 197, C.3.
+#[test]
+fn fips197_c3_step_by_step(rt: HostRuntime) {
+    let schedule = expand(&BLOCK_C3.key);
+    assert_eq!(rt; cipher(&schedule, BLOCK_C3.plain), BLOCK_C3.sealed);
+    assert_eq!(rt; inv_cipher(&schedule, BLOCK_C3.sealed), BLOCK_C3.plain);
+}
+
+// FIPS 197, C.3.
+#[test]
+fn fips197_c3_by_tables(rt: HostRuntime) {
+    let schedule = expand(&BLOCK_C3.key);
+    assert_eq!(rt; cipher_tables(&schedule, BLOCK_C3.plain), BLOCK_C3.sealed);
+    assert_eq!(rt;
+        inv_cipher_tables(&schedule, BLOCK_C3.sealed),
+        BLOCK_C3.plain
+    );
+}

@@ -1,0 +1,4 @@
+pub mod Padded
+pub mod Chained
+pub mod WholeBlocks
+pub mod Undone

@@ -1,0 +1,5 @@
+use Rattle.cbc_mode.proofs.Undone.{cbc_redone}
+use Rattle.cbc_mode.proofs.laws.sealing_undoes_opening.Goals as goal
+
+pub returns : goal.returns
+returns c = cbc_redone

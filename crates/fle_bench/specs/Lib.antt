@@ -1,0 +1,3 @@
+pub mod Adler32
+pub mod Message
+pub mod Words

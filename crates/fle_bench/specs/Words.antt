@@ -1,0 +1,15 @@
+-- The words of the command line that name what is run.
+use Rattle.std.specs.Prelude.{ℕ, List, codes}
+use Rattle.fle_bench.specs.declared.job.Direction.TheVariants.{Seal, Open}
+use Rattle.fle_bench.specs.declared.job.Way.TheVariants.{Tables, Closures, Boxes}
+use Rattle.fle_bench.specs.declared.job.Subject.{Subject}
+use Rattle.fle_bench.specs.declared.job.Subject.TheVariants.{Cbc}
+
+-- the word for a subject
+abbrev pub word_of : Subject → List ℕ
+word_of (Cbc Seal Tables) = codes "cbc-seal-tables"
+word_of (Cbc Seal Closures) = codes "cbc-seal-closures"
+word_of (Cbc Seal Boxes) = codes "cbc-seal-boxes"
+word_of (Cbc Open Tables) = codes "cbc-open-tables"
+word_of (Cbc Open Closures) = codes "cbc-open-closures"
+word_of (Cbc Open Boxes) = codes "cbc-open-boxes"

@@ -1,0 +1,124 @@
+//! CBC with AES-256 (SP 800-38A, 6.2), through each way to the block cipher.
+
+ghost use Rattle.std.specs.Prelude.{◌≡◌, ◌≤◌, ◌<◌, ◌+◌, ◌*◌, ◌/◌, length, IfOk};
+ghost use Rattle.aes_block.specs.Cipher.{cipher, inv_cipher};
+ghost use Rattle.aes_block.specs.Expansion.{expanded};
+ghost use Rattle.cbc_mode.specs.Cbc.{cbc_sealed};
+ghost use Rattle.cbc_mode.specs.Padding.{pad};
+ghost use Rattle.fle_bench.specs.Adler32.{adler32};
+ghost use Rattle.fle_bench.specs.Message.{message_bytes};
+
+use crate::checksum::adler32;
+use crate::job::{Direction, MOST_BYTES, Way};
+use aes_block::{Schedule, cipher_tables, expand, inv_cipher_tables};
+use cbc_mode::{cbc_open_into, cbc_seal_into, padded_len};
+use crypto_hooks::{Block256, BlockBox, BoxHooks, Hooks, Tables};
+use fle_vectors::CBC_AES256;
+use std::alloc::{AllocError, Global};
+
+/// Runs one direction over a message of some length, and gives the checksum of what it wrote last.
+pub fn run(
+    alloc: Global,
+    direction: Direction,
+    way: Way,
+    size: usize,
+    turns: u32,
+) -> Result<u32, AllocError>
+    requires { size ≤ MOST_BYTES }
+    ensures { IfOk result (λ sum. direction ≡ Direction.Seal → 0 < turns
+        → sum ≡ adler32 (cbc_sealed (expanded CBC_AES256.key) CBC_AES256.iv (pad (message_bytes size)))) }
+{
+    let seal = |s: &Schedule, b: [u8; 16]| -> [u8; 16]
+        ensures { result ≡ cipher s.entry.now b }
+    { cipher_tables(s, b) };
+    let unseal = |s: &Schedule, b: [u8; 16]| -> [u8; 16]
+        ensures { result ≡ inv_cipher s.entry.now b }
+    { inv_cipher_tables(s, b) };
+    match way {
+        Way::Tables => through(alloc, &Tables, direction, size, turns),
+        Way::Closures => through(alloc, &Hooks::new(seal, unseal), direction, size, turns),
+        Way::Boxes => {
+            let boxed_seal: BlockBox = Box::new(alloc, seal)?;
+            let boxed_unseal: BlockBox = Box::new(alloc, unseal)?;
+            let hooks = BoxHooks::new(boxed_seal, boxed_unseal);
+            through(alloc, &hooks, direction, size, turns)
+        }
+    }
+}
+
+/// The same through one implementation of the block cipher.
+fn through<B: Block256>(
+    alloc: Global,
+    hooks: &B,
+    direction: Direction,
+    size: usize,
+    turns: u32,
+) -> Result<u32, AllocError>
+    requires hooks { B.answers hooks.now }
+    requires bounded { size ≤ MOST_BYTES }
+    ensures { IfOk result (λ sum. direction ≡ Direction.Seal → 0 < turns
+        → sum ≡ adler32 (cbc_sealed (expanded CBC_AES256.key) CBC_AES256.iv (pad (message_bytes size)))) }
+{
+    let schedule = expand(&CBC_AES256.key);
+    let plain = message(alloc, size)?;
+    let mut sealed = vec![in alloc; 0u8; padded_len(size)]?;
+    match direction {
+        Direction::Seal => {
+            seal_turns(hooks, &schedule, CBC_AES256.iv, &plain, &mut sealed, turns);
+            Ok(adler32(&sealed))
+        }
+        Direction::Open => {
+            seal_turns(hooks, &schedule, CBC_AES256.iv, &plain, &mut sealed, 1);
+            let mut opened = vec![in alloc; 0u8; padded_len(size)]?;
+            open_turns(hooks, &schedule, CBC_AES256.iv, &sealed, &mut opened, turns);
+            Ok(adler32(&opened))
+        }
+    }
+}
+
+/// A message whose bytes count up from 0 to 250, again and again.
+fn message(alloc: Global, size: usize) -> Result<Vec<u8>, AllocError>
+    ensures len { IfOk result (λ v. length v.items ≡ size) }
+    ensures bytes { IfOk result (λ v. v.items ≡ message_bytes size) }
+{
+    let mut bytes = Vec::new(alloc);
+    for i in 0..size {
+        bytes.push((i % 251) as u8)?;
+    }
+    Ok(bytes)
+}
+
+/// Seals a message some times over, to the same bytes each time.
+fn seal_turns<B: Block256>(
+    hooks: &B,
+    schedule: &Schedule,
+    iv: [u8; 16],
+    plain: &[u8],
+    out: &mut [u8],
+    turns: u32,
+)
+    requires hooks { B.answers hooks.now }
+    requires room { length out.old ≡ 16 * (length plain.now / 16 + 1) }
+    ensures { 0 < turns → out.new ≡ cbc_sealed schedule.now iv (pad plain.now) }
+{
+    for _turn in 0..turns {
+        cbc_seal_into(hooks, schedule, iv, plain, out);
+    }
+}
+
+/// Opens a sealed message some times over.
+fn open_turns<B: Block256>(
+    hooks: &B,
+    schedule: &Schedule,
+    iv: [u8; 16],
+    sealed: &[u8],
+    out: &mut [u8],
+    turns: u32,
+)
+    requires hooks { B.answers hooks.now }
+    requires room { length sealed.now ≤ length out.old }
+{
+    for _turn in 0..turns {
+        let _outcome = cbc_open_into(hooks, schedule, iv, sealed, out);
+    }
+}

@@ -1,0 +1,48 @@
+//! What is to be run, from the words of the command line.
+
+ghost use Rattle.std.specs.Prelude.{◌≡◌, ◌≢◌, IfNone, IfSome};
+ghost use Rattle.fle_bench.specs.Words.{word_of};
+ghost use Rattle.fle_bench.specs.declared.job.Subject.{Subject};
+
+/// The most bytes of a run: 64 MiB.
+pub const MOST_BYTES: usize = 67108864;
+
+/// One direction of CBC.
+#[derive(Clone, Copy)]
+pub enum Direction {
+    Seal,
+    Open,
+}
+
+/// The way to the block cipher.
+#[derive(Clone, Copy)]
+pub enum Way {
+    /// The table form itself.
+    Tables,
+    /// Closures of known types.
+    Closures,
+    /// Closures in boxes.
+    Boxes,
+}
+
+/// What is run.
+#[derive(Clone, Copy)]
+pub enum Subject {
+    Cbc(Direction, Way),
+}
+
+/// The subject that a word names.
+pub fn subject_of(word: &str) -> Option<Subject>
+    ensures named { IfSome result (λ s. word.now ≡ word_of s) }
+    ensures unknown { IfNone result ((s : Subject) → word.now ≢ word_of s) }
+{
+    match word {
+        "cbc-seal-tables" => Some(Subject::Cbc(Direction::Seal, Way::Tables)),
+        "cbc-seal-closures" => Some(Subject::Cbc(Direction::Seal, Way::Closures)),
+        "cbc-seal-boxes" => Some(Subject::Cbc(Direction::Seal, Way::Boxes)),
+        "cbc-open-tables" => Some(Subject::Cbc(Direction::Open, Way::Tables)),
+        "cbc-open-closures" => Some(Subject::Cbc(Direction::Open, Way::Closures)),
+        "cbc-open-boxes" => Some(Subject::Cbc(Direction::Open, Way::Boxes)),
+        _ => None,
+    }
+}

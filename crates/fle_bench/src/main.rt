@@ -1,0 +1,40 @@
+//! Runs one primitive many times over a message of a given length, so that it can be timed from outside.
+//!
+//! ```text
+//! fle_bench cbc-seal-tables 1024 100000
+//! ```
+//!
+//! The words are what is run, the number of bytes, and how many times. It writes one line, with the Adler-32 checksum of
+//! the last answer. It reads no clock: the same words always give the same line.
+#![tactic(auto)]
+
+mod cbc;
+mod checksum;
+mod job;
+
+use crate::job::{MOST_BYTES, Subject, subject_of};
+use std::env;
+
+fn main(rt: HostRuntime) -> anyhow::Result<()> {
+    let mut words = env::args(&rt)?;
+    let _program = words.next();
+    let (Some(word), Some(bytes), Some(times)) = (words.next(), words.next(), words.next()) else {
+        anyhow::bail!("usage: fle_bench SUBJECT BYTES TURNS");
+    };
+    let Some(subject) = subject_of(word.as_str()) else {
+        anyhow::bail!("there is no such subject");
+    };
+    let size = bytes.parse::<usize>()?;
+    let turns = times.parse::<u32>()?;
+    if size > MOST_BYTES {
+        anyhow::bail!("the message is longer than 64 MiB");
+    }
+    let checksum = match subject {
+        Subject::Cbc(direction, way) => cbc::run(rt.alloc(), direction, way, size, turns)?,
+    };
+    println!(rt; "{word} {size} {turns} {checksum:08x}")?;
+    Ok(())
+}
+
+#[cfg(test)]
+mod tests;

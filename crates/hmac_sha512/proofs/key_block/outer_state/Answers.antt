@@ -1,0 +1,6 @@
+use Rattle.hmac_sha512.specs.Hmac.{padded_key}
+use Rattle.hmac_sha512.proofs.key_block.outer_state.Goals as goal
+
+pub returns : goal.returns
+unfolding padded_key
+returns c = λ k is. rw is at c.begun.ensures

@@ -1,0 +1,46 @@
+//! A key that serves many messages.
+
+ghost use Rattle.std.specs.Prelude.{◌≡◌, List, [], ℕ};
+ghost use Rattle.hmac_sha512.specs.States.{HasKey, HasRead};
+
+use crate::key_block::{block_of_key, inner_state, outer_state};
+use crate::running::Mac;
+use sha2::Sha512;
+
+/// A key whose two pads the hash function has read, so that each message costs two of its blocks
+/// less.
+#[derive(Clone, Drop)]
+pub struct KeyedMac {
+    inner: Sha512,
+    outer: Sha512,
+}
+
+impl KeyedMac {
+    /// Keeps the key, which may have any length.
+    pub fn new(key: &[u8]) -> KeyedMac
+        ensures { HasKey result key.now }
+    {
+        let block = block_of_key(key);
+        KeyedMac {
+            inner: inner_state(&block),
+            outer: outer_state(&block),
+        }
+    }
+
+    /// Begins the empty message under the key.
+    pub fn begin(&self) -> Mac
+        ensures { (k : List ℕ) → HasKey self.now k → HasRead result k [] }
+    {
+        Mac::resumed(copy_of(&self.inner), copy_of(&self.outer))
+    }
+}
+
+/// The same state once more.
+fn copy_of(state: &Sha512) -> Sha512
+    ensures { result ≡ state.now }
+{
+    match state.clone() {
+        Ok(copy) => copy,
+        Err(_) => unreachable!(),
+    }
+}

@@ -1,0 +1,28 @@
+//! HMAC-SHA-512: the keyed message authentication code of RFC 2104 over the hash function of FIPS
+//! 180-4.
+//!
+//! [`mac`] is the code of one message. [`Mac`] takes a message in parts. [`KeyedMac`] keeps a key
+//! that serves many messages, each of which then costs two runs of the hash function less.
+//!
+//! ```rust
+//! let keyed = KeyedMac::new(key);
+//! let mut running = keyed.begin();
+//! running.update(b"Hi ");
+//! running.update(b"There");
+//! let code: [u8; 64] = running.finish();
+//! ```
+//!
+//! It doesn't compare codes, doesn't run in constant time and doesn't wipe what it leaves in
+//! memory.
+#![tactic(auto)]
+
+pub use keyed::KeyedMac;
+pub use running::Mac;
+pub use whole::mac;
+
+mod key_block;
+mod keyed;
+mod running;
+#[cfg(test)]
+mod tests;
+mod whole;
