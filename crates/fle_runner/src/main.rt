@@ -21,6 +21,8 @@ mod program;
 mod reason;
 mod status;
 mod stream;
+#[cfg(test)]
+mod tests;
 mod turning;
 mod why;
 mod words;
