@@ -3,7 +3,7 @@
 ghost use Rattle.std.specs.Prelude.{◌≡◌, ◌≤◌, ◌<◌, ◌+◌, ◌*◌, ◌/◌, length, IfOk};
 ghost use Rattle.aes_block.specs.Cipher.{cipher, inv_cipher};
 ghost use Rattle.aes_block.specs.Expansion.{expanded};
-ghost use Rattle.cbc_mode.specs.Cbc.{cbc_sealed};
+ghost use Rattle.cbc_mode.specs.Cbc.{cbc_opened, cbc_sealed, IsWholeBlocks};
 ghost use Rattle.cbc_mode.specs.Padding.{pad};
 ghost use Rattle.fle_bench.specs.Adler32.{adler32};
 ghost use Rattle.fle_bench.specs.Message.{message_bytes};
@@ -25,8 +25,11 @@ pub fn run(
     turns: u32,
 ) -> Result<u32, AllocError>
     requires { size ≤ MOST_BYTES }
-    ensures { IfOk result (λ sum. direction ≡ Direction.Seal → 0 < turns
+    ensures sealed { IfOk result (λ sum. direction ≡ Direction.Seal → 0 < turns
         → sum ≡ adler32 (cbc_sealed (expanded CBC_AES256.key) CBC_AES256.iv (pad (message_bytes size)))) }
+    ensures opened { IfOk result (λ sum. direction ≡ Direction.Open → 0 < turns
+        → sum ≡ adler32 (cbc_opened (expanded CBC_AES256.key) CBC_AES256.iv
+        (cbc_sealed (expanded CBC_AES256.key) CBC_AES256.iv (pad (message_bytes size))))) }
 {
     let seal = |s: &Schedule, b: [u8; 16]| -> [u8; 16]
         ensures { result ≡ cipher s.entry.now b }
@@ -56,8 +59,11 @@ fn through<B: Block256>(
 ) -> Result<u32, AllocError>
     requires hooks { B.answers hooks.now }
     requires bounded { size ≤ MOST_BYTES }
-    ensures { IfOk result (λ sum. direction ≡ Direction.Seal → 0 < turns
+    ensures sealed { IfOk result (λ sum. direction ≡ Direction.Seal → 0 < turns
         → sum ≡ adler32 (cbc_sealed (expanded CBC_AES256.key) CBC_AES256.iv (pad (message_bytes size)))) }
+    ensures opened { IfOk result (λ sum. direction ≡ Direction.Open → 0 < turns
+        → sum ≡ adler32 (cbc_opened (expanded CBC_AES256.key) CBC_AES256.iv
+        (cbc_sealed (expanded CBC_AES256.key) CBC_AES256.iv (pad (message_bytes size))))) }
 {
     let schedule = expand(&CBC_AES256.key);
     let plain = message(alloc, size)?;
@@ -116,7 +122,9 @@ fn open_turns<B: Block256>(
     turns: u32,
 )
     requires hooks { B.answers hooks.now }
-    requires room { length sealed.now ≤ length out.old }
+    requires room { length out.old ≡ length sealed.now }
+    requires whole { IsWholeBlocks (length sealed.now) }
+    ensures { 0 < turns → out.new ≡ cbc_opened schedule.now iv sealed.now }
 {
     for _turn in 0..turns {
         let _outcome = cbc_open_into(hooks, schedule, iv, sealed, out);
