@@ -1,11 +1,13 @@
 pub mod Steps
 pub mod Levels
+pub mod Widths
 pub mod Rounds
 pub mod Frames
 pub mod Pieces
 pub mod Lengths
-pub mod Raws
 pub mod Names
+pub mod Readers
+pub mod Raws
 pub mod Elements
 pub mod Documents
 pub mod Answered

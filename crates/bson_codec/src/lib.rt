@@ -11,6 +11,7 @@
 //! Texts and names aren't tested for UTF-8, and the names of array elements are kept as given.
 #![tactic(auto)]
 
+mod checking;
 mod decoding;
 mod encoding;
 mod fault;
