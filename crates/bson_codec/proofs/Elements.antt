@@ -3,18 +3,18 @@
 use Rattle.std.proofs.Common.{false, ◌≡◌, ℕ, zero, suc, ◌+◌, ◌<◌, ◌≤◌, List, [], ◌∷◌, ◌++◌, length, take, drop, Option, Some, None, Result, Ok, refl, sym, ap, subst, ◌∙◌, append_assoc, arith}
 use Rattle.std.proofs.lemmas.List.{drop_at, length-append, length-drop}
 use Rattle.bson_tree.specs.Tree.{Tree, Items, leaf, node, no_items, item, tag_of}
-use Rattle.bson_tree.specs.Spelling.{value_bytes, items_bytes, doc_bytes}
+use Rattle.bson_tree.specs.Spelling.{value_bytes, items_bytes}
 use Rattle.bson_codec.specs.declared.fault.BsonFault.{BsonFault}
 use Rattle.bson_codec.specs.declared.table.ValueLayout.{ValueLayout}
 use Rattle.bson_codec.specs.declared.table.ValueLayout.TheVariants as values
 use Rattle.bson_codec.specs.Fault.{◌>>=◌}
 use Rattle.bson_codec.specs.Table.{layout_of}
-use Rattle.bson_codec.specs.Layout.{IsName, IsInside, HasLayout, IsValue, AreElements}
+use Rattle.bson_codec.specs.Layout.{IsName, HasLayout, IsValue, AreElements}
 use Rattle.bson_codec.specs.Reading.{Reader, First, name_at, layout_at, raw_at, value_at, first_at, rounds_at, elements_at}
 use Rattle.bson_codec.proofs.Steps.{made, ok_is, bind_ok}
 use Rattle.bson_codec.specs.Bytes.{AreBytes}
 use Rattle.bson_codec.proofs.Pieces.{AreBytes-drop, AreBytes-rest, Begins, begins_take, begins_then, begins_is, begins_fits, begins_of, begins_first, begins_second}
-use Rattle.bson_codec.proofs.Readers.{Reads, InsideRead}
+use Rattle.bson_codec.proofs.Readers.{Reads}
 use Rattle.bson_codec.proofs.Raws.{raw_takes, raw_again}
 use Rattle.bson_codec.proofs.Names.{name_takes, name_again, layout_takes, layout_again}
 use Rattle.bson_codec.proofs.Rounds.{first_wide, elements_step}
@@ -55,11 +55,11 @@ laid_again D f reads (values.Raw layout) p bs (leaf tag bytes) n laid begins =
 laid_again D f reads (values.Raw layout) p bs (node tag is) n laid begins = absurd laid
 
 -- a type that has a layout
-record Typed (o : Option ValueLayout) : Type 0 where
-  layout : ValueLayout
-  is : o ≡ Some layout
+pub record Typed (o : Option ValueLayout) : Type 0 where
+  pub layout : ValueLayout
+  pub is : o ≡ Some layout
 
-typed : (D : Items → Type 0) (o : Option ValueLayout) (t : Tree) → HasLayout D o t → Typed o
+pub typed : (D : Items → Type 0) (o : Option ValueLayout) (t : Tree) → HasLayout D o t → Typed o
 typed D None t h = absurd h
 typed D (Some layout) t h = record { layout = layout; is = refl }
 
@@ -128,7 +128,7 @@ elements_take D f reads p bs is fits e = rounds_take D f reads (length bs) p bs 
 
 -- ---- and again
 
-behind_type : (b c : ℕ) (bs text : List ℕ) (n : ℕ) → Begins (b ∷ bs) (c ∷ text) n → (b ≡ c) × (Begins bs text (length text))
+pub behind_type : (b c : ℕ) (bs text : List ℕ) (n : ℕ) → Begins (b ∷ bs) (c ∷ text) n → (b ≡ c) × (Begins bs text (length text))
 behind_type b c bs text zero begins = absurd (omega (arith, begins.size))
 behind_type b c bs text (suc n) begins =
     let size : length text ≡ n = omega (arith, begins.size) in

@@ -12,5 +12,8 @@ pub mod Elements
 pub mod Documents
 pub mod Answered
 pub mod Measures
+pub mod Views
+pub mod Deeper
+pub mod Fronts
 pub mod Grammar
 pub mod Offsets

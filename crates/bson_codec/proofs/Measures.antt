@@ -1,15 +1,14 @@
 -- A raw value has its layout exactly where reading takes all of its bytes.
-use Rattle.std.proofs.Common.{◌≡◌, ℕ, Bool, true, false, eqb, List, length, take, Ok, Err, sym, ap, subst, ◌∙◌, refl, []}
+use Rattle.std.proofs.Common.{◌≡◌, ℕ, Bool, true, false, eqb, List, length, take, Ok, Err, sym, ap, subst, ◌∙◌, refl}
 use Rattle.std.specs.Prelude.{MatchBool}
 use Rattle.std.proofs.lemmas.Bool.{eqb-true, eqb-false}
-use Rattle.std.proofs.lemmas.List.{append-nil}
 use Rattle.bson_codec.specs.declared.fault.BsonFault.{BsonFault}
 use Rattle.bson_codec.specs.declared.table.RawLayout.{RawLayout}
 use Rattle.bson_codec.specs.Layout.{IsRaw, IsItems}
 use Rattle.bson_codec.specs.Reading.{raw_at, inside_at}
 use Rattle.bson_codec.proofs.Steps.{ok_is, refused}
 use Rattle.bson_codec.specs.Bytes.{AreBytes}
-use Rattle.bson_codec.proofs.Pieces.{Begins, begins_all, begins_is}
+use Rattle.bson_codec.proofs.Pieces.{begins_all, begins_is}
 use Rattle.bson_codec.proofs.Raws.{raw_takes, raw_again}
 use Rattle.bson_codec.proofs.Documents.{inside_reads}
 

@@ -1,11 +1,11 @@
 -- Numbers of bytes, without the trees that were read.
-use Rattle.std.proofs.Common.{◌≡◌, ℕ, ◌+◌, Bool, true, false, List, Result, Ok, Err, take, refl}
+use Rattle.std.proofs.Common.{◌≡◌, ℕ, ◌+◌, false, List, Result, Ok, Err, take, refl}
 use Rattle.bson_tree.specs.Tree.{Tree, Items, leaf, node}
 use Rattle.bson_codec.specs.declared.fault.BsonFault.{BsonFault}
 use Rattle.bson_codec.specs.declared.table.RawLayout.{RawLayout}
 use Rattle.bson_codec.specs.declared.table.ValueLayout.TheVariants as values
 use Rattle.bson_codec.specs.Fault.{◌>>=◌}
-use Rattle.bson_codec.specs.Reading.{Reader, First, raw_at, value_at, width_of, first_width, fault_of}
+use Rattle.bson_codec.specs.Reading.{Reader, raw_at, value_at, width_of, first_width, fault_of}
 
 of_document : (tag : ℕ) (r : Result (Items × ℕ) BsonFault) → width_of {A = Tree} (r >>= λ x. Ok (node tag x.0, x.1)) ≡ width_of r
 of_document tag (Ok x) = refl

@@ -184,9 +184,9 @@ pub fn stated_length(head: [u8; 4]) -> Result<u32, BsonFault>
     Ok(n)
 }
 
-// The length of the document at the front.
+/// The length of the document at the front.
 #[tactic(auto, unfolding(crate::specs::Reading::total_at, crate::specs::Reading::number_at))]
-fn total_of(bytes: &[u8]) -> Result<usize, BsonFault>
+pub fn total_of(bytes: &[u8]) -> Result<usize, BsonFault>
     requires { length bytes.now ≤ longest }
     ensures read { result ≡ total_at bytes.now }
     ensures fits { IfOk result (λ n. (5 ≤ n) × (n ≤ length bytes.now)) }

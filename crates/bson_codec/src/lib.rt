@@ -11,15 +11,18 @@
 //! Texts and names aren't tested for UTF-8, and the names of array elements are kept as given.
 #![tactic(auto)]
 
+mod borrowed;
 mod checking;
 mod decoding;
 mod encoding;
 mod fault;
+mod front;
 pub mod laws;
 mod measuring;
 mod raw;
 mod table;
 
+pub use borrowed::{RawDoc, check_bson, first_doc};
 pub use decoding::{decode, decode_front, stated_length};
 pub use encoding::encode;
 pub use fault::{BsonFault, BsonKind, CodecFault};

@@ -1,5 +1,5 @@
 -- The loop over elements: a turn, a fault, the end.
-use Rattle.std.proofs.Common.{◌≡◌, ◌<◌, length, ℕ, arith, sym, ◌∙◌}
+use Rattle.std.proofs.Common.{◌≡◌, ◌<◌, length, arith, sym, ◌∙◌}
 use Rattle.std.proofs.lemmas.Bool.{eqb-true, eqb-false}
 use Rattle.std.proofs.lemmas.List.{length-drop}
 use Rattle.std.proofs.lemmas.Result.{err_from_is_err_and}
