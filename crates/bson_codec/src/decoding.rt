@@ -164,6 +164,8 @@ pub fn decode_front(alloc: Global, bytes: &[u8]) -> Result<(Doc, usize), CodecFa
     ensures only { (is : Items) (rest : List ℕ) → IsDoc is → bytes.now ≡ doc_bytes is ++ rest → Gives {Y = Items × ℕ} (λ x. (x.0.kids, x.1)) result (Ok (is, length (doc_bytes is))) }
     // Which tree and length, or which fault.
     ensures exact { Gives (λ x. (x.0.kids, x.1)) result (front_document bytes.now) }
+    // The smallest document has 5 bytes.
+    ensures fits { IfOk result (λ x. (5 ≤ x.1) × (x.1 ≤ length bytes.now)) }
 {
     front_of(alloc, bytes)
 }
@@ -212,6 +214,7 @@ pub fn total_of(bytes: &[u8]) -> Result<usize, BsonFault>
 fn front_of(alloc: Global, bytes: &[u8]) -> Result<(Doc, usize), CodecFault>
     requires { length bytes.now ≤ longest }
     ensures read { Gives (λ x. (x.0.kids, x.1)) result (front_document bytes.now) }
+    ensures fits { IfOk result (λ x. (5 ≤ x.1) × (x.1 ≤ length bytes.now)) }
 {
     let n = total_of(bytes)?;
     let (kids, n) = framed_of(alloc, LEVELS - 1, n, bytes, 0)?;

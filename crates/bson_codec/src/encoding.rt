@@ -38,8 +38,9 @@ fn put_length(out: &mut [u8], at: usize, n: u32)
     out[at..at + 4].copy_from_slice(&n.to_le_bytes());
 }
 
+/// Appends the bytes that spell a value, fewer than 2^31. `Memory` where there is none for them.
 #[cycle(put)]
-fn put_value(out: &mut Vec<u8>, value: &Value) -> Result<(), Memory>
+pub fn put_value(out: &mut Vec<u8>, value: &Value) -> Result<(), Memory>
     requires { length (value_bytes (tree value.now)) < 2 ^ 31 }
     ensures appended { OnOk result (out.new.items ≡ out.old.items ++ value_bytes (tree value.now)) }
 {

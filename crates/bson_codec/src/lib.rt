@@ -24,7 +24,7 @@ mod table;
 
 pub use borrowed::{RawDoc, check_bson, first_doc};
 pub use decoding::{decode, decode_front, stated_length};
-pub use encoding::encode;
+pub use encoding::{encode, put_value};
 pub use fault::{BsonFault, BsonKind, CodecFault};
 pub use measuring::well_formed;
 

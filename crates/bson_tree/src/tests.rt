@@ -83,8 +83,19 @@ fn names_and_values_stand_in_order(rt: HostRuntime) -> Result<(), Fail> {
         Some(b"$db".as_slice())
     );
     assert_eq!(rt; raw_bytes(kids.value(0)), Some(PEOPLE.as_slice()));
+    assert!(rt; kids.len() == 3);
+    let (name, value) = kids.item(1);
+    assert_eq!(rt; name.as_slice(), b"documents".as_slice());
+    assert_eq!(rt; value.tag, 0x04);
     assert!(rt; kids.name(3).is_none());
     assert!(rt; kids.value(3).is_none());
+    Ok(())
+}
+
+#[test]
+fn bytes_of_a_vector_are_kept(rt: HostRuntime) -> Result<(), Fail> {
+    let bytes = Bytes::from_vec(Vec::from_slice(rt.alloc(), b"hr")?);
+    assert_eq!(rt; bytes.as_slice(), b"hr".as_slice());
     Ok(())
 }
 

@@ -1,5 +1,6 @@
 -- Named files, and what one read of a folder says, by its answer.
-use Rattle.std.specs.Prelude.{◌≡◌, ℕ, ◌<◌, ◌≤◌, Option, Some, None, List, [], ◌∷◌, take, drop, length, nat_eq, cond, ◌++◌}
+use Rattle.std.specs.Prelude.{◌≡◌, ℕ, ◌<◌, ◌≤◌, Option, Some, None, List, [], ◌∷◌, take, drop, length, nat_eq, nat_le, min, ◌-◌, cond, if◌then◌else◌, ◌++◌}
+use denote.Ref.{Bor}
 use Rattle.std.specs.Cmp.Lexicographic.{pointwise}
 use Rattle.fle_outside.specs.Counts.{Rose}
 use Rattle.fle_outside.specs.declared.answers.FileAnswer.{FileAnswer}
@@ -30,6 +31,16 @@ GivesAt (Some bytes) at (reads.Took n) piece = (at < length bytes) × (drop at b
 GivesAt (Some bytes) at reads.End piece = length bytes ≤ at
 GivesAt (Some bytes) at reads.Missing piece = ⊥
 GivesAt file at reads.Failed piece = Unit {0}
+
+-- the exact answer of a read that doesn't fail, into a piece of this size
+abbrev pub answer_at : Option (List ℕ) → ℕ → ℕ → FileAnswer
+answer_at None at size = reads.Missing
+answer_at (Some bytes) at size = if nat_le (length bytes) at then reads.End else reads.Took (min size (length bytes - at))
+
+-- a borrowed file is the one that was looked for
+abbrev pub IsFile : Option (List ℕ) → Option (Bor (List ℕ)) → Type 0
+IsFile found None = found ≡ None
+IsFile found (Some bytes) = found ≡ Some bytes.now
 
 -- a folder that tells its files answers from the file of that name
 abbrev pub FileGives : Option Files → List ℕ → ℕ → FileAnswer → List ℕ → Type 0

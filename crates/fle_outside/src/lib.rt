@@ -15,11 +15,28 @@
 #![tactic(auto)]
 
 pub mod answers;
+mod counts;
+pub mod filling;
 pub mod folder;
+pub mod memory_folder;
+pub mod memory_sink;
+pub mod memory_source;
 pub mod sink;
 pub mod source;
+pub mod streams;
+pub mod system_folder;
+#[cfg(test)]
+mod tests;
+pub mod writing;
 
 pub use answers::{Failed, FileAnswer, Memory, ReadAnswer, WriteAnswer};
+pub use filling::{Fill, fill_piece};
 pub use folder::Folder;
+pub use memory_folder::MemFolder;
+pub use memory_sink::MemSink;
+pub use memory_source::MemSource;
 pub use sink::Sink;
 pub use source::Source;
+pub use streams::{StderrSink, StdinSource, StdoutSink};
+pub use system_folder::FileFolder;
+pub use writing::{put_parts, write_whole};

@@ -1,0 +1,51 @@
+-- The lengths of spellings.
+use Rattle.std.proofs.Common.{◌≡◌, ℕ, ◌+◌, List, [], ◌∷◌, ◌++◌, length, arith, length-append}
+use Rattle.std.specs.Prelude.{codes}
+use Rattle.bson_tree.specs.Tree.{Tree, Items, leaf, no_items, item}
+use Rattle.bson_tree.specs.Spelling.{framed, value_bytes, items_bytes}
+use Rattle.encrypt_schema.specs.declared.policy.Policy.{Policy}
+use Rattle.command_marker.specs.Marking.{algorithm_number, key_id, binary, marking_fields, marking, marked_value}
+
+-- a document has 5 bytes more than its elements
+pub framed_size : (elements : List ℕ) → length (framed elements) ≡ length elements + 5
+framed_size elements = omega (arith, length-append elements (0 ∷ []))
+
+-- an element has its type byte, its name, 00 and its value
+pub element_size : (name : List ℕ) (t : Tree) (is : Items)
+    → length (items_bytes (item name t is)) ≡ length name + 2 + length (value_bytes t) + length (items_bytes is)
+element_size name t is =
+    omega (arith, length-append name (0 ∷ (value_bytes t ++ items_bytes is)), length-append (value_bytes t) (items_bytes is))
+
+-- a binary has its length in four bytes, its subtype, and its contents
+binary_size : (subtype : ℕ) (contents : List ℕ) → length (value_bytes (binary subtype contents)) ≡ length contents + 5
+binary_size subtype contents = omega arith
+
+-- the fields of a marking have 35 bytes more than the value, where the key's id has 16
+pub marking_fields_size : (policy : Policy) (t : Tree) → length (key_id policy.key) ≡ 16
+    → length (items_bytes (marking_fields policy t)) ≡ length (value_bytes t) + 35
+unfolding marking_fields
+marking_fields_size policy t id =
+    let ki = binary 4 (key_id policy.key) in
+    let a = leaf 16 (algorithm_number policy.algorithm ∷ 0 ∷ 0 ∷ 0 ∷ []) in
+    let last = item (codes "ki") ki no_items in
+    let rest = item (codes "a") a last in
+    omega (
+      arith,
+      id,
+      element_size (codes "v") t rest,
+      element_size (codes "a") a last,
+      element_size (codes "ki") ki no_items,
+      binary_size 4 (key_id policy.key),
+    )
+
+-- a marking, as it stands in a command, has 46 bytes more than its value
+pub marking_size : (policy : Policy) (t : Tree) → length (key_id policy.key) ≡ 16
+    → length (value_bytes (marked_value policy t)) ≡ length (value_bytes t) + 46
+unfolding marked_value
+marking_size policy t id =
+    omega (
+      arith,
+      marking_fields_size policy t id,
+      binary_size 6 (marking policy t),
+      framed_size (items_bytes (marking_fields policy t)),
+    )

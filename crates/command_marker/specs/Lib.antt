@@ -1,0 +1,6 @@
+pub mod Insert
+pub mod Marking
+pub mod Marked
+pub mod Reply
+pub mod Verdict
+pub mod Seen

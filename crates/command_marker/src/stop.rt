@@ -1,0 +1,25 @@
+//! Why a command gets no reply.
+
+use fle_outside::Memory;
+
+/// Why a command gets no reply.
+#[derive(Clone, Copy, Debug, PartialEq, Eq)]
+pub enum MarkStop {
+    /// The command is of a form that isn't read yet.
+    NotBuilt,
+    /// The reply would have more than 48,000,000 bytes.
+    TooLong,
+    /// There was no memory for the reply. It may come at any time.
+    Memory,
+}
+
+impl From<Memory> for MarkStop {
+    ghost use Rattle.command_marker.specs.declared.stop.MarkStop.TheVariants as stops;
+    ghost use Rattle.std.specs.Prelude.{◌≡◌};
+
+    ghost from_gives = { λ _ e. e ≡ stops.Memory };
+
+    fn from(_memory: Memory) -> MarkStop {
+        MarkStop::Memory
+    }
+}

@@ -1,0 +1,3 @@
+pub mod Standings
+pub mod Names
+pub mod Files

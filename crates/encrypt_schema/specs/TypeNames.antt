@@ -1,0 +1,44 @@
+-- The alias of each BSON type in a schema's `bsonType`, with its type byte
+use Rattle.std.specs.Prelude.{ℕ, ◌==◌, ◌||◌, Bool, List, [], ◌∷◌, Option, Some, None, codes, if◌then◌else◌}
+use Rattle.bson_tree.specs.Tree.{Tree, Items, no_items, item}
+use Rattle.encrypt_schema.specs.Fields.{◌>>=◌, same_name, text_of}
+
+-- the type byte behind a name, in a table of names
+abbrev pub byte_in : List ℕ → List (List ℕ × ℕ) → Option ℕ
+byte_in name [] = None
+byte_in name (row ∷ rows) = if same_name row.0 name then Some row.1 else byte_in name rows
+
+-- BSON 1.1: the types that a schema can name
+abbrev pub type_names : List (List ℕ × ℕ)
+type_names =
+    (codes "double", 1)
+    ∷ (codes "string", 2)
+    ∷ (codes "object", 3)
+    ∷ (codes "array", 4)
+    ∷ (codes "binData", 5)
+    ∷ (codes "bool", 8)
+    ∷ (codes "int", 16)
+    ∷ []
+
+unfoldable pub type_byte : List ℕ → Option ℕ
+type_byte name = byte_in name type_names
+
+-- every type that the random algorithm can protect: the rule where a schema names none
+abbrev pub every_type : List ℕ
+every_type = 1 ∷ 2 ∷ 3 ∷ 4 ∷ 5 ∷ 8 ∷ 16 ∷ []
+
+-- the types that the deterministic algorithm can protect: those with few enough values apart to compare
+abbrev pub is_comparable : ℕ → Bool
+is_comparable tag = (tag == 2) || (tag == 5) || (tag == 16)
+
+-- the type that a string names
+abbrev pub type_of_text : Tree → Option ℕ
+type_of_text t = text_of t >>= type_byte
+
+-- the type bytes of the names in an array
+abbrev pub bytes_of_names : Items → Option (List ℕ)
+bytes_of_names no_items = Some []
+bytes_of_names (item n t is) = do
+  byte ← type_of_text t
+  bytes ← bytes_of_names is
+  Some (byte ∷ bytes)

@@ -1,0 +1,65 @@
+//! What a rule says of a field: the algorithm, the key and the types, as the MongoDB Client Side
+//! Encryption specification names them.
+
+ghost use Rattle.std.specs.Prelude.{◌≡◌, ◌==◌};
+ghost use Rattle.std.specs.List.{list_any};
+
+use bson_tree::Bytes;
+use std::marker::Model;
+
+/// How a value is sealed.
+#[derive(Clone, Copy, Debug, PartialEq, Eq)]
+pub enum Algorithm {
+    /// `AEAD_AES_256_CBC_HMAC_SHA_512-Deterministic`: equal values give equal payloads.
+    Deterministic,
+    /// `AEAD_AES_256_CBC_HMAC_SHA_512-Random`: each payload has a random initial vector.
+    Random,
+}
+
+/// Which data key seals a value.
+#[derive(Clone, Copy, Debug, PartialEq, Eq)]
+pub enum KeyRef {
+    /// The key with this id, a UUID.
+    Id([u8; 16]),
+}
+
+/// The BSON types that a rule protects, seen as their type bytes.
+#[derive(Drop)]
+pub struct TypeSet {
+    types: Bytes,
+}
+
+impl Model for TypeSet {
+    ghost use Rattle.std.specs.Prelude.{ℕ, List};
+
+    ghost Value = { List ℕ };
+
+    ghost view = { λ s. s.types };
+}
+
+impl TypeSet {
+    /// The set of these type bytes.
+    pub(crate) fn new(types: Bytes) -> TypeSet
+        ensures same { result ≡ types }
+    {
+        TypeSet { types }
+    }
+
+    /// Whether the set has the type with this type byte.
+    pub fn has(&self, tag: u8) -> bool
+        ensures member { result ≡ list_any (λ t. t == tag) self.now }
+    {
+        self.types.as_slice().iter().any(|t| *t == tag)
+    }
+}
+
+/// The rule of a field.
+#[derive(Drop)]
+pub struct Policy {
+    /// How its values are sealed.
+    pub algorithm: Algorithm,
+    /// The key that seals them.
+    pub key: KeyRef,
+    /// The types that they may have.
+    pub types: TypeSet,
+}

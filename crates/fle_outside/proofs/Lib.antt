@@ -1,0 +1,2 @@
+pub mod PartWay
+pub mod Pieces

@@ -1,0 +1,16 @@
+-- What filling a piece takes from a source that tells what it has left.
+use Rattle.std.specs.Prelude.{◌≡◌, ℕ, ◌<◌, ◌≤◌, Option, Some, List, [], ◌++◌, length, drop}
+use Rattle.fle_outside.specs.declared.filling.Fill.{Fill}
+use Rattle.fle_outside.specs.declared.filling.Fill.TheVariants as fills
+
+-- whole: the piece is the front of what was left; ended: the piece begins with all that was left; failed: at most the piece's length was handed out
+abbrev pub FillTakes : List ℕ → Option (List ℕ) → Fill → List ℕ → Type 0
+FillTakes told after fills.Whole piece = (told ≡ piece ++ drop (length piece) told) × (after ≡ Some (drop (length piece) told))
+FillTakes told after (fills.Ended n) piece = (length told ≡ n) × (after ≡ Some [])
+FillTakes told after fills.Failed piece = (m : ℕ) × (m ≤ length piece) × (after ≡ Some (drop m told))
+
+-- a source that ended gave fewer bytes than the piece has
+abbrev pub FillWithin : Fill → ℕ → Type 0
+FillWithin fills.Whole size = Unit {0}
+FillWithin (fills.Ended n) size = n < size
+FillWithin fills.Failed size = Unit {0}

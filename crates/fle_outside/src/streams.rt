@@ -1,0 +1,141 @@
+//! The system's standard input, standard output and standard error.
+
+ghost use Rattle.std.specs.Prelude.{◌≡◌, ◌<◌, length, None};
+ghost use Rattle.fle_outside.specs.Reads.{ReadWithin, ReadCause};
+ghost use Rattle.fle_outside.specs.Writes.{WriteWithin, WriteCause};
+
+use crate::answers::{ReadAnswer, WriteAnswer};
+use crate::sink::Sink;
+use crate::source::Source;
+use std::io::{ErrorKind, Read, Write};
+
+/// How often a call is made again that a signal cut off.
+const TURNS: u64 = u64::MAX;
+
+/// Standard input, or another reader of the system. It tells nothing and is assured of nothing.
+#[derive(Drop)]
+pub struct StdinSource<R> {
+    reader: R,
+    faults: u64,
+}
+
+/// Standard output, or another writer of the system. It tells nothing and is assured of nothing.
+#[derive(Drop)]
+pub struct StdoutSink<W> {
+    writer: W,
+    faults: u64,
+}
+
+/// Standard error, or another writer of the system. It tells nothing and is assured of nothing.
+#[derive(Drop)]
+pub struct StderrSink<W> {
+    writer: W,
+    faults: u64,
+}
+
+impl<R: Read> StdinSource<R> {
+    /// A source over this reader, with no fault so far.
+    pub fn new(reader: R) -> StdinSource<R>
+        ensures { result ≡ record { reader = reader; faults = 0 } }
+    {
+        StdinSource { reader, faults: 0 }
+    }
+}
+
+impl<W: Write> StdoutSink<W> {
+    /// A sink over this writer, with no fault so far.
+    pub fn new(writer: W) -> StdoutSink<W>
+        ensures { result ≡ record { writer = writer; faults = 0 } }
+    {
+        StdoutSink { writer, faults: 0 }
+    }
+}
+
+impl<W: Write> StderrSink<W> {
+    /// A sink over this writer, with no fault so far.
+    pub fn new(writer: W) -> StderrSink<W>
+        ensures { result ≡ record { writer = writer; faults = 0 } }
+    {
+        StderrSink { writer, faults: 0 }
+    }
+}
+
+impl<R: Read> Source for StdinSource<R> {
+    ghost left = { λ _. None };
+
+    ghost faults = { λ s. s.faults };
+
+    ghost assured = { λ _. ⊥ };
+
+    fn read(&mut self, piece: &mut [u8]) -> ReadAnswer {
+        read_some(&mut self.reader, &mut self.faults, piece)
+    }
+}
+
+impl<W: Write> Sink for StdoutSink<W> {
+    ghost written = { λ _. None };
+
+    ghost faults = { λ s. s.faults };
+
+    ghost assured = { λ _. 0 };
+
+    fn write(&mut self, piece: &[u8]) -> WriteAnswer {
+        write_some(&mut self.writer, &mut self.faults, piece)
+    }
+}
+
+impl<W: Write> Sink for StderrSink<W> {
+    ghost written = { λ _. None };
+
+    ghost faults = { λ s. s.faults };
+
+    ghost assured = { λ _. 0 };
+
+    fn write(&mut self, piece: &[u8]) -> WriteAnswer {
+        write_some(&mut self.writer, &mut self.faults, piece)
+    }
+}
+
+/// Reads once, counts each error, and reads again after one that came from a signal.
+fn read_some<R: Read>(reader: &mut R, faults: &mut u64, piece: &mut [u8]) -> ReadAnswer
+    requires { 0 < length piece.old }
+    ensures within { ReadWithin result (length piece.new) }
+    ensures cause { ReadCause faults.old faults.new result }
+{
+    for _turn in 0..TURNS {
+        match reader.read(piece) {
+            Ok(0) => return ReadAnswer::End,
+            Ok(n) => return ReadAnswer::Took(n),
+            Err(error) => {
+                *faults = faults.saturating_add(1);
+                if error.kind() != ErrorKind::Interrupted {
+                    return ReadAnswer::Failed;
+                }
+            }
+        }
+    }
+    ReadAnswer::Failed
+}
+
+/// Writes once, counts each error, and writes again after one that came from a signal. A writer that
+/// takes nothing has failed.
+fn write_some<W: Write>(writer: &mut W, faults: &mut u64, piece: &[u8]) -> WriteAnswer
+    requires { 0 < length piece.now }
+    ensures within { WriteWithin result (length piece.now) }
+    ensures cause { WriteCause faults.old faults.new result }
+{
+    for _turn in 0..TURNS {
+        let taken = writer.write(piece);
+        if let Ok(n) = taken
+            && n > 0
+        {
+            return WriteAnswer::Took(n);
+        }
+        *faults = faults.saturating_add(1);
+        match taken {
+            Err(error) if error.kind() == ErrorKind::Interrupted => {}
+            _ => return WriteAnswer::Failed,
+        }
+    }
+    WriteAnswer::Failed
+}

@@ -1,0 +1,89 @@
+//! What no clause says: that each call can succeed, and what the system's streams and files do.
+
+use super::*;
+use std::fs;
+use std::test::Fail;
+
+#[test]
+fn source_hands_out_its_bytes_in_steps(rt: HostRuntime) -> Result<(), Fail> {
+    let alloc = rt.alloc();
+    let bytes = vec![in alloc; 1u8, 2, 3, 4, 5]?;
+    let mut source = MemSource::new(bytes, 2, vec![in alloc; 1u64]?);
+    let mut piece = [0u8; 4];
+    assert_eq!(rt; source.read(&mut piece), ReadAnswer::Took(2));
+    assert_eq!(rt; piece, [1, 2, 0, 0]);
+    assert_eq!(rt; source.read(&mut piece), ReadAnswer::Failed);
+    assert_eq!(rt; fill_piece(&mut source, &mut piece), Fill::Ended(3));
+    assert_eq!(rt; piece, [3, 4, 5, 0]);
+    assert_eq!(rt; source.read(&mut piece), ReadAnswer::End);
+    Ok(())
+}
+
+#[test]
+fn folder_reads_its_files_by_name(rt: HostRuntime) -> Result<(), Fail> {
+    let alloc = rt.alloc();
+    let name = String::from_str(alloc, "keys")?;
+    let bytes = vec![in alloc; 7u8, 8, 9]?;
+    let files = vec![in alloc; (name, bytes)]?;
+    let mut folder = MemFolder::new(files, vec![in alloc; 3u64]?);
+    let mut piece = [0u8; 2];
+    assert_eq!(rt; folder.read_at("keys", 1, &mut piece), FileAnswer::Took(2));
+    assert_eq!(rt; piece, [8, 9]);
+    assert_eq!(rt; folder.read_at("keys", 3, &mut piece), FileAnswer::End);
+    assert_eq!(rt; folder.read_at("key", 0, &mut piece), FileAnswer::Missing);
+    assert_eq!(rt; folder.read_at("keys", 0, &mut piece), FileAnswer::Failed);
+    Ok(())
+}
+
+#[test]
+fn sink_takes_bytes_until_it_is_full(rt: HostRuntime) -> Result<(), Fail> {
+    let alloc = rt.alloc();
+    let mut sink = MemSink::new(alloc, 6, 2, vec![in alloc; 1u64]?)
+        .ok()
+        .ok_or("memory")?;
+    assert_eq!(rt; sink.write(b"abc"), WriteAnswer::Took(2));
+    assert_eq!(rt; sink.write(b"c"), WriteAnswer::Failed);
+    assert_eq!(rt; put_parts(&mut sink, &[b"c", b"de"]), Ok(()));
+    assert_eq!(rt; write_whole(&mut sink, b"fg"), Err(Failed));
+    assert_eq!(rt; sink.written(), b"abcdef".as_slice());
+    Ok(())
+}
+
+#[test]
+fn standard_input_is_read_to_its_end(rt: HostRuntime) {
+    let mut source = StdinSource::new(b"xyz".as_slice());
+    let mut piece = [0u8; 2];
+    assert_eq!(rt; source.read(&mut piece), ReadAnswer::Took(2));
+    assert_eq!(rt; piece, *b"xy");
+    assert_eq!(rt; source.read(&mut piece), ReadAnswer::Took(1));
+    assert_eq!(rt; source.read(&mut piece), ReadAnswer::End);
+}
+
+#[test]
+fn standard_output_takes_a_line(rt: HostRuntime) {
+    let mut sink = StdoutSink::new(rt.stdout());
+    assert_eq!(rt; sink.write(b"one line\n"), WriteAnswer::Took(9));
+}
+
+#[test]
+fn standard_error_takes_a_line(rt: HostRuntime) {
+    let mut sink = StderrSink::new(rt.stderr());
+    assert_eq!(rt; sink.write(b"one line\n"), WriteAnswer::Took(9));
+}
+
+#[test]
+fn files_are_opened_by_name(rt: HostRuntime) -> Result<(), Fail> {
+    let name = "fle_outside_files_are_opened_by_name";
+    fs::write(&rt, name, b"abcd")?;
+    let mut piece = [0u8; 3];
+    let mut folder = FileFolder::new(&rt);
+    let front = folder.read_at(name, 0, &mut piece);
+    let end = folder.read_at(name, 4, &mut piece);
+    fs::remove_file(&rt, name)?;
+    assert_eq!(rt; front, FileAnswer::Took(3));
+    assert_eq!(rt; piece, *b"abc");
+    assert_eq!(rt; end, FileAnswer::End);
+    assert_eq!(rt; folder.read_at(name, 0, &mut piece), FileAnswer::Missing);
+    assert_eq!(rt; folder.read_at(".", 0, &mut piece), FileAnswer::Failed);
+    Ok(())
+}
