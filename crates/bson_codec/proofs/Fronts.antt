@@ -30,7 +30,7 @@ use Rattle.bson_codec.proofs.Deeper.{inside_is_doc}
 -- ---- types with documents inside
 
 -- whether a value of this layout is a document
-abbrev is_document : ValueLayout → Bool
+abbrev pub is_document : ValueLayout → Bool
 is_document values.Document = true
 is_document (values.Raw layout) = false
 

@@ -15,5 +15,6 @@ pub mod Measures
 pub mod Views
 pub mod Deeper
 pub mod Fronts
+pub mod Items
 pub mod Grammar
 pub mod Offsets

@@ -17,8 +17,8 @@ use std::marker::Model;
 /// the outermost bytes that were checked.
 #[derive(Drop)]
 pub struct RawDoc<'a> {
-    bytes: &'a [u8],
-    start: usize,
+    pub(crate) bytes: &'a [u8],
+    pub(crate) start: usize,
 }
 
 impl<'a> Model for RawDoc<'a> {

@@ -17,6 +17,8 @@ mod decoding;
 mod encoding;
 mod fault;
 mod front;
+mod item;
+mod iter;
 pub mod laws;
 mod measuring;
 mod raw;
@@ -26,6 +28,8 @@ pub use borrowed::{RawDoc, check_bson, first_doc};
 pub use decoding::{decode, decode_front, stated_length};
 pub use encoding::{encode, put_value};
 pub use fault::{BsonFault, BsonKind, CodecFault};
+pub use item::RawItem;
+pub use iter::RawIter;
 pub use measuring::well_formed;
 
 #[cfg(test)]

@@ -1,0 +1,80 @@
+//! The elements of a checked document, one after the other.
+
+ghost use Rattle.std.specs.Prelude.{◌≡◌, ◌+◌, ◌<◌, ◌^◌};
+ghost use Rattle.bson_tree.specs.Tree.{count};
+
+use crate::borrowed::RawDoc;
+use crate::front::parts_of;
+use crate::item::RawItem;
+use std::marker::Model;
+
+/// The elements that are left of a checked document, and the offset of the first of them.
+#[derive(Drop)]
+pub struct RawIter<'a> {
+    rest: &'a [u8],
+    at: usize,
+}
+
+impl<'a> Model for RawIter<'a> {
+    ghost use Rattle.std.specs.Prelude.{◌<◌, ◌+◌, ◌^◌, length};
+    ghost use Rattle.bson_codec.specs.Raw.{At, coded_at, elements_of, SpellsElements};
+
+    ghost Value = { At };
+
+    ghost coded = { coded_at };
+
+    ghost view = { λ i. record { tree = elements_of i.rest.now; start = i.at } };
+
+    ghost invariant = { λ i. (i.at + length i.rest.now < 2 ^ 31) × SpellsElements i.rest.now };
+}
+
+impl<'a> RawDoc<'a> {
+    /// The elements in order.
+    pub fn items(&self) -> RawIter<'a>
+        ensures elements { result ≡ record { tree = self.now.tree; start = self.now.start + 4 } }
+    {
+        let n = self.bytes.len();
+        RawIter {
+            rest: &self.bytes[4..n - 1],
+            at: self.start + 4,
+        }
+    }
+}
+
+impl<'a> RawIter<'a> {
+    /// The same elements again.
+    pub fn again(&self) -> RawIter<'a>
+        ensures same { result ≡ self.now }
+    {
+        RawIter {
+            rest: self.rest,
+            at: self.at,
+        }
+    }
+}
+
+impl<'a> Iterator for RawIter<'a> {
+    ghost use Rattle.bson_codec.specs.Elements.{TakesElement, elements_left};
+
+    type Item = RawItem<'a>;
+
+    ghost next_gives = { TakesElement };
+
+    ghost remaining = { elements_left };
+
+    fn next(&mut self) -> Option<RawItem<'a>> {
+        let Some(parts) = parts_of(self.rest) else {
+            return None;
+        };
+        let start = self.at + (2 + parts.name.len());
+        let item = RawItem {
+            tag: parts.tag,
+            name: parts.name,
+            value: parts.value,
+            start,
+        };
+        self.rest = parts.rest;
+        self.at = start + parts.value.len();
+        Some(item)
+    }
+}
