@@ -43,7 +43,7 @@ value_takes D f reads tag (values.Raw layout) p bs x fits row e =
     let laid : IsValue D (leaf tag (take a.value bs)) = subst (λ (o : Option ValueLayout). HasLayout D o (leaf tag (take a.value bs))) (sym row) read.laid in
     subst (λ (y : Tree × ℕ). ValueRead D tag bs y) (ok_is made x a.then) (record { laid = laid; type = refl; parts = begins_take a.value bs read.fits })
 
-laid_again : (D : Items → Type 0) (f : Reader) (reads : Reads f D) (layout : ValueLayout) (p : ℕ) (bs : List ℕ) (t : Tree) (n : ℕ) → HasLayout D (Some layout) t → Begins bs (value_bytes t) n
+pub laid_again : (D : Items → Type 0) (f : Reader) (reads : Reads f D) (layout : ValueLayout) (p : ℕ) (bs : List ℕ) (t : Tree) (n : ℕ) → HasLayout D (Some layout) t → Begins bs (value_bytes t) n
     → value_at f (tag_of t) layout p bs ≡ Ok (t, n)
 unfolding value_at
 laid_again D f reads values.Document p bs (leaf tag bytes) n laid begins = absurd laid

@@ -1,6 +1,6 @@
 -- What an element's parts say of its tree.
-use Rattle.std.proofs.Common.{◌≡◌, ℕ, ◌+◌, ◌-◌, ◌^◌, ◌<◌, ◌≤◌, Bool, true, false, cond, List, [], ◌∷◌, ◌++◌, length, get_or, take, drop, Option, Some, None, refl, sym, ap, subst, ◌∙◌, arith}
-use Rattle.bson_tree.specs.Tree.{Tree, Items, leaf, node, no_items, item, tag_of}
+use Rattle.std.proofs.Common.{◌≡◌, ℕ, ◌-◌, ◌≤◌, Bool, true, false, cond, List, [], ◌∷◌, ◌++◌, length, get_or, take, drop, Option, Some, refl, sym, ap, subst, ◌∙◌, arith}
+use Rattle.bson_tree.specs.Tree.{Tree, Items, leaf, node, tag_of}
 use Rattle.std.proofs.lemmas.List.{take_at, length-append}
 use Rattle.bson_tree.specs.Spelling.{value_bytes, items_bytes, doc_bytes}
 use Rattle.bson_codec.specs.declared.table.ValueLayout.{ValueLayout}
@@ -8,7 +8,7 @@ use Rattle.bson_codec.specs.declared.table.ValueLayout.TheVariants as values
 use Rattle.bson_codec.specs.declared.table.RawLayout.TheVariants as raws
 use Rattle.bson_codec.specs.Table.{layout_of}
 use Rattle.bson_codec.specs.Raw.{doc_of, elements_of, is_inner, value_tree, SpellsDoc, SpellsElements, SpellsValue}
-use Rattle.bson_codec.specs.Layout.{IsItems, IsValue, HasLayout, IsString, IsBinary, string_bytes, binary_bytes, level_limit}
+use Rattle.bson_codec.specs.Layout.{IsItems, HasLayout, IsString, IsBinary, string_bytes, binary_bytes, level_limit}
 use Rattle.bson_codec.proofs.Elements.{typed}
 use Rattle.bson_codec.proofs.Views.{doc_of_spelling}
 use Rattle.bson_codec.proofs.Deeper.{inside_is_doc}

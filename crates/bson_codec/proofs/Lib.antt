@@ -16,5 +16,6 @@ pub mod Views
 pub mod Deeper
 pub mod Fronts
 pub mod Items
+pub mod Values
 pub mod Grammar
 pub mod Offsets

@@ -1,5 +1,5 @@
 -- Documents, their elements and lists of elements as they stand in bytes that were checked.
-use Rattle.std.specs.Prelude.{◌≡◌, ◌-◌, ℕ, Bool, ◌||◌, ◌==◌, List, [], Result, Ok, Err, refl, if◌then◌else◌}
+use Rattle.std.specs.Prelude.{◌≡◌, ◌-◌, ℕ, Bool, ◌||◌, ◌==◌, List, [], Result, Ok, Err, refl, if◌then◌else◌, ◌+◌, ◌&&◌, nat_lt, length, Option, Some, None}
 use Rattle.std.specs.Coded.{Coded, code_by, coded×, coded_ℕ}
 use Rattle.bson_tree.specs.Tree.{Tree, Items, leaf, node, no_items, item, tag_of}
 use Rattle.bson_tree.specs.Spelling.{value_bytes, items_bytes, doc_bytes}
@@ -83,3 +83,22 @@ pub record SpellsValue (tag : ℕ) (bs : List ℕ) : Type 0 where
 abbrev pub Seen : {X Y : Type 0} → (X → Y) → Result X BsonFault → Result Y BsonFault → Type 0
 Seen view (Ok x) read = read ≡ Ok (view x)
 Seen view (Err f) read = read ≡ Err f
+
+-- the bytes are the spelling of a value of this type that adds at most so many levels
+pub record SpellsWithin (levels tag : ℕ) (bs : List ℕ) : Type 0 where
+  pub tree : Tree
+  pub laid : IsValue (IsItems levels) tree
+  pub type : tag_of tree ≡ tag
+  pub parts : bs ≡ value_bytes tree
+
+-- the value of the element begins at `at` or, being a document or an array, holds it
+abbrev pub holds : ℕ → Elem → Bool
+holds at e = e.start == at || (is_inner (tag_of e.tree) && (nat_lt e.start at && nat_lt at (e.start + length (value_bytes e.tree))))
+
+-- the first element that holds `at`, and its number, among elements from number i on that begin at `start`
+abbrev pub holding : ℕ → ℕ → ℕ → Items → Option (ℕ × Elem)
+holding at i start no_items = None
+holding at i start (item name t is) =
+    if holds at (record { name = name; tree = t; start = start + (2 + length name) })
+    then Some (i, record { name = name; tree = t; start = start + (2 + length name) })
+    else holding at (i + 1) (start + (2 + length name) + length (value_bytes t)) is

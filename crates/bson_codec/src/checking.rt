@@ -1,14 +1,30 @@
 //! Bytes judged without a tree, in no memory: the same faults, and the number of bytes.
 
-ghost use Rattle.std.specs.Prelude.{◌≡◌, ◌+◌, ◌<◌, ◌≤◌, ◌^◌, length, IfOk};
+ghost use Rattle.std.specs.Prelude.{◌≡◌, ◌+◌, ◌<◌, ◌≤◌, ◌^◌, length, IfOk, MatchBool};
 ghost use Rattle.bson_codec.specs.Reading.{raw_at, scope_at, value_at, first_at, elements_at, framed_at, inside_at, width_of, first_width, fault_of};
+ghost use Rattle.bson_codec.specs.Raw.{SpellsWithin};
 
 use crate::fault::{BsonFault, BsonKind};
 use crate::raw::{
     binary_length, bool_length, fixed_length, inside_length, layout_behind, length_of, name_length,
     number_of, pointer_length, regex_length, string_length, zero_of,
 };
-use crate::table::{RawLayout, ValueLayout};
+use crate::table::{RawLayout, ValueLayout, layout_of};
+
+/// Whether the bytes spell a value of this type that adds at most `levels` levels of nesting (BSON 1.1).
+/// Fewer than 2^31 bytes.
+pub fn check_value(tag: u8, bytes: &[u8], levels: u32) -> bool
+    requires { length bytes.now < 2 ^ 31 }
+    ensures spelled { MatchBool result (SpellsWithin levels tag bytes.now) (SpellsWithin levels tag bytes.now → ⊥) }
+{
+    match layout_of(tag) {
+        None => false,
+        Some(layout) => match check_laid(levels, tag, layout, bytes, 0) {
+            Ok(n) => n == bytes.len(),
+            Err(_) => false,
+        },
+    }
+}
 
 /// The number of bytes of a raw value of this layout, in which documents may add so many levels.
 #[cycle(check)]

@@ -4,7 +4,7 @@ ghost use Rattle.std.specs.Prelude.{◌≡◌, ◌+◌, ◌<◌, ◌^◌, ◌==�
 ghost use Rattle.bson_tree.specs.Spelling.{value_bytes};
 ghost use Rattle.bson_tree.specs.Tree.{leaf, node, no_items, tag_of, kids_of};
 ghost use Rattle.bson_codec.specs.Layout.{string_bytes, binary_bytes};
-ghost use Rattle.bson_codec.specs.Raw.{is_inner, SpellsValue};
+ghost use Rattle.bson_codec.specs.Raw.{holds, is_inner, SpellsValue};
 
 use crate::borrowed::RawDoc;
 use std::marker::Model;
@@ -100,6 +100,15 @@ impl<'a> RawItem<'a> {
         }
         Some(contents_of(self.value))
     }
+}
+
+/// Whether the element's value begins at `at` or, being 03 or 04, holds it.
+pub(crate) fn holds_offset(item: &RawItem<'_>, at: usize) -> bool
+    ensures holds { result ≡ holds at item.now }
+{
+    let start = item.start();
+    let inner = has_document(item.tag());
+    start == at || (inner && start < at && at < start + item.value().len())
 }
 
 // Whether values of this type hold a document: embedded document and array.

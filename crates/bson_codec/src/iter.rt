@@ -1,11 +1,12 @@
 //! The elements of a checked document, one after the other.
 
-ghost use Rattle.std.specs.Prelude.{◌≡◌, ◌+◌, ◌<◌, ◌^◌};
+ghost use Rattle.std.specs.Prelude.{◌≡◌, ◌+◌, ◌<◌, ◌^◌, option_map};
 ghost use Rattle.bson_tree.specs.Tree.{count};
+ghost use Rattle.bson_codec.specs.Raw.{holding};
 
 use crate::borrowed::RawDoc;
 use crate::front::parts_of;
-use crate::item::RawItem;
+use crate::item::{RawItem, holds_offset};
 use std::marker::Model;
 
 /// The elements that are left of a checked document, and the offset of the first of them.
@@ -32,12 +33,28 @@ impl<'a> RawDoc<'a> {
     /// The elements in order.
     pub fn items(&self) -> RawIter<'a>
         ensures elements { result ≡ record { tree = self.now.tree; start = self.now.start + 4 } }
+        ensures few { count self.now.tree < 2 ^ 31 }
     {
         let n = self.bytes.len();
         RawIter {
             rest: &self.bytes[4..n - 1],
             at: self.start + 4,
         }
+    }
+
+    /// The element whose value begins at `at` or, being 03 or 04, holds it, and its number from 0; `None`
+    /// exactly where there is none.
+    pub fn child_holding(&self, at: usize) -> Option<(u32, RawItem<'a>)>
+        ensures found { option_map (λ x. (x.0, x.1)) result ≡ holding at 0 (self.now.start + 4) self.now.tree }
+    {
+        let mut number = 0;
+        for item in self.items() {
+            if holds_offset(&item, at) {
+                return Some((number, item));
+            }
+            number += 1;
+        }
+        None
     }
 }
 

@@ -1,5 +1,5 @@
 -- The parts of a binary.
-use Rattle.std.proofs.Common.{◌≡◌, ◌≤◌, length, arith, List, ℕ}
+use Rattle.std.proofs.Common.{arith}
 use Rattle.std.proofs.lemmas.List.{length-drop}
 use Rattle.bson_codec.proofs.Items.{binary_spelled, binary_long, contents_are}
 use Rattle.bson_codec.proofs.item.contents_of.Goals as goal

@@ -1,7 +1,6 @@
 -- The parts of a string.
-use Rattle.std.proofs.Common.{◌≡◌, ◌≤◌, length, arith, subst, List, ℕ}
+use Rattle.std.proofs.Common.{arith}
 use Rattle.std.proofs.lemmas.List.{length-drop}
-use Rattle.bson_codec.specs.Layout.{string_bytes}
 use Rattle.bson_codec.proofs.Items.{string_spelled, string_long, text_is}
 use Rattle.bson_codec.proofs.item.text_of.Goals as goal
 
