@@ -1,19 +1,20 @@
 -- Documents: what is read is spelled so, and what is spelled so is read.
-use Rattle.std.proofs.Common.{◌≡◌, ℕ, zero, suc, ◌+◌, ◌-◌, ◌^◌, ◌<◌, ◌≤◌, false, ltb, leb, eqb, List, [], ◌∷◌, ◌++◌, length, take, drop, Ok, refl, sym, ap, subst, ◌∙◌, arith}
+use Rattle.std.proofs.Common.{◌≡◌, ℕ, zero, suc, ◌+◌, ◌-◌, ◌^◌, ◌<◌, ◌≤◌, Bool, true, false, not, ◌&&◌, ltb, leb, eqb, List, [], ◌∷◌, ◌++◌, length, take, drop, Ok, refl, sym, ap, subst, ◌∙◌, arith}
 use Rattle.std.specs.Int.{w32, to_le_bytes}
-use Rattle.std.proofs.lemmas.Bool.{ltb-false, le-ltb, leb-false, lt-leb, ne_eqb}
+use Rattle.std.proofs.lemmas.Bool.{ltb-false, le-ltb, leb-false, lt-leb, ne_eqb, eq-eqb, eqb-true, eqb-false, not-false}
 use Rattle.std.proofs.lemmas.List.{drop-drop, length-drop, append-nil, nil_from_length}
 use Rattle.bson_tree.specs.Tree.{Items}
 use Rattle.bson_tree.specs.Spelling.{framed, items_bytes, doc_bytes}
 use Rattle.bson_codec.specs.Fault.{fault_if}
 use Rattle.bson_codec.specs.Layout.{IsInside, AreElements, IsItems, IsDoc, level_limit}
-use Rattle.bson_codec.specs.Reading.{Reader, signed_below, number_at, length_at, zero_at, elements_at, framed_at, nested_at, inside_at, stated_at, total_at, front_document, document}
+use Rattle.bson_codec.specs.Reading.{Reader, signed_below, number_at, length_at, zero_at, elements_at, framed_at, inside_length_at, nested_at, inside_at, stated_at, total_at, front_document, document}
 use Rattle.bson_codec.proofs.Steps.{ok_is, bind_ok, none_if, chose_ok, neither, refused}
 use Rattle.bson_codec.specs.Bytes.{AreBytes}
 use Rattle.bson_codec.proofs.Pieces.{AreBytes-drop, AreBytes-take, Begins, begins_take, begins_then, begins_is, begins_fits, begins_of, begins_first, begins_second}
 use Rattle.bson_codec.proofs.Lengths.{number_takes, number_again, length_takes, length_again, zero_takes, zero_again}
 use Rattle.bson_codec.proofs.Frames.{framed_length}
-use Rattle.bson_codec.proofs.Elements.{Reads, InsideRead, elements_take, elements_again}
+use Rattle.bson_codec.proofs.Readers.{Reads, InsideRead}
+use Rattle.bson_codec.proofs.Elements.{elements_take, elements_again}
 
 -- a document of n bytes that was read
 pub record FrameRead (D : Items → Type 0) (bs : List ℕ) (n : ℕ) (x : Items × ℕ) : Type 0 where
@@ -68,54 +69,121 @@ framed_again D f reads p bs is n laid begins =
 
 -- ---- documents inside others
 
-nested_takes : (D : Items → Type 0) (f : Reader) (reads : Reads f D) (levels p : ℕ) (bs : List ℕ) (x : Items × ℕ) → AreBytes bs → nested_at f levels p bs ≡ Ok x → InsideRead (AreElements D) bs x
-unfolding nested_at
-nested_takes D f reads levels p bs x fits e =
-    let a = bind_ok (number_at p bs) _ x e in
-    let b = bind_ok (fault_if (eqb levels 0) _ p) _ x a.then in
-    let c = bind_ok (length_at 5 0 a.value p bs) _ x b.then in
+-- what the length of a document inside is
+record InsideLength (levels : ℕ) (fills : Bool) (bs : List ℕ) (n : ℕ) : Type 0 where
+  some : 0 < levels
+  head : Begins bs (to_le_bytes w32 n) 4
+  least : 5 ≤ n
+  small : n < 2 ^ 31
+  short : n ≤ length bs
+  full : fills ≡ true → n ≡ length bs
+
+fills_all : (fills : Bool) (n m : ℕ) → (fills && not (eqb n m)) ≡ false → fills ≡ true → n ≡ m
+fills_all true n m e h = eqb-true n m (not-false (eqb n m) e)
+fills_all false n m e h = absurd cc
+
+length_takes_inside : (levels : ℕ) (fills : Bool) (p : ℕ) (bs : List ℕ) (n : ℕ) → AreBytes bs → inside_length_at levels fills p bs ≡ Ok n → InsideLength levels fills bs n
+unfolding inside_length_at
+length_takes_inside levels fills p bs n fits e =
+    let a = bind_ok (number_at p bs) _ n e in
+    let b = bind_ok (fault_if (eqb levels 0) _ p) _ n a.then in
+    let c = bind_ok (length_at 5 0 a.value p bs) _ n b.then in
+    let d = bind_ok (fault_if (fills && not (eqb c.value (length bs))) _ p) _ n c.then in
     let j = length_takes 5 0 a.value p bs c.value c.first in
-    let head : Begins bs (to_le_bytes w32 c.value) 4 = subst (λ (m : ℕ). Begins bs (to_le_bytes w32 m) 4) j.same (number_takes p bs a.value fits a.first) in
-    let least : 5 ≤ c.value = omega (arith, j.least, j.same) in
-    let short : c.value ≤ length bs = omega (arith, j.fits, j.same) in
-    let read = framed_takes D f reads c.value p bs x fits least short head c.then in
+    let is : c.value ≡ n = ok_is c.value n d.then in
+    let none : levels ≡ 0 → ⊥ = eqb-false levels 0 (none_if _ _ _ _ b.first) in
+    let full = fills_all fills c.value (length bs) (none_if _ _ _ _ d.first) in
     record {
-      inside = record { inside = read.elements; fits = omega (arith, read.parts.size, read.size, j.small, j.same) };
+      some = omega arith;
+      head = subst (λ (m : ℕ). Begins bs (to_le_bytes w32 m) 4) (j.same ∙ is) (number_takes p bs a.value fits a.first);
+      least = omega (arith, j.least, j.same, is);
+      small = omega (arith, j.small, j.same, is);
+      short = omega (arith, j.fits, j.same, is);
+      full = λ h. sym is ∙ full h;
+    }
+
+fills_not : (fills : Bool) (n m : ℕ) → (fills ≡ true → n ≡ m) → (fills && not (eqb n m)) ≡ false
+fills_not true n m h = let same : eqb n m ≡ true = eq-eqb n m (h refl) in rw same refl
+fills_not false n m h = refl
+
+length_again_inside : (levels : ℕ) (fills : Bool) (p : ℕ) (bs : List ℕ) (n : ℕ) → InsideLength levels fills bs n → inside_length_at levels fills p bs ≡ Ok n
+unfolding inside_length_at
+length_again_inside levels fills p bs n h =
+    let some = h.some in
+    let small = h.small in
+    let a : number_at p bs ≡ Ok n = number_again p bs n (omega arith) h.head in
+    let b : eqb levels 0 ≡ false = ne_eqb levels 0 (λ z. omega (arith, z)) in
+    let c : length_at 5 0 n p bs ≡ Ok n = length_again 5 0 n p bs h.least small (omega (arith, h.short)) in
+    let d : (fills && not (eqb n (length bs))) ≡ false = fills_not fills n (length bs) h.full in
+    rw (a, b, c, d) refl
+
+nested_takes : (D : Items → Type 0) (f : Reader) (reads : Reads f D) (levels : ℕ) (fills : Bool) (p : ℕ) (bs : List ℕ) (x : Items × ℕ) → AreBytes bs → nested_at f levels fills p bs ≡ Ok x
+    → InsideRead (AreElements D) bs x
+unfolding nested_at
+nested_takes D f reads levels fills p bs x fits e =
+    let a = bind_ok (inside_length_at levels fills p bs) _ x e in
+    let h = length_takes_inside levels fills p bs a.value fits a.first in
+    let read = framed_takes D f reads a.value p bs x fits h.least h.short h.head a.then in
+    record {
+      inside = record { inside = read.elements; fits = omega (arith, read.parts.size, read.size, h.small) };
       parts = read.parts;
     }
 
-nested_again : (D : Items → Type 0) (f : Reader) (reads : Reads f D) (levels p : ℕ) (bs : List ℕ) (is : Items) (n : ℕ) → 0 < levels → IsInside (AreElements D) is → Begins bs (doc_bytes is) n
-    → nested_at f levels p bs ≡ Ok (is, n)
+frame_size : (f : Reader) (n p : ℕ) (bs : List ℕ) (x : Items × ℕ) → framed_at f n p bs ≡ Ok x → n ≡ x.1
+unfolding framed_at
+frame_size f n p bs x e =
+    let a = bind_ok (elements_at f (p + 4) (take (n - 5) (drop 4 bs))) _ x e in
+    let b = bind_ok (zero_at (n - 1) p bs) _ x a.then in
+    ap (λ (y : Items × ℕ). y.1) (ok_is (a.value, n) x b.then)
+
+length_is_full : (levels p : ℕ) (bs : List ℕ) (n : ℕ) → inside_length_at levels true p bs ≡ Ok n → n ≡ length bs
+unfolding inside_length_at
+length_is_full levels p bs n e =
+    let a = bind_ok (number_at p bs) _ n e in
+    let b = bind_ok (fault_if (eqb levels 0) _ p) _ n a.then in
+    let c = bind_ok (length_at 5 0 a.value p bs) _ n b.then in
+    let d = bind_ok (fault_if (not (eqb c.value (length bs))) _ p) _ n c.then in
+    sym (ok_is c.value n d.then) ∙ fills_all true c.value (length bs) (none_if _ _ _ _ d.first) refl
+
+nested_full : (f : Reader) (levels p : ℕ) (bs : List ℕ) (x : Items × ℕ) → nested_at f levels true p bs ≡ Ok x → x.1 ≡ length bs
 unfolding nested_at
-nested_again D f reads levels p bs is n some inside begins =
+nested_full f levels p bs x e =
+    let a = bind_ok (inside_length_at levels true p bs) _ x e in
+    sym (frame_size f a.value p bs x a.then) ∙ length_is_full levels p bs a.value a.first
+
+nested_again : (D : Items → Type 0) (f : Reader) (reads : Reads f D) (levels : ℕ) (fills : Bool) (p : ℕ) (bs : List ℕ) (is : Items) (n : ℕ) → 0 < levels → IsInside (AreElements D) is
+    → Begins bs (doc_bytes is) n → (fills ≡ true → n ≡ length bs) → nested_at f levels fills p bs ≡ Ok (is, n)
+unfolding nested_at
+nested_again D f reads levels fills p bs is n some inside begins full =
     let elements = items_bytes is in
     let size : length elements + 5 ≡ n = sym (framed_length elements) ∙ begins.size in
-    let small : n < 2 ^ 31 = omega (arith, inside.fits, begins.size) in
     let head : Begins bs (to_le_bytes w32 (length elements + 5)) 4 = begins_first bs (to_le_bytes w32 (length elements + 5)) (elements ++ 0 ∷ []) n begins in
     let stated : Begins bs (to_le_bytes w32 n) 4 = subst (λ (m : ℕ). Begins bs (to_le_bytes w32 m) 4) size head in
-    let fits : n ≤ length bs = begins_fits bs _ n begins in
-    let a : number_at p bs ≡ Ok n = number_again p bs n (omega arith) stated in
-    let b : eqb levels 0 ≡ false = ne_eqb levels 0 (λ z. omega (arith, z)) in
-    let c : length_at 5 0 n p bs ≡ Ok n = length_again 5 0 n p bs (omega (arith, size)) small (omega (arith, fits)) in
-    let d : framed_at f n p bs ≡ Ok (is, n) = framed_again D f reads p bs is n inside.inside begins in
-    rw (a, b, c, d) refl
+    let a : inside_length_at levels fills p bs ≡ Ok n =
+    length_again_inside levels fills p bs n
+    (record { some = some; head = stated; least = omega (arith, size); small = omega (arith, inside.fits, begins.size); short = begins_fits bs _ n begins; full = full }) in
+    let b : framed_at f n p bs ≡ Ok (is, n) = framed_again D f reads p bs is n inside.inside begins in
+    rw (a, b) refl
 
-none_takes : (f : Reader) (p : ℕ) (bs : List ℕ) (x : Items × ℕ) → nested_at f 0 p bs ≡ Ok x → ⊥
-unfolding nested_at
-none_takes f p bs x e =
-    let a = bind_ok (number_at p bs) _ x e in
-    refused _ x a.then
+none_takes : (f : Reader) (fills : Bool) (p : ℕ) (bs : List ℕ) (x : Items × ℕ) → nested_at f 0 fills p bs ≡ Ok x → ⊥
+unfolding nested_at inside_length_at
+none_takes f fills p bs x e =
+    let a = bind_ok (inside_length_at 0 fills p bs) _ x e in
+    let b = bind_ok (number_at p bs) _ a.value a.first in
+    refused _ a.value b.then
 
 -- documents of so many levels are read, and no others
 pub inside_reads : (levels : ℕ) → Reads (inside_at levels) (IsItems levels)
 unfolding inside_at
 inside_reads zero = record {
-  takes = λ p bs x fits e. absurd (none_takes _ p bs x e);
-  again = λ p bs is n inside begins. absurd inside.inside;
+  takes = λ fills p bs x fits e. absurd (none_takes _ fills p bs x e);
+  full = λ p bs x e. absurd (none_takes _ true p bs x e);
+  again = λ fills p bs is n inside begins full. absurd inside.inside;
 }
 inside_reads (suc levels) = record {
-  takes = λ p bs x fits e. nested_takes (IsItems levels) (inside_at levels) (inside_reads levels) (suc levels) p bs x fits e;
-  again = λ p bs is n inside begins. nested_again (IsItems levels) (inside_at levels) (inside_reads levels) (suc levels) p bs is n (omega arith) inside begins;
+  takes = λ fills p bs x fits e. nested_takes (IsItems levels) (inside_at levels) (inside_reads levels) (suc levels) fills p bs x fits e;
+  full = λ p bs x e. nested_full (inside_at levels) (suc levels) p bs x e;
+  again = λ fills p bs is n inside begins full. nested_again (IsItems levels) (inside_at levels) (inside_reads levels) (suc levels) fills p bs is n (omega arith) inside begins full;
 }
 
 -- ---- the document at the front, and all of the bytes

@@ -1,32 +1,23 @@
 -- Values and elements, whatever reads the documents inside: what is read is spelled so, and what is spelled
 -- so is read.
-use Rattle.std.proofs.Common.{◌≡◌, ℕ, zero, suc, ◌+◌, ◌<◌, ◌≤◌, List, [], ◌∷◌, ◌++◌, length, take, drop, Option, Some, None, Result, Ok, refl, sym, ap, subst, ◌∙◌, append_assoc, arith}
+use Rattle.std.proofs.Common.{false, ◌≡◌, ℕ, zero, suc, ◌+◌, ◌<◌, ◌≤◌, List, [], ◌∷◌, ◌++◌, length, take, drop, Option, Some, None, Result, Ok, refl, sym, ap, subst, ◌∙◌, append_assoc, arith}
 use Rattle.std.proofs.lemmas.List.{drop_at, length-append, length-drop}
 use Rattle.bson_tree.specs.Tree.{Tree, Items, leaf, node, no_items, item, tag_of}
-use Rattle.bson_tree.specs.Spelling.{value_bytes, items_bytes, doc_bytes}
+use Rattle.bson_tree.specs.Spelling.{value_bytes, items_bytes}
 use Rattle.bson_codec.specs.declared.fault.BsonFault.{BsonFault}
 use Rattle.bson_codec.specs.declared.table.ValueLayout.{ValueLayout}
 use Rattle.bson_codec.specs.declared.table.ValueLayout.TheVariants as values
 use Rattle.bson_codec.specs.Fault.{◌>>=◌}
 use Rattle.bson_codec.specs.Table.{layout_of}
-use Rattle.bson_codec.specs.Layout.{IsName, IsInside, HasLayout, IsValue, AreElements}
+use Rattle.bson_codec.specs.Layout.{IsName, HasLayout, IsValue, AreElements}
 use Rattle.bson_codec.specs.Reading.{Reader, First, name_at, layout_at, raw_at, value_at, first_at, rounds_at, elements_at}
 use Rattle.bson_codec.proofs.Steps.{made, ok_is, bind_ok}
 use Rattle.bson_codec.specs.Bytes.{AreBytes}
 use Rattle.bson_codec.proofs.Pieces.{AreBytes-drop, AreBytes-rest, Begins, begins_take, begins_then, begins_is, begins_fits, begins_of, begins_first, begins_second}
+use Rattle.bson_codec.proofs.Readers.{Reads}
 use Rattle.bson_codec.proofs.Raws.{raw_takes, raw_again}
 use Rattle.bson_codec.proofs.Names.{name_takes, name_again, layout_takes, layout_again}
 use Rattle.bson_codec.proofs.Rounds.{first_wide, elements_step}
-
--- a document inside that was read
-pub record InsideRead (D : Items → Type 0) (bs : List ℕ) (x : Items × ℕ) : Type 0 where
-  pub inside : IsInside D x.0
-  pub parts : Begins bs (doc_bytes x.0) x.1
-
--- a reader reads the documents of which D holds, and no others
-pub record Reads (f : Reader) (D : Items → Type 0) : Type 0 where
-  pub takes : (p : ℕ) (bs : List ℕ) (x : Items × ℕ) → AreBytes bs → f p bs ≡ Ok x → InsideRead D bs x
-  pub again : (p : ℕ) (bs : List ℕ) (is : Items) (n : ℕ) → IsInside D is → Begins bs (doc_bytes is) n → f p bs ≡ Ok (is, n)
 
 -- ---- values
 
@@ -40,35 +31,35 @@ pub value_takes : (D : Items → Type 0) (f : Reader) (reads : Reads f D) (tag :
     → value_at f tag layout p bs ≡ Ok x → ValueRead D tag bs x
 unfolding value_at
 value_takes D f reads tag values.Document p bs x fits row e =
-    let a = bind_ok (f p bs) _ x e in
-    let read = reads.takes p bs a.value fits a.first in
+    let a = bind_ok (f false p bs) _ x e in
+    let read = reads.takes false p bs a.value fits a.first in
     let made : Tree × ℕ = (node tag a.value.0, a.value.1) in
     let laid : IsValue D (node tag a.value.0) = subst (λ (o : Option ValueLayout). HasLayout D o (node tag a.value.0)) (sym row) read.inside in
     subst (λ (y : Tree × ℕ). ValueRead D tag bs y) (ok_is made x a.then) (record { laid = laid; type = refl; parts = read.parts })
 value_takes D f reads tag (values.Raw layout) p bs x fits row e =
     let a = bind_ok (raw_at f layout p bs) _ x e in
-    let read = raw_takes D f layout p bs a.value fits a.first in
+    let read = raw_takes D f reads layout p bs a.value fits a.first in
     let made : Tree × ℕ = (leaf tag (take a.value bs), a.value) in
     let laid : IsValue D (leaf tag (take a.value bs)) = subst (λ (o : Option ValueLayout). HasLayout D o (leaf tag (take a.value bs))) (sym row) read.laid in
     subst (λ (y : Tree × ℕ). ValueRead D tag bs y) (ok_is made x a.then) (record { laid = laid; type = refl; parts = begins_take a.value bs read.fits })
 
-laid_again : (D : Items → Type 0) (f : Reader) (reads : Reads f D) (layout : ValueLayout) (p : ℕ) (bs : List ℕ) (t : Tree) (n : ℕ) → HasLayout D (Some layout) t → Begins bs (value_bytes t) n
+pub laid_again : (D : Items → Type 0) (f : Reader) (reads : Reads f D) (layout : ValueLayout) (p : ℕ) (bs : List ℕ) (t : Tree) (n : ℕ) → HasLayout D (Some layout) t → Begins bs (value_bytes t) n
     → value_at f (tag_of t) layout p bs ≡ Ok (t, n)
 unfolding value_at
 laid_again D f reads values.Document p bs (leaf tag bytes) n laid begins = absurd laid
-laid_again D f reads values.Document p bs (node tag is) n laid begins = rw (reads.again p bs is n laid begins) refl
+laid_again D f reads values.Document p bs (node tag is) n laid begins = rw (reads.again false p bs is n laid begins (λ e. absurd cc)) refl
 laid_again D f reads (values.Raw layout) p bs (leaf tag bytes) n laid begins =
-    let read : raw_at f layout p bs ≡ Ok n = raw_again D f layout p bs bytes n laid begins in
+    let read : raw_at f layout p bs ≡ Ok n = raw_again D f reads layout p bs bytes n laid begins in
     let same : take n bs ≡ bytes = begins_is bs bytes n begins in
     ap (λ (r : Result ℕ BsonFault). r >>= λ m. Ok (leaf tag (take m bs), m)) read ∙ ap (λ (x : List ℕ). made (leaf tag x, n)) same
 laid_again D f reads (values.Raw layout) p bs (node tag is) n laid begins = absurd laid
 
 -- a type that has a layout
-record Typed (o : Option ValueLayout) : Type 0 where
-  layout : ValueLayout
-  is : o ≡ Some layout
+pub record Typed (o : Option ValueLayout) : Type 0 where
+  pub layout : ValueLayout
+  pub is : o ≡ Some layout
 
-typed : (D : Items → Type 0) (o : Option ValueLayout) (t : Tree) → HasLayout D o t → Typed o
+pub typed : (D : Items → Type 0) (o : Option ValueLayout) (t : Tree) → HasLayout D o t → Typed o
 typed D None t h = absurd h
 typed D (Some layout) t h = record { layout = layout; is = refl }
 
@@ -137,7 +128,7 @@ elements_take D f reads p bs is fits e = rounds_take D f reads (length bs) p bs 
 
 -- ---- and again
 
-behind_type : (b c : ℕ) (bs text : List ℕ) (n : ℕ) → Begins (b ∷ bs) (c ∷ text) n → (b ≡ c) × (Begins bs text (length text))
+pub behind_type : (b c : ℕ) (bs text : List ℕ) (n : ℕ) → Begins (b ∷ bs) (c ∷ text) n → (b ≡ c) × (Begins bs text (length text))
 behind_type b c bs text zero begins = absurd (omega (arith, begins.size))
 behind_type b c bs text (suc n) begins =
     let size : length text ≡ n = omega (arith, begins.size) in

@@ -1,7 +1,7 @@
 -- Bytes and the pieces at their front.
 use Rattle.std.proofs.Common.{◌≡◌, ℕ, suc, ◌+◌, ◌<◌, ◌≤◌, List, [], ◌∷◌, ◌++◌, length, get_or, take, drop, refl, sym, ap, subst, ◌∙◌, append_assoc, arith, inl, inr, add-one}
 use Rattle.std.proofs.lemmas.Bool.{cases_lt}
-use Rattle.std.proofs.lemmas.List.{take_at, drop_at, drop-drop, take-append-drop, length-append, length-take, length-take-le, get_or-drop, get_or-take, get_or_past}
+use Rattle.std.proofs.lemmas.List.{take_at, drop_at, drop-drop, take-append-drop, length-append, length-take, length-take-le, append-nil, get_or-drop, get_or-take, get_or_past}
 use Rattle.std.proofs.Math.Seq.{drop-cons}
 use Rattle.bson_codec.specs.Bytes.{AreBytes}
 
@@ -45,6 +45,10 @@ begins_fits bs text n p = omega (arith, ap length p.parts, length-append text (d
 -- a piece and what follows it
 pub begins_of : (text rest : List ℕ) → Begins (text ++ rest) text (length text)
 begins_of text rest = record { parts = ap (λ (x : List ℕ). text ++ x) (sym (drop_at text rest (length text) refl)); size = refl }
+
+-- all of the bytes
+pub begins_all : (bs : List ℕ) → Begins bs bs (length bs)
+begins_all bs = subst (λ (x : List ℕ). Begins x bs (length bs)) (append-nil bs) (begins_of bs [])
 
 -- the first of two pieces, and the second behind it
 pub begins_first : (bs a b : List ℕ) (n : ℕ) → Begins bs (a ++ b) n → Begins bs a (length a)

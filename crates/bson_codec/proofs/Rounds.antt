@@ -5,8 +5,8 @@ use Rattle.bson_codec.specs.declared.fault.BsonFault.{BsonFault}
 use Rattle.bson_codec.specs.declared.fault.CodecFault.{CodecFault}
 use Rattle.bson_codec.specs.declared.fault.CodecFault.TheVariants as errors
 use Rattle.bson_codec.specs.Fault.{◌>>=◌, Fails}
-use Rattle.bson_codec.specs.Reading.{Reader, First, layout_at, name_at, value_at, first_at, rounds_at, elements_at}
-use Rattle.bson_codec.proofs.Steps.{bind_ok, bind_same, ok_is}
+use Rattle.bson_codec.specs.Reading.{Reader, First, layout_at, name_at, value_at, first_at, rounds_at, elements_at, first_width, fault_of}
+use Rattle.bson_codec.proofs.Steps.{bind_ok, bind_same, ok_is, refused}
 
 -- the elements that were read before, and those of a reading
 abbrev pub with_front : Items → Result Items BsonFault → Result Items BsonFault
@@ -90,3 +90,50 @@ pub is_done : (f : Reader) (front : Items) (p : ℕ) (bs : List ℕ) (total : Re
 unfolding elements_at rounds_at
 is_done f front p [] total h so_far = sym so_far ∙ ap (λ (js : Items). Ok js) (join_none front)
 is_done f front p (b ∷ bs) total h so_far = absurd (omega arith)
+
+-- ---- the same, of the faults alone
+
+record KnownFirst (r : Result First BsonFault) (w : ℕ) : Type 0 where
+  first : First
+  is : r ≡ Ok first
+  width : first.width ≡ w
+
+known_first : (r : Result First BsonFault) (w : ℕ) → first_width r ≡ Ok w → KnownFirst r w
+known_first (Ok x) w e = record { first = x; is = refl; width = ok_is x.width w e }
+known_first (Err d) w e = absurd (refused d w e)
+
+known_fault : (r : Result First BsonFault) (d : BsonFault) → first_width r ≡ Err d → r ≡ Err d
+known_fault (Ok x) d e = absurd cc
+known_fault (Err f) d e = let same : f ≡ d = cc in ap (λ (g : BsonFault). Err g) same
+
+fault_behind : (x : First) (r : Result Items BsonFault) → fault_of {A = Items} (r >>= λ others. Ok (item x.name x.tree others)) ≡ fault_of r
+fault_behind x (Ok is) = refl
+fault_behind x (Err d) = refl
+
+-- a turn of the loop
+pub check_goes_on : (f : Reader) (p : ℕ) (bs : List ℕ) (w : ℕ) (total : Result (Unit {0}) BsonFault) → 0 < length bs → first_width (first_at f p bs) ≡ Ok w
+    → fault_of (elements_at f p bs) ≡ total → fault_of (elements_at f (p + w) (drop w bs)) ≡ total
+check_goes_on f p bs w total h e so_far =
+    let k = known_first (first_at f p bs) w e in
+    let x = k.first in
+    let one : elements_at f p bs ≡ (elements_at f (p + x.width) (drop x.width bs) >>= λ others. Ok (item x.name x.tree others)) =
+    elements_step f p bs h ∙ ap (λ (r : Result First BsonFault). r >>= λ x. elements_at f (p + x.width) (drop x.width bs) >>= λ others. Ok (item x.name x.tree others)) k.is in
+    ap (λ (m : ℕ). fault_of (elements_at f (p + m) (drop m bs))) (sym k.width)
+    ∙ sym (fault_behind x (elements_at f (p + x.width) (drop x.width bs)))
+    ∙ ap (λ (r : Result Items BsonFault). fault_of r) (sym one)
+    ∙ so_far
+
+-- the loop at a fault
+pub check_ends : (f : Reader) (p : ℕ) (bs : List ℕ) (d : BsonFault) (total : Result (Unit {0}) BsonFault) → 0 < length bs → first_width (first_at f p bs) ≡ Err d
+    → fault_of (elements_at f p bs) ≡ total → Err d ≡ total
+check_ends f p bs d total h e so_far =
+    let one : elements_at f p bs ≡ Err d =
+    elements_step f p bs h
+    ∙ ap (λ (r : Result First BsonFault). r >>= λ x. elements_at f (p + x.width) (drop x.width bs) >>= λ others. Ok (item x.name x.tree others)) (known_fault (first_at f p bs) d e) in
+    sym (ap (λ (r : Result Items BsonFault). fault_of r) one) ∙ so_far
+
+-- the loop at its end
+pub check_done : (f : Reader) (p : ℕ) (bs : List ℕ) (total : Result (Unit {0}) BsonFault) → length bs ≡ 0 → fault_of (elements_at f p bs) ≡ total → Ok tt ≡ total
+unfolding elements_at rounds_at
+check_done f p [] total h so_far = so_far
+check_done f p (b ∷ bs) total h so_far = absurd (omega arith)

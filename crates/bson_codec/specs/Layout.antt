@@ -36,12 +36,43 @@ pub record IsBinary (bytes : List ℕ) : Type 0 where
   pub fits : length contents < 2 ^ 31
   pub parts : bytes ≡ binary_bytes subtype contents
 
+-- the bytes are those of a regular expression: a pattern and its options, two names
+pub record IsRegex (bytes : List ℕ) : Type 0 where
+  pub pattern : List ℕ
+  pub options : List ℕ
+  pub pattern_named : IsName pattern
+  pub options_named : IsName options
+  pub parts : bytes ≡ (pattern ++ 0 ∷ []) ++ (options ++ 0 ∷ [])
+
+-- the bytes are those of a pointer into a database: a name space and an id
+pub record IsPointer (bytes : List ℕ) : Type 0 where
+  pub text : List ℕ
+  pub id : List ℕ
+  pub fits : length text + 1 < 2 ^ 31
+  pub id_size : length id ≡ 12
+  pub parts : bytes ≡ string_bytes text ++ id
+
+-- BSON 1.1, "code_w_s": the bytes of code with its scope: the length of all, the code, the scope
+abbrev pub scope_bytes : List ℕ → Items → List ℕ
+scope_bytes code scope = to_le_bytes w32 (length (string_bytes code ++ doc_bytes scope) + 4) ++ (string_bytes code ++ doc_bytes scope)
+
+-- the bytes are those of code with its scope
+pub record IsScope (D : Items → Type 0) (bytes : List ℕ) : Type 0 where
+  pub code : List ℕ
+  pub scope : Items
+  pub inside : D scope
+  pub fits : length (scope_bytes code scope) < 2 ^ 31
+  pub parts : bytes ≡ scope_bytes code scope
+
 -- the bytes of a raw value have this layout
 abbrev pub IsRaw : (Items → Type 0) → RawLayout → List ℕ → Type 0
 IsRaw D (raws.Fixed width) bytes = length bytes ≡ width
 IsRaw D raws.Bool bytes = (bytes ≡ 0 ∷ []) ⊎ (bytes ≡ 1 ∷ [])
 IsRaw D raws.Text bytes = IsString bytes
 IsRaw D raws.Binary bytes = IsBinary bytes
+IsRaw D raws.Regex bytes = IsRegex bytes
+IsRaw D raws.Pointer bytes = IsPointer bytes
+IsRaw D raws.Scope bytes = IsScope D bytes
 
 -- a document inside, with a length that a signed number of 32 bits holds
 pub record IsInside (D : Items → Type 0) (is : Items) : Type 0 where

@@ -1,6 +1,6 @@
 -- BSON 1.1, read from left to right, with the first fault. `p` is the offset of the first byte of `bs`,
 -- and `bs` ends before the final 00 of the document that the bytes stand in.
-use Rattle.std.specs.Prelude.{◌+◌, ◌-◌, ◌^◌, ℕ, zero, suc, Bool, ◌||◌, not, List, [], ◌∷◌, length, take, drop, get_or, Option, Some, None, option_map, Result, Ok, nat_lt, nat_le, ◌==◌, if◌then◌else◌}
+use Rattle.std.specs.Prelude.{◌+◌, ◌-◌, ◌^◌, ℕ, zero, suc, Bool, true, false, ◌||◌, ◌&&◌, not, List, [], ◌∷◌, length, take, drop, get_or, Option, Some, None, option_map, Result, Ok, nat_lt, nat_le, ◌==◌, if◌then◌else◌}
 use Rattle.std.specs.Int.{from_le_bytes, w32}
 use Rattle.bson_tree.specs.Tree.{Tree, Items, leaf, node, no_items, item}
 use Rattle.bson_codec.specs.declared.fault.BsonKind.TheVariants as kinds
@@ -72,9 +72,36 @@ binary_at p bs = do
   n ← length_at 0 5 stated p bs
   Ok (n + 5)
 
--- what reads a document inside: its elements and its number of bytes
+-- two names: a pattern and its options
+unfoldable pub regex_at : ℕ → List ℕ → Result ℕ BsonFault
+regex_at p bs = do
+  n ← name_at p bs
+  m ← name_at (p + (n + 1)) (drop (n + 1) bs)
+  Ok (n + 1 + (m + 1))
+
+-- a text and 12 bytes
+unfoldable pub pointer_at : ℕ → List ℕ → Result ℕ BsonFault
+pointer_at p bs = do
+  n ← string_at p bs
+  m ← fixed_at 12 (p + n) (drop n bs)
+  Ok (n + m)
+
+-- what reads a document inside, which may have to fill the bytes: its elements and its number of bytes
 abbrev pub Reader : Type 0
-Reader = ℕ → List ℕ → Result (Items × ℕ) BsonFault
+Reader = Bool → ℕ → List ℕ → Result (Items × ℕ) BsonFault
+
+-- the number of bytes alone
+abbrev pub width_of : {A : Type 0} → Result (A × ℕ) BsonFault → Result ℕ BsonFault
+width_of read = read >>= λ x. Ok x.1
+
+-- a length of all, a text, and a document that fills the rest; the two are judged within that length
+unfoldable pub scope_at : Reader → ℕ → List ℕ → Result ℕ BsonFault
+scope_at f p bs = do
+  stated ← number_at p bs
+  n ← length_at 14 0 stated p bs
+  m ← string_at (p + 4) (take (n - 4) (drop 4 bs))
+  _ ← width_of (f true (p + (m + 4)) (drop m (take (n - 4) (drop 4 bs))))
+  Ok n
 
 -- a raw value of this layout
 abbrev pub raw_at : Reader → RawLayout → ℕ → List ℕ → Result ℕ BsonFault
@@ -82,6 +109,9 @@ raw_at f (raws.Fixed width) p bs = fixed_at width p bs
 raw_at f raws.Bool p bs = bool_at p bs
 raw_at f raws.Text p bs = string_at p bs
 raw_at f raws.Binary p bs = binary_at p bs
+raw_at f raws.Regex p bs = regex_at p bs
+raw_at f raws.Pointer p bs = pointer_at p bs
+raw_at f raws.Scope p bs = scope_at f p bs
 
 -- ---- elements
 
@@ -95,7 +125,7 @@ layout_at p tag = if tag == 0 then fault kinds.Extra (p + 1) else layout_by p (l
 
 -- a value of this type and layout, and its number of bytes
 abbrev pub value_by : Reader → ℕ → ValueLayout → ℕ → List ℕ → Result (Tree × ℕ) BsonFault
-value_by f tag values.Document p bs = f p bs >>= λ x. Ok (node tag x.0, x.1)
+value_by f tag values.Document p bs = f false p bs >>= λ x. Ok (node tag x.0, x.1)
 value_by f tag (values.Raw layout) p bs = raw_at f layout p bs >>= λ n. Ok (leaf tag (take n bs), n)
 
 unfoldable pub value_at : Reader → ℕ → ValueLayout → ℕ → List ℕ → Result (Tree × ℕ) BsonFault
@@ -116,6 +146,10 @@ first_at f p (tag ∷ bs) = do
   value ← value_at f tag layout (p + (n + 2)) (drop (n + 1) bs)
   Ok (record { name = take n bs; tree = value.0; width = n + 2 + value.1 })
 
+-- the number of bytes of an element alone
+abbrev pub first_width : Result First BsonFault → Result ℕ BsonFault
+first_width read = read >>= λ x. Ok x.width
+
 -- the elements from p to the end of `bs`, at most so many of them
 unfoldable pub rounds_at : Reader → ℕ → ℕ → List ℕ → Result Items BsonFault
 rounds_at f zero p bs = Ok no_items
@@ -129,6 +163,10 @@ rounds_at f (suc n) p (tag ∷ bs) = do
 unfoldable pub elements_at : Reader → ℕ → List ℕ → Result Items BsonFault
 elements_at f p bs = rounds_at f (length bs) p bs
 
+-- that there is no fault, alone
+abbrev pub fault_of : {A : Type 0} → Result A BsonFault → Result (Unit {0}) BsonFault
+fault_of read = read >>= λ _. Ok tt
+
 -- ---- documents
 
 -- a document at p of n bytes: elements, and NoEnd at its last byte where that isn't 00
@@ -138,18 +176,26 @@ framed_at f n p bs = do
   _ ← zero_at (n - 1) p bs
   Ok (is, n)
 
--- a document inside another one that may still add so many levels: Deep at p where it may add none
-unfoldable pub nested_at : Reader → ℕ → ℕ → List ℕ → Result (Items × ℕ) BsonFault
-nested_at f levels p bs = do
+-- the length of a document inside another one that may still add so many levels: Deep at p where it may
+-- add none, and Length at p where it has to fill the bytes and doesn't
+unfoldable pub inside_length_at : ℕ → Bool → ℕ → List ℕ → Result ℕ BsonFault
+inside_length_at levels fills p bs = do
   stated ← number_at p bs
   _ ← fault_if (levels == 0) kinds.Deep p
   n ← length_at 5 0 stated p bs
+  _ ← fault_if (fills && not (n == length bs)) kinds.Length p
+  Ok n
+
+-- a document inside another one
+unfoldable pub nested_at : Reader → ℕ → Reader
+nested_at f levels fills p bs = do
+  n ← inside_length_at levels fills p bs
   framed_at f n p bs
 
 -- the same, with documents inside it of fewer levels
 unfoldable pub inside_at : ℕ → Reader
-inside_at zero p bs = nested_at (λ p bs. Ok (no_items, 0)) 0 p bs
-inside_at (suc levels) p bs = nested_at (inside_at levels) (suc levels) p bs
+inside_at zero fills p bs = nested_at (λ fills p bs. Ok (no_items, 0)) 0 fills p bs
+inside_at (suc levels) fills p bs = nested_at (inside_at levels) (suc levels) fills p bs
 
 -- a document's stated length: Length at 0 below 5
 abbrev pub stated_at : ℕ → Result ℕ BsonFault

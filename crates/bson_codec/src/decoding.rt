@@ -1,6 +1,6 @@
 //! Documents read into trees, by recursive descent.
 
-ghost use Rattle.std.specs.Prelude.{◌≡◌, ◌+◌, ◌<◌, ◌≤◌, ◌^◌, ◌++◌, ℕ, List, length, take, IfOk};
+ghost use Rattle.std.specs.Prelude.{◌≡◌, ◌+◌, ◌<◌, ◌≤◌, ◌^◌, ◌++◌, ℕ, List, length, take, IfOk, false};
 ghost use Rattle.bson_tree.specs.Spelling.{doc_bytes};
 ghost use Rattle.bson_tree.specs.Tree.{Items};
 ghost use Rattle.bson_tree.specs.View.{tree};
@@ -9,33 +9,13 @@ ghost use Rattle.bson_codec.specs.Fault.{Gives};
 ghost use Rattle.bson_codec.specs.Layout.{IsDoc, longest};
 ghost use Rattle.bson_codec.specs.Reading.{layout_at, value_at, first_at, elements_at, framed_at, inside_at, stated_at, total_at, document, front_document};
 
+use crate::checking::raw_length;
 use crate::fault::{BsonFault, BsonKind, CodecFault};
 use crate::measuring::LEVELS;
-use crate::raw::{is_signed_below, length_of, name_length, number_of, raw_length, zero_of};
-use crate::table::{ValueLayout, layout_of};
+use crate::raw::{inside_length, is_signed_below, layout_behind, name_length, number_of, zero_of};
+use crate::table::ValueLayout;
 use bson_tree::{Body, Bytes, Doc, Kids, Value};
 use std::alloc::Global;
-
-// The layout behind the type byte at `at`.
-#[tactic(auto, unfolding(crate::specs::Reading::layout_at))]
-fn layout_behind(tag: u8, at: usize) -> Result<ValueLayout, BsonFault>
-    requires { at < 2 ^ 32 }
-    ensures read { result ≡ layout_at at tag }
-{
-    if tag == 0 {
-        return Err(BsonFault {
-            kind: BsonKind::Extra,
-            offset: at + 1,
-        });
-    }
-    match layout_of(tag) {
-        Some(layout) => Ok(layout),
-        None => Err(BsonFault {
-            kind: BsonKind::Tag,
-            offset: at,
-        }),
-    }
-}
 
 // A value of this type and layout, in which documents may add so many levels, and its number of bytes.
 #[cycle(read)]
@@ -148,17 +128,10 @@ fn inside_of(
     at: usize,
 ) -> Result<(Kids, usize), CodecFault>
     requires { at + length bytes.now < 2 ^ 32 }
-    ensures read { Gives (λ x. (x.0, x.1)) result (inside_at levels at bytes.now) }
+    ensures read { Gives (λ x. (x.0, x.1)) result (inside_at levels false at bytes.now) }
     ensures fits { IfOk result (λ x. x.1 ≤ length bytes.now) }
 {
-    let stated = number_of(bytes, at)?;
-    if levels == 0 {
-        return Err(CodecFault::Bson(BsonFault {
-            kind: BsonKind::Deep,
-            offset: at,
-        }));
-    }
-    let n = length_of(5, 0, stated, bytes, at)?;
+    let n = inside_length(levels, false, bytes, at)?;
     framed_of(alloc, levels - 1, n, bytes, at)
 }
 
@@ -213,9 +186,9 @@ pub fn stated_length(head: [u8; 4]) -> Result<u32, BsonFault>
     Ok(n)
 }
 
-// The length of the document at the front.
+/// The length of the document at the front.
 #[tactic(auto, unfolding(crate::specs::Reading::total_at, crate::specs::Reading::number_at))]
-fn total_of(bytes: &[u8]) -> Result<usize, BsonFault>
+pub fn total_of(bytes: &[u8]) -> Result<usize, BsonFault>
     requires { length bytes.now ≤ longest }
     ensures read { result ≡ total_at bytes.now }
     ensures fits { IfOk result (λ n. (5 ≤ n) × (n ≤ length bytes.now)) }

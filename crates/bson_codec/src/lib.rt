@@ -1,28 +1,42 @@
-//! BSON 1.1 (bsonspec.org): the bytes of a document read into a tree and written from one.
+//! BSON 1.1 (bsonspec.org): the bytes of a document read into a tree, written from one, or walked where
+//! they stand.
 //!
 //! `decode` reads a whole list of bytes, `decode_front` the document at its front, and `encode` writes a
-//! document that `well_formed` accepts. What is refused has a first fault, with its offset.
+//! document that `well_formed` accepts. `check_bson` judges bytes without memory, and hands out a `RawDoc`
+//! over them. What is refused has a first fault, with its offset.
 //!
 //! ```text
 //! let document = decode(alloc, &bytes)?;
 //! let again = encode(alloc, &document)?;      // the same bytes
+//! for item in check_bson(&bytes)?.items() { .. }
 //! ```
 //!
 //! Texts and names aren't tested for UTF-8, and the names of array elements are kept as given.
 #![tactic(auto)]
 
+mod borrowed;
+mod checking;
 mod decoding;
 mod encoding;
 mod fault;
+mod front;
+mod item;
+mod iter;
 pub mod laws;
 mod measuring;
 mod raw;
 mod table;
 
+pub use borrowed::{RawDoc, check_bson, first_doc};
+pub use checking::check_value;
 pub use decoding::{decode, decode_front, stated_length};
 pub use encoding::{encode, put_value};
 pub use fault::{BsonFault, BsonKind, CodecFault};
+pub use item::RawItem;
+pub use iter::RawIter;
 pub use measuring::well_formed;
 
+#[cfg(test)]
+mod borrowed_tests;
 #[cfg(test)]
 mod tests;

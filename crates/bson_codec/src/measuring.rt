@@ -6,7 +6,8 @@ ghost use Rattle.bson_tree.specs.View.{tree};
 ghost use Rattle.bson_codec.specs.Layout.{IsName, IsRaw, IsInside, IsValue, AreElements, IsItems, IsWellFormed};
 ghost use Rattle.bson_codec.specs.Measure.{Measures};
 
-use crate::raw::{raw_length, zero_position};
+use crate::checking::raw_length;
+use crate::raw::zero_position;
 use crate::table::{RawLayout, ValueLayout, layout_of};
 use bson_tree::{Body, Bytes, Doc, Kids, Value};
 

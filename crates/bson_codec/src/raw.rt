@@ -2,10 +2,10 @@
 //! and ends before the last byte of the document that it stands in.
 
 ghost use Rattle.std.specs.Prelude.{◌≡◌, ◌+◌, ◌<◌, ◌≤◌, ◌^◌, length, IfOk, IfSome};
-ghost use Rattle.bson_codec.specs.Reading.{signed_below, number_at, length_at, zero_at, before_zero, name_at, fixed_at, bool_at, string_at, binary_at, raw_at, inside_at};
+ghost use Rattle.bson_codec.specs.Reading.{signed_below, number_at, length_at, zero_at, before_zero, name_at, fixed_at, bool_at, string_at, binary_at, regex_at, pointer_at, layout_at, inside_length_at};
 
 use crate::fault::{BsonFault, BsonKind};
-use crate::table::RawLayout;
+use crate::table::{ValueLayout, layout_of};
 
 /// Whether a number of 32 bits stands for a signed number below `least`.
 pub fn is_signed_below(n: u32, least: u32) -> bool
@@ -100,7 +100,7 @@ pub fn name_length(bytes: &[u8], at: usize) -> Result<usize, BsonFault>
 }
 
 #[tactic(auto, unfolding(crate::specs::Reading::fixed_at))]
-fn fixed_length(width: usize, bytes: &[u8], at: usize) -> Result<usize, BsonFault>
+pub fn fixed_length(width: usize, bytes: &[u8], at: usize) -> Result<usize, BsonFault>
     requires { at + length bytes.now < 2 ^ 32 }
     ensures read { result ≡ fixed_at width at bytes.now }
     ensures fits { IfOk result (λ n. (n ≤ length bytes.now) × (n ≡ width)) }
@@ -115,7 +115,7 @@ fn fixed_length(width: usize, bytes: &[u8], at: usize) -> Result<usize, BsonFaul
 }
 
 #[tactic(auto, unfolding(crate::specs::Reading::bool_at))]
-fn bool_length(bytes: &[u8], at: usize) -> Result<usize, BsonFault>
+pub fn bool_length(bytes: &[u8], at: usize) -> Result<usize, BsonFault>
     requires { at + length bytes.now < 2 ^ 32 }
     ensures read { result ≡ bool_at at bytes.now }
     ensures fits { IfOk result (λ n. n ≤ length bytes.now) }
@@ -131,7 +131,7 @@ fn bool_length(bytes: &[u8], at: usize) -> Result<usize, BsonFault>
 }
 
 #[tactic(auto, unfolding(crate::specs::Reading::string_at))]
-fn string_length(bytes: &[u8], at: usize) -> Result<usize, BsonFault>
+pub fn string_length(bytes: &[u8], at: usize) -> Result<usize, BsonFault>
     requires { at + length bytes.now < 2 ^ 32 }
     ensures read { result ≡ string_at at bytes.now }
     ensures fits { IfOk result (λ n. n ≤ length bytes.now) }
@@ -143,7 +143,7 @@ fn string_length(bytes: &[u8], at: usize) -> Result<usize, BsonFault>
 }
 
 #[tactic(auto, unfolding(crate::specs::Reading::binary_at))]
-fn binary_length(bytes: &[u8], at: usize) -> Result<usize, BsonFault>
+pub fn binary_length(bytes: &[u8], at: usize) -> Result<usize, BsonFault>
     requires { at + length bytes.now < 2 ^ 32 }
     ensures read { result ≡ binary_at at bytes.now }
     ensures fits { IfOk result (λ n. n ≤ length bytes.now) }
@@ -153,22 +153,72 @@ fn binary_length(bytes: &[u8], at: usize) -> Result<usize, BsonFault>
     Ok(n + 5)
 }
 
-/// The number of bytes of a raw value of this layout, in which documents may add so many levels.
-pub fn raw_length(
-    levels: u32,
-    layout: RawLayout,
-    bytes: &[u8],
-    at: usize,
-) -> Result<usize, BsonFault>
+#[tactic(auto, unfolding(crate::specs::Reading::regex_at))]
+pub fn regex_length(bytes: &[u8], at: usize) -> Result<usize, BsonFault>
     requires { at + length bytes.now < 2 ^ 32 }
-    ensures read { result ≡ raw_at (inside_at levels) layout at bytes.now }
+    ensures read { result ≡ regex_at at bytes.now }
     ensures fits { IfOk result (λ n. n ≤ length bytes.now) }
 {
-    let _ = levels;
-    match layout {
-        RawLayout::Fixed(width) => fixed_length(width, bytes, at),
-        RawLayout::Bool => bool_length(bytes, at),
-        RawLayout::Text => string_length(bytes, at),
-        RawLayout::Binary => binary_length(bytes, at),
+    let n = name_length(bytes, at)?;
+    let (_, behind) = bytes.split_at(n + 1);
+    let m = name_length(behind, at + (n + 1))?;
+    Ok(n + 1 + (m + 1))
+}
+
+#[tactic(auto, unfolding(crate::specs::Reading::pointer_at))]
+pub fn pointer_length(bytes: &[u8], at: usize) -> Result<usize, BsonFault>
+    requires { at + length bytes.now < 2 ^ 32 }
+    ensures read { result ≡ pointer_at at bytes.now }
+    ensures fits { IfOk result (λ n. n ≤ length bytes.now) }
+{
+    let n = string_length(bytes, at)?;
+    let (_, behind) = bytes.split_at(n);
+    let m = fixed_length(12, behind, at + n)?;
+    Ok(n + m)
+}
+
+/// The layout behind the type byte at `at`.
+#[tactic(auto, unfolding(crate::specs::Reading::layout_at))]
+pub fn layout_behind(tag: u8, at: usize) -> Result<ValueLayout, BsonFault>
+    requires { at < 2 ^ 32 }
+    ensures read { result ≡ layout_at at tag }
+{
+    if tag == 0 {
+        return Err(BsonFault {
+            kind: BsonKind::Extra,
+            offset: at + 1,
+        });
     }
+    match layout_of(tag) {
+        Some(layout) => Ok(layout),
+        None => Err(BsonFault {
+            kind: BsonKind::Tag,
+            offset: at,
+        }),
+    }
+}
+
+/// The length of a document inside another one that may still add so many levels, and that has to fill the
+/// bytes where `fills`.
+#[tactic(auto, unfolding(crate::specs::Reading::inside_length_at))]
+pub fn inside_length(levels: u32, fills: bool, bytes: &[u8], at: usize) -> Result<usize, BsonFault>
+    requires { at + length bytes.now < 2 ^ 32 }
+    ensures read { result ≡ inside_length_at levels fills at bytes.now }
+    ensures fits { IfOk result (λ n. (5 ≤ n) × (n ≤ length bytes.now) × (0 < levels)) }
+{
+    let stated = number_of(bytes, at)?;
+    if levels == 0 {
+        return Err(BsonFault {
+            kind: BsonKind::Deep,
+            offset: at,
+        });
+    }
+    let n = length_of(5, 0, stated, bytes, at)?;
+    if fills && n != bytes.len() {
+        return Err(BsonFault {
+            kind: BsonKind::Length,
+            offset: at,
+        });
+    }
+    Ok(n)
 }

@@ -8,7 +8,7 @@ use std::alloc::{AllocError, Global};
 use std::test::Fail;
 
 // {insert: "people", documents: [{ssn: "123-45-6789", n: 1}], $db: "hr"}, as a driver writes it.
-const INSERT: [u8; 88] = [
+pub const INSERT: [u8; 88] = [
     0x58, 0x00, 0x00, 0x00, 0x02, 0x69, 0x6e, 0x73, 0x65, 0x72, 0x74, 0x00, 0x07, 0x00, 0x00, 0x00,
     0x70, 0x65, 0x6f, 0x70, 0x6c, 0x65, 0x00, 0x04, 0x64, 0x6f, 0x63, 0x75, 0x6d, 0x65, 0x6e, 0x74,
     0x73, 0x00, 0x29, 0x00, 0x00, 0x00, 0x03, 0x30, 0x00, 0x21, 0x00, 0x00, 0x00, 0x02, 0x73, 0x73,
@@ -52,7 +52,7 @@ fn the_front_document_is_read_whatever_follows(rt: HostRuntime) -> Result<(), Fa
 
 #[test]
 fn the_first_fault_has_its_kind_and_offset(rt: HostRuntime) {
-    let cases: [(&[u8], BsonKind, usize); 17] = [
+    let cases: [(&[u8], BsonKind, usize); 20] = [
         (b"", BsonKind::Short, 0),
         (b"\x05\x00\x00", BsonKind::Short, 3),
         (b"\x04\x00\x00\x00\x00", BsonKind::Length, 0),
@@ -94,6 +94,21 @@ fn the_first_fault_has_its_kind_and_offset(rt: HostRuntime) {
             BsonKind::NoEnd,
             11,
         ),
+        (
+            b"\x16\x00\x00\x00\x0Fa\x00\x0D\x00\x00\x00\x01\x00\x00\x00\x00\x05\x00\x00\x00\x00\x00",
+            BsonKind::Length,
+            7,
+        ),
+        (
+            b"\x17\x00\x00\x00\x0Fa\x00\x0F\x00\x00\x00\x01\x00\x00\x00\x00\x05\x00\x00\x00\x00\x00\x00",
+            BsonKind::Length,
+            16,
+        ),
+        (
+            b"\x16\x00\x00\x00\x0Fa\x00\x0E\x00\x00\x00\x02\x00\x00\x00a\x00\x05\x00\x00\x00\x00",
+            BsonKind::Length,
+            17,
+        ),
     ];
     for (bytes, kind, offset) in cases {
         assert!(rt; bytes.len() < 100);
@@ -103,6 +118,38 @@ fn the_first_fault_has_its_kind_and_offset(rt: HostRuntime) {
             Some(CodecFault::Bson(fault))
         );
     }
+}
+
+// The BSON corpus of the MongoDB specifications: one document of each type that isn't in the insert
+// command.
+#[test]
+fn documents_of_each_type_are_read_and_written_again(rt: HostRuntime) -> Result<(), Fail> {
+    let cases: [&[u8]; 16] = [
+        b"\x10\x00\x00\x00\x01d\x00\x00\x00\x00\x00\x00\x00\xF0\x3F\x00",
+        b"\x0D\x00\x00\x00\x05x\x00\x00\x00\x00\x00\x00\x00",
+        b"\x08\x00\x00\x00\x06a\x00\x00",
+        b"\x14\x00\x00\x00\x07a\x00\x00\x00\x00\x00\x00\x00\x00\x00\x00\x00\x00\x00\x00",
+        b"\x10\x00\x00\x00\x09a\x00\x00\x00\x00\x00\x00\x00\x00\x00\x00",
+        b"\x08\x00\x00\x00\x0Aa\x00\x00",
+        b"\x0A\x00\x00\x00\x0Ba\x00\x00\x00\x00",
+        b"\x1A\x00\x00\x00\x0Ca\x00\x02\x00\x00\x00b\x00\x56\xE1\xFC\x72\xE0\xC9\x17\xE9\xC4\x71\x41\x61\x00",
+        b"\x0D\x00\x00\x00\x0Da\x00\x01\x00\x00\x00\x00\x00",
+        b"\x0D\x00\x00\x00\x0Ea\x00\x01\x00\x00\x00\x00\x00",
+        b"\x16\x00\x00\x00\x0Fa\x00\x0E\x00\x00\x00\x01\x00\x00\x00\x00\x05\x00\x00\x00\x00\x00",
+        b"\x10\x00\x00\x00\x11a\x00\x2A\x00\x00\x00\x15\xCD\x5B\x07\x00",
+        b"\x10\x00\x00\x00\x12a\x00\xFF\xFF\xFF\xFF\xFF\xFF\xFF\xFF\x00",
+        b"\x18\x00\x00\x00\x13d\x00\x00\x00\x00\x00\x00\x00\x00\x00\x00\x00\x00\x00\x00\x00\x00\x7C\x00",
+        b"\x08\x00\x00\x00\xFFa\x00\x00",
+        b"\x08\x00\x00\x00\x7Fa\x00\x00",
+    ];
+    for bytes in cases {
+        assert!(rt; bytes.len() < 100);
+        let document = decode(rt.alloc(), bytes)?;
+        assert!(rt; well_formed(&document));
+        let again = encode(rt.alloc(), &document)?;
+        assert_eq!(rt; again.as_slice(), bytes);
+    }
+    Ok(())
 }
 
 // Documents inside one another, each but the last with the name "a" before the next one.

@@ -1,0 +1,103 @@
+-- What an element's parts say of its tree.
+use Rattle.std.proofs.Common.{◌≡◌, ℕ, ◌-◌, ◌≤◌, Bool, true, false, cond, List, [], ◌∷◌, ◌++◌, length, get_or, take, drop, Option, Some, refl, sym, ap, subst, ◌∙◌, arith}
+use Rattle.bson_tree.specs.Tree.{Tree, Items, leaf, node, tag_of}
+use Rattle.std.proofs.lemmas.List.{take_at, length-append}
+use Rattle.bson_tree.specs.Spelling.{value_bytes, items_bytes, doc_bytes}
+use Rattle.bson_codec.specs.declared.table.ValueLayout.{ValueLayout}
+use Rattle.bson_codec.specs.declared.table.ValueLayout.TheVariants as values
+use Rattle.bson_codec.specs.declared.table.RawLayout.TheVariants as raws
+use Rattle.bson_codec.specs.Table.{layout_of}
+use Rattle.bson_codec.specs.Raw.{doc_of, elements_of, is_inner, value_tree, SpellsDoc, SpellsElements, SpellsValue}
+use Rattle.bson_codec.specs.Layout.{IsItems, HasLayout, IsString, IsBinary, string_bytes, binary_bytes, level_limit}
+use Rattle.bson_codec.proofs.Elements.{typed}
+use Rattle.bson_codec.proofs.Views.{doc_of_spelling}
+use Rattle.bson_codec.proofs.Deeper.{inside_is_doc}
+use Rattle.bson_codec.proofs.Fronts.{is_document, layout_is, value_tree_is, elements_of_spelling}
+
+type_by : (b : Bool) (tag : ℕ) (bs : List ℕ) → tag_of (cond b (node tag (doc_of bs)) (leaf tag bs)) ≡ tag
+type_by true tag bs = refl
+type_by false tag bs = refl
+
+pub type_is : (tag : ℕ) (bs : List ℕ) → tag_of (value_tree tag bs) ≡ tag
+type_is tag bs = type_by (is_inner tag) tag bs
+
+pub value_is : (tag : ℕ) (bs : List ℕ) → SpellsValue tag bs → value_bytes (value_tree tag bs) ≡ bs
+value_is tag bs s =
+    let same : value_tree tag bs ≡ s.tree = ap (λ (k : ℕ). value_tree k bs) (sym s.type) ∙ ap (value_tree (tag_of s.tree)) s.parts ∙ value_tree_is s.tree s.laid in
+    ap value_bytes same ∙ sym s.parts
+
+-- ---- documents inside
+
+inside_of_value : (layout : ValueLayout) (t : Tree) → is_document layout ≡ true → HasLayout (IsItems (level_limit - 1)) (Some layout) t → SpellsDoc (value_bytes t)
+inside_of_value values.Document (leaf tag bytes) e laid = absurd laid
+inside_of_value values.Document (node tag is) e laid = record { tree = is; doc = inside_is_doc is laid; parts = refl }
+inside_of_value (values.Raw layout) t e laid = absurd cc
+
+pub child_spells : (tag : ℕ) (bs : List ℕ) → SpellsValue tag bs → is_inner tag ≡ true → SpellsDoc bs
+child_spells tag bs s inner =
+    let layout = typed (IsItems (level_limit - 1)) (layout_of (tag_of s.tree)) s.tree s.laid in
+    let laid : HasLayout (IsItems (level_limit - 1)) (Some layout.layout) s.tree = subst (λ (o : Option ValueLayout). HasLayout (IsItems (level_limit - 1)) o s.tree) layout.is s.laid in
+    let doc : is_document layout.layout ≡ true = layout_is (tag_of s.tree) layout.layout layout.is ∙ ap is_inner s.type ∙ inner in
+    subst SpellsDoc (sym s.parts) (inside_of_value layout.layout s.tree doc laid)
+
+-- the elements of a document's bytes
+doc_elements : (bs : List ℕ) (is : Items) → bs ≡ doc_bytes is → take (length bs - 1 - 4) (drop 4 bs) ≡ items_bytes is
+doc_elements bs is e =
+    let elements = items_bytes is in
+    let tail : drop 4 bs ≡ elements ++ 0 ∷ [] = ap (drop 4) e in
+    let size : length elements ≡ length bs - 1 - 4 = omega (arith, ap length e, length-append elements (0 ∷ [])) in
+    ap (take (length bs - 1 - 4)) tail ∙ take_at elements (0 ∷ []) (length bs - 1 - 4) size
+
+pub doc_spells : (bs : List ℕ) → SpellsDoc bs → SpellsElements (take (length bs - 1 - 4) (drop 4 bs))
+doc_spells bs s = record { tree = s.tree; laid = s.doc.elements; parts = doc_elements bs s.tree s.parts }
+
+pub items_are : (bs : List ℕ) → SpellsDoc bs → elements_of (take (length bs - 1 - 4) (drop 4 bs)) ≡ doc_of bs
+items_are bs s = elements_of_spelling _ s.tree s.doc.elements (doc_elements bs s.tree s.parts) ∙ sym (doc_of_spelling bs s.tree s.doc s.parts)
+
+-- ---- strings and binaries
+
+string_leaf : (t : Tree) → HasLayout (IsItems (level_limit - 1)) (Some (values.Raw raws.Text)) t → IsString (value_bytes t)
+string_leaf (leaf tag bytes) laid = laid
+string_leaf (node tag is) laid = absurd laid
+
+binary_leaf : (t : Tree) → HasLayout (IsItems (level_limit - 1)) (Some (values.Raw raws.Binary)) t → IsBinary (value_bytes t)
+binary_leaf (leaf tag bytes) laid = laid
+binary_leaf (node tag is) laid = absurd laid
+
+row_two : layout_of 2 ≡ Some (values.Raw raws.Text)
+unfolding layout_of
+row_two = refl
+
+row_five : layout_of 5 ≡ Some (values.Raw raws.Binary)
+unfolding layout_of
+row_five = refl
+
+pub string_spelled : (bs : List ℕ) → SpellsValue 2 bs → IsString bs
+string_spelled bs s =
+    let laid = subst (λ (o : Option ValueLayout). HasLayout (IsItems (level_limit - 1)) o s.tree) (ap layout_of s.type ∙ row_two) s.laid in
+    subst IsString (sym s.parts) (string_leaf s.tree laid)
+
+pub binary_spelled : (bs : List ℕ) → SpellsValue 5 bs → IsBinary bs
+binary_spelled bs s =
+    let laid = subst (λ (o : Option ValueLayout). HasLayout (IsItems (level_limit - 1)) o s.tree) (ap layout_of s.type ∙ row_five) s.laid in
+    subst IsBinary (sym s.parts) (binary_leaf s.tree laid)
+
+-- the parts of a string's bytes
+pub text_is : (bs : List ℕ) → IsString bs → bs ≡ string_bytes (take (length (drop 4 bs) - 1) (drop 4 bs))
+text_is bs s =
+    let tail : drop 4 bs ≡ s.text ++ 0 ∷ [] = ap (drop 4) s.parts in
+    let size : length s.text ≡ length (drop 4 bs) - 1 = omega (arith, ap length tail, length-append s.text (0 ∷ [])) in
+    let text : take (length (drop 4 bs) - 1) (drop 4 bs) ≡ s.text = ap (take (length (drop 4 bs) - 1)) tail ∙ take_at s.text (0 ∷ []) (length (drop 4 bs) - 1) size in
+    s.parts ∙ ap string_bytes (sym text)
+
+pub string_long : (bs : List ℕ) → IsString bs → 5 ≤ length bs
+string_long bs s = omega (arith, ap length s.parts, length-append s.text (0 ∷ []))
+
+-- the parts of a binary's bytes
+pub contents_are : (bs : List ℕ) → IsBinary bs → bs ≡ binary_bytes (get_or (drop 4 bs) 0 0) (drop 1 (drop 4 bs))
+contents_are bs s =
+    let tail : drop 4 bs ≡ s.subtype ∷ s.contents = ap (drop 4) s.parts in
+    s.parts ∙ ap (λ (x : List ℕ). binary_bytes (get_or x 0 0) (drop 1 x)) (sym tail)
+
+pub binary_long : (bs : List ℕ) → IsBinary bs → 5 ≤ length bs
+binary_long bs s = omega (arith, ap length s.parts)

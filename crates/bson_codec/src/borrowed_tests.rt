@@ -1,0 +1,70 @@
+use crate::tests::INSERT;
+use crate::{BsonFault, BsonKind, check_bson, check_value, first_doc};
+use std::test::Fail;
+
+#[test]
+fn the_elements_of_the_insert_command_stand_in_order(rt: HostRuntime) -> Result<(), Fail> {
+    let document = check_bson(&INSERT)?;
+    assert_eq!(rt; document.bytes(), INSERT.as_slice());
+    let mut items = document.again().items();
+    let insert = items.next().ok_or("no insert")?;
+    assert_eq!(rt; insert.tag(), 0x02);
+    assert_eq!(rt; insert.name(), b"insert".as_slice());
+    assert_eq!(rt; insert.text(), Some(b"people".as_slice()));
+    assert!(rt; insert.child().is_none());
+    let documents = items.next().ok_or("no documents")?;
+    assert_eq!(rt; documents.tag(), 0x04);
+    assert_eq!(rt; documents.start(), 34);
+    assert!(rt; documents.text().is_none());
+    let database = items.again().next().ok_or("no $db")?;
+    assert_eq!(rt; database.value(), b"\x03\x00\x00\x00hr\x00".as_slice());
+    assert!(rt; items.next().is_some());
+    assert!(rt; items.next().is_none());
+    Ok(())
+}
+
+// The value of `ssn` begins at offset 50, in element 0 of element 0 of element 1.
+#[test]
+fn an_offset_leads_to_the_value_that_begins_there(rt: HostRuntime) -> Result<(), Fail> {
+    let document = check_bson(&INSERT)?;
+    let (number, documents) = document.child_holding(50).ok_or("not in the command")?;
+    assert_eq!(rt; number, 1);
+    let array = documents.child().ok_or("no array")?;
+    let (number, person) = array.child_holding(50).ok_or("not in the array")?;
+    assert_eq!(rt; number, 0);
+    let person = person.child().ok_or("no document")?;
+    let (number, ssn) = person.child_holding(50).ok_or("not in the document")?;
+    assert_eq!(rt; number, 0);
+    assert_eq!(rt; ssn.start(), 50);
+    assert_eq!(rt; ssn.text(), Some(b"123-45-6789".as_slice()));
+    assert!(rt; document.child_holding(51).is_some());
+    assert!(rt; document.child_holding(88).is_none());
+    Ok(())
+}
+
+// The BSON corpus of the MongoDB specifications, binary, subtype 0x00.
+#[test]
+fn a_binary_has_a_subtype_and_contents(rt: HostRuntime) -> Result<(), Fail> {
+    let bytes = b"\x0F\x00\x00\x00\x05x\x00\x02\x00\x00\x00\x00\xFF\xFF\x00\x07";
+    let (document, rest) = first_doc(bytes)?;
+    assert_eq!(rt; rest, b"\x07".as_slice());
+    let item = document.items().next().ok_or("no element")?;
+    let (subtype, contents) = item.binary().ok_or("no binary")?;
+    assert_eq!(rt; subtype, 0);
+    assert_eq!(rt; contents, b"\xFF\xFF".as_slice());
+    let fault = BsonFault {
+        kind: BsonKind::Extra,
+        offset: 15,
+    };
+    assert_eq!(rt; check_bson(bytes).err(), Some(fault));
+    Ok(())
+}
+
+#[test]
+fn a_value_fills_its_bytes_and_its_levels(rt: HostRuntime) {
+    assert!(rt; check_value(0x10, b"\x01\x00\x00\x00", 0));
+    assert!(rt; !check_value(0x10, b"\x01\x00\x00\x00\x00", 0));
+    assert!(rt; check_value(0x03, b"\x05\x00\x00\x00\x00", 1));
+    assert!(rt; !check_value(0x03, b"\x05\x00\x00\x00\x00", 0));
+    assert!(rt; !check_value(0x20, b"", 0));
+}

@@ -1,0 +1,139 @@
+//! Elements of checked documents, which borrow the bytes.
+
+ghost use Rattle.std.specs.Prelude.{◌≡◌, ◌+◌, ◌<◌, ◌^◌, ◌==◌, length, is_some, IfSome, MatchOption};
+ghost use Rattle.bson_tree.specs.Spelling.{value_bytes};
+ghost use Rattle.bson_tree.specs.Tree.{leaf, node, no_items, tag_of, kids_of};
+ghost use Rattle.bson_codec.specs.Layout.{string_bytes, binary_bytes};
+ghost use Rattle.bson_codec.specs.Raw.{holds, is_inner, SpellsValue};
+
+use crate::borrowed::RawDoc;
+use std::marker::Model;
+
+/// An element of a checked document: its name, its value, and the offset of the value's first byte in the
+/// outermost bytes that were checked.
+#[derive(Drop)]
+pub struct RawItem<'a> {
+    pub(crate) tag: u8,
+    pub(crate) name: &'a [u8],
+    pub(crate) value: &'a [u8],
+    pub(crate) start: usize,
+}
+
+impl<'a> Model for RawItem<'a> {
+    ghost use Rattle.std.specs.Prelude.{◌<◌, ◌+◌, ◌^◌, length};
+    ghost use Rattle.bson_codec.specs.Raw.{Elem, coded_elem, value_tree, SpellsValue};
+
+    ghost Value = { Elem };
+
+    ghost coded = { coded_elem };
+
+    ghost view = { λ e. record { name = e.name.now; tree = value_tree e.tag e.value.now; start = e.start } };
+
+    ghost invariant = { λ e. (e.start + length e.value.now < 2 ^ 31) × SpellsValue e.tag e.value.now };
+}
+
+#[tactic(auto, using(crate::proofs::Items::type_is, crate::proofs::Items::value_is))]
+impl<'a> RawItem<'a> {
+    /// The type byte.
+    pub fn tag(&self) -> u8
+        ensures tag { result ≡ tag_of self.now.tree }
+    {
+        self.tag
+    }
+
+    /// The name, without the 00.
+    pub fn name(&self) -> &'a [u8]
+        ensures name { result.now ≡ self.now.name }
+    {
+        self.name
+    }
+
+    /// The offset of the value's first byte.
+    pub fn start(&self) -> usize
+        ensures start { result ≡ self.now.start }
+    {
+        self.start
+    }
+
+    /// The bytes of the value.
+    pub fn value(&self) -> &'a [u8]
+        ensures spelling { result.now ≡ value_bytes self.now.tree }
+        ensures room { self.now.start + length result.now < 2 ^ 31 }
+    {
+        self.value
+    }
+
+    /// The document inside: `None` exactly where the type is neither 03 nor 04.
+    pub fn child(&self) -> Option<RawDoc<'a>>
+        ensures kind { is_some result ≡ is_inner (tag_of self.now.tree) }
+        ensures inside { MatchOption result (kids_of self.now.tree ≡ no_items) (λ d. kids_of self.now.tree ≡ d.tree) }
+        ensures node { MatchOption result (self.now.tree ≡ leaf (tag_of self.now.tree) (value_bytes self.now.tree)) (λ d. self.now.tree ≡ node (tag_of self.now.tree) d.tree) }
+        ensures start { IfSome result (λ d. d.start ≡ self.now.start) }
+    {
+        if !has_document(self.tag) {
+            return None;
+        }
+        Some(RawDoc {
+            bytes: self.value,
+            start: self.start,
+        })
+    }
+
+    /// The bytes of a string, without length and final 00: `None` exactly where the type isn't 02.
+    pub fn text(&self) -> Option<&'a [u8]>
+        ensures kind { is_some result ≡ (tag_of self.now.tree == 0x02) }
+        ensures text { IfSome result (λ t. value_bytes self.now.tree ≡ string_bytes t.now) }
+    {
+        if self.tag != 0x02 {
+            return None;
+        }
+        Some(text_of(self.value))
+    }
+
+    /// The subtype and the contents of a binary: `None` exactly where the type isn't 05.
+    pub fn binary(&self) -> Option<(u8, &'a [u8])>
+        ensures kind { is_some result ≡ (tag_of self.now.tree == 0x05) }
+        ensures contents { IfSome result (λ b. value_bytes self.now.tree ≡ binary_bytes b.0 b.1.now) }
+    {
+        if self.tag != 0x05 {
+            return None;
+        }
+        Some(contents_of(self.value))
+    }
+}
+
+/// Whether the element's value begins at `at` or, being 03 or 04, holds it.
+pub(crate) fn holds_offset(item: &RawItem<'_>, at: usize) -> bool
+    ensures holds { result ≡ holds at item.now }
+{
+    let start = item.start();
+    let inner = has_document(item.tag());
+    start == at || (inner && start < at && at < start + item.value().len())
+}
+
+// Whether values of this type hold a document: embedded document and array.
+fn has_document(tag: u8) -> bool
+    ensures inner { result ≡ is_inner tag }
+{
+    tag == 0x03 || tag == 0x04
+}
+
+// The text of a string's bytes.
+fn text_of<'a>(value: &'a [u8]) -> &'a [u8]
+    requires { SpellsValue 0x02 value.now }
+    ensures text { value.now ≡ string_bytes result.now }
+{
+    let (_, ended) = value.split_at(4);
+    let (text, _) = ended.split_at(ended.len() - 1);
+    text
+}
+
+// The subtype and the contents of a binary's bytes.
+fn contents_of<'a>(value: &'a [u8]) -> (u8, &'a [u8])
+    requires { SpellsValue 0x05 value.now }
+    ensures contents { value.now ≡ binary_bytes result.0 result.1.now }
+{
+    let (_, typed) = value.split_at(4);
+    let (_, contents) = typed.split_at(1);
+    (typed[0], contents)
+}
