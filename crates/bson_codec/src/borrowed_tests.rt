@@ -68,3 +68,43 @@ fn a_value_fills_its_bytes_and_its_levels(rt: HostRuntime) {
     assert!(rt; !check_value(0x03, b"\x05\x00\x00\x00\x00", 0));
     assert!(rt; !check_value(0x20, b"", 0));
 }
+
+#[test]
+fn malformed_bytes_have_their_first_fault(rt: HostRuntime) {
+    let cases: [(&[u8], BsonKind, usize); 11] = [
+        (b"\x05\x00\x00", BsonKind::Short, 3),
+        (b"\x05\x00\x00\x00", BsonKind::Short, 4),
+        (b"\x04\x00\x00\x00\x00", BsonKind::Length, 0),
+        (b"\x05\x00\x00\x00\x01", BsonKind::NoEnd, 4),
+        (b"\x06\x00\x00\x00\x00\x00", BsonKind::Extra, 5),
+        (b"\x08\x00\x00\x00\x14a\x00\x00", BsonKind::Tag, 4),
+        (b"\x08\x00\x00\x00\x0Aab\x00", BsonKind::NoEnd, 7),
+        (b"\x09\x00\x00\x00\x08a\x00\x02\x00", BsonKind::Bool, 7),
+        (b"\x0A\x00\x00\x00\x10a\x00\x01\x00\x00", BsonKind::Short, 9),
+        (
+            b"\x0C\x00\x00\x00\x02a\x00\x00\x00\x00\x00\x00",
+            BsonKind::Length,
+            7,
+        ),
+        (
+            b"\x0D\x00\x00\x00\x05a\x00\xFF\xFF\xFF\xFF\x00\x00",
+            BsonKind::Length,
+            7,
+        ),
+    ];
+    for (bytes, kind, offset) in cases {
+        assert!(rt; bytes.len() < 100);
+        assert_eq!(rt; check_bson(bytes).err(), Some(BsonFault { kind, offset }));
+    }
+}
+
+// The scope of `{a: javascriptWithScope "" {}}` is no document of the tree.
+#[test]
+fn a_scope_is_no_child(rt: HostRuntime) -> Result<(), Fail> {
+    let bytes =
+        b"\x16\x00\x00\x00\x0Fa\x00\x0E\x00\x00\x00\x01\x00\x00\x00\x00\x05\x00\x00\x00\x00\x00";
+    let item = check_bson(bytes)?.items().next().ok_or("no element")?;
+    assert_eq!(rt; item.tag(), 0x0F);
+    assert!(rt; item.child().is_none());
+    Ok(())
+}

@@ -1,7 +1,8 @@
 ghost use Rattle.std.specs.Prelude.{◌<◌};
 
 use crate::{
-    BsonFault, BsonKind, CodecFault, decode, decode_front, encode, stated_length, well_formed,
+    BsonFault, BsonKind, CodecFault, check_bson, decode, decode_front, encode, put_value,
+    stated_length, well_formed,
 };
 use bson_tree::{Body, Bytes, Doc, Kids, Place, Value, copy_doc, value_at};
 use std::alloc::{AllocError, Global};
@@ -184,6 +185,8 @@ fn a_hundred_levels_are_read_and_no_more(rt: HostRuntime) -> Result<(), Fail> {
         decode(rt.alloc(), &bytes).err(),
         Some(CodecFault::Bson(deep))
     );
+    assert_eq!(rt; check_bson(&bytes).err(), Some(deep));
+    assert!(rt; check_bson(&nested(rt.alloc(), 100)?).is_ok());
     Ok(())
 }
 
@@ -225,4 +228,13 @@ fn kinds_are_numbered_from_one(rt: HostRuntime) {
         assert_eq!(rt; kind.number(), number);
         number = kind.number().saturating_add(1);
     }
+}
+
+#[test]
+fn a_value_is_appended(rt: HostRuntime) -> Result<(), Fail> {
+    let body = Body::Raw(Bytes::from_slice(rt.alloc(), b"\x01\x00\x00\x00")?);
+    let mut out = Vec::from_slice(rt.alloc(), b"n=")?;
+    put_value(&mut out, &Value { tag: 0x10, body })?;
+    assert_eq!(rt; out.as_slice(), b"n=\x01\x00\x00\x00".as_slice());
+    Ok(())
 }

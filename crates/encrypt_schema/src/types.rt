@@ -1,6 +1,7 @@
 //! The aliases of the BSON types in `bsonType`, and the types that an algorithm can protect.
 
-ghost use Rattle.std.specs.Prelude.{◌≡◌, ◌++◌, ◌∷◌, [], option_map};
+ghost use Rattle.std.specs.List.{list_any};
+ghost use Rattle.std.specs.Prelude.{◌≡◌, ◌==◌, ◌++◌, ◌∷◌, [], option_map};
 ghost use Rattle.bson_tree.specs.View.{tree};
 ghost use Rattle.bson_tree.specs.Tree.{after};
 ghost use Rattle.encrypt_schema.specs.Fields.{only_if};
@@ -15,18 +16,32 @@ use bson_tree::{Bytes, Kids, Value};
 use std::alloc::Global;
 
 /// Each alias with its type byte, as BSON 1.1 has them.
-static TYPE_NAMES: [(&'static [u8], u8); 7] = [
+static TYPE_NAMES: [(&'static [u8], u8); 17] = [
     (b"double", 1),
     (b"string", 2),
     (b"object", 3),
     (b"array", 4),
     (b"binData", 5),
+    (b"objectId", 7),
     (b"bool", 8),
+    (b"date", 9),
+    (b"regex", 11),
+    (b"dbPointer", 12),
+    (b"javascript", 13),
+    (b"symbol", 14),
+    (b"javascriptWithScope", 15),
     (b"int", 16),
+    (b"timestamp", 17),
+    (b"long", 18),
+    (b"decimal", 19),
 ];
 
 /// Every type that the random algorithm can protect.
-const EVERY_TYPE: [u8; 7] = [1, 2, 3, 4, 5, 8, 16];
+const EVERY_TYPE: [u8; 17] = [1, 2, 3, 4, 5, 7, 8, 9, 11, 12, 13, 14, 15, 16, 17, 18, 19];
+
+/// Every type that the deterministic algorithm can protect: not double, object, array, bool,
+/// javascriptWithScope and decimal.
+const COMPARABLE_TYPES: [u8; 11] = [2, 5, 7, 9, 11, 12, 13, 14, 16, 17, 18];
 
 /// The types of a rule with this algorithm.
 #[tactic(auto, unfolding(crate::specs::Rules::types_at))]
@@ -74,11 +89,18 @@ fn is_protected(algorithm: Algorithm, types: &[u8]) -> bool
     }
 }
 
-/// Whether values of this type can be compared once they are sealed.
+/// Whether the deterministic algorithm can protect this type.
 fn is_comparable(tag: u8) -> bool
     ensures { result ≡ is_comparable tag }
 {
-    tag == 2 || tag == 5 || tag == 16
+    contains_type(&COMPARABLE_TYPES, tag)
+}
+
+/// Whether a type stands among these.
+fn contains_type(types: &[u8], tag: u8) -> bool
+    ensures { result ≡ list_any (λ t. t == tag) types.now }
+{
+    types.iter().any(|t| *t == tag)
 }
 
 /// The types that `bsonType` names.

@@ -1,5 +1,6 @@
 -- The diagnostic line: `fle: S D R P`, the status, the number of a document or file, the reason, the place.
 use Rattle.std.specs.Prelude.{ℕ, List, [], ◌∷◌, ◌++◌, codes, decimal}
+use Rattle.bson_codec.specs.Fault.{kind_number}
 use Rattle.fle_runner.specs.Codes.{reason_code, bound_code, setup_code}
 use Rattle.fle_runner.specs.declared.why.Why.{Why}
 use Rattle.fle_runner.specs.declared.why.Why.TheVariants as whys
@@ -26,12 +27,12 @@ tail_text place = place_text place ++ codes "\n"
 abbrev pub line_text : ℕ → ℕ → ℕ → List ℕ → List ℕ
 line_text status number reason place = head_text status number reason ++ tail_text place
 
--- the line of a run that ended for this reason, with the number of the document that it was at
+-- the line of a run that ended for this reason, with the number of the document that it was at; a fault stands at its offset in the document
 abbrev pub line_of : Why → ℕ → List ℕ
 line_of whys.Done number = []
 line_of (whys.Refused reason place) number = line_text 1 number (reason_code reason) place
 line_of whys.Words number = line_text 2 0 0 []
-line_of (whys.Malformed fault) number = line_text 3 number 0 []
+line_of (whys.Malformed fault) number = line_text 3 number (kind_number fault.kind) (fault.offset ∷ [])
 line_of (whys.Setup file fault document) number = line_text 4 file (setup_code fault) (document ∷ [])
 line_of whys.FolderFault number = line_text 5 0 0 []
 line_of whys.ReadFault number = line_text 5 number 0 []

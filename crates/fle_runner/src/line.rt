@@ -1,9 +1,12 @@
 //! The diagnostic line of a run.
 
+ghost use Rattle.std.specs.Prelude.{[], ◌∷◌};
+ghost use Rattle.bson_codec.specs.Fault.{kind_number};
 ghost use Rattle.fle_outside.specs.Writing.{WritesWhole};
 ghost use Rattle.fle_runner.specs.Line.{line_of, line_text, head_text, tail_text, place_text, dots};
 
 use crate::why::Why;
+use bson_codec::BsonFault;
 use fle_outside::{Failed, Sink, put_parts, write_whole};
 use itoa::Buffer;
 
@@ -22,7 +25,7 @@ pub fn put_end<G: Sink>(diag: &mut G, why: &Why, number: u64) -> Result<(), Fail
             reason.code(),
             place.as_slice(),
         ),
-        Why::Malformed(_) => put_line(diag, status, number, 0, &[]),
+        Why::Malformed(fault) => put_fault(diag, status, number, fault),
         Why::Limit(bound) => put_line(diag, status, number, bound.code(), &[]),
         Why::Setup(file, fault, document) => {
             put_line(diag, status, *file as u64, fault.code(), &[*document])
@@ -50,6 +53,32 @@ fn put_line<G: Sink>(
 {
     match put_head(diag, status, number, reason) {
         Ok(()) => put_tail(diag, place),
+        Err(Failed) => Err(Failed),
+    }
+}
+
+/// Writes the line of a fault: its kind, and its offset in the document.
+fn put_fault<G: Sink>(
+    diag: &mut G,
+    status: u8,
+    number: u64,
+    fault: &BsonFault,
+) -> Result<(), Failed>
+    ensures { WritesWhole (G.written diag.old) (G.written diag.new) (G.faults diag.old) (G.faults diag.new) (G.assured diag.old) (G.assured diag.new) result (line_text status number (kind_number fault.now.kind) (fault.now.offset ∷ [])) }
+{
+    match put_head(diag, status, number, fault.kind.number()) {
+        Ok(()) => put_offset(diag, fault.offset),
+        Err(Failed) => Err(Failed),
+    }
+}
+
+/// Writes an offset and the end of the line.
+fn put_offset<G: Sink>(diag: &mut G, offset: usize) -> Result<(), Failed>
+    ensures { WritesWhole (G.written diag.old) (G.written diag.new) (G.faults diag.old) (G.faults diag.new) (G.assured diag.old) (G.assured diag.new) result (tail_text (offset ∷ [])) }
+{
+    let mut buffer = Buffer::new();
+    match write_whole(diag, buffer.format(offset).as_bytes()) {
+        Ok(()) => write_whole(diag, b"\n"),
         Err(Failed) => Err(Failed),
     }
 }

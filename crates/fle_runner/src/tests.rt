@@ -135,7 +135,7 @@ fn joined(alloc: Global, front: &[u8], back: &[u8]) -> Result<Vec<u8>, Fail> {
 #[test]
 fn each_input_has_its_end(rt: HostRuntime) -> Result<(), Fail> {
     let nothing: &[u8] = b"";
-    let cases: [(&[u8], Status, &[u8], &str); 7] = [
+    let cases: [(&[u8], Status, &[u8], &str); 8] = [
         (nothing, Status::Done, nothing, ""),
         (INSERT, Status::Done, REPLY, ""),
         (NOTES, Status::Done, NOTES_REPLY, ""),
@@ -144,13 +144,20 @@ fn each_input_has_its_end(rt: HostRuntime) -> Result<(), Fail> {
             b"\x58\x00\x00\x00\x02in",
             Status::Malformed,
             nothing,
-            "fle: 3 1 0 -\n",
+            "fle: 3 1 1 7\n",
         ),
         (
             b"\xff\xff\xff\xff",
             Status::Malformed,
             nothing,
-            "fle: 3 1 0 -\n",
+            "fle: 3 1 2 0\n",
+        ),
+        (
+            // {b: bool 2}
+            b"\x09\x00\x00\x00\x08b\x00\x02\x00",
+            Status::Malformed,
+            nothing,
+            "fle: 3 1 5 7\n",
         ),
         (
             b"\x01\x00\x00\x01",
