@@ -1,4 +1,4 @@
--- The message that is sealed and opened.
+-- The message that is run over.
 use Rattle.std.specs.Prelude.{ℕ, zero, suc, ◌%◌, List, [], ◌∷◌, ◌++◌}
 
 -- n bytes that count up from 0 to 250, again and again

@@ -2,8 +2,9 @@
 use Rattle.std.specs.Prelude.{ℕ, List, codes}
 use Rattle.fle_bench.specs.declared.job.Direction.TheVariants.{Seal, Open}
 use Rattle.fle_bench.specs.declared.job.Way.TheVariants.{Tables, Closures, Boxes}
+use Rattle.fle_bench.specs.declared.job.KeySetup.TheVariants.{Kept, Fresh}
 use Rattle.fle_bench.specs.declared.job.Subject.{Subject}
-use Rattle.fle_bench.specs.declared.job.Subject.TheVariants.{Cbc}
+use Rattle.fle_bench.specs.declared.job.Subject.TheVariants.{Cbc, Hmac, AeadSeal, AeadOpen}
 
 -- the word for a subject
 abbrev pub word_of : Subject → List ℕ
@@ -13,3 +14,8 @@ word_of (Cbc Seal Boxes) = codes "cbc-seal-boxes"
 word_of (Cbc Open Tables) = codes "cbc-open-tables"
 word_of (Cbc Open Closures) = codes "cbc-open-closures"
 word_of (Cbc Open Boxes) = codes "cbc-open-boxes"
+word_of (Hmac Kept) = codes "hmac-kept"
+word_of (Hmac Fresh) = codes "hmac-fresh"
+word_of (AeadSeal Kept) = codes "aead-seal-kept"
+word_of (AeadSeal Fresh) = codes "aead-seal-fresh"
+word_of AeadOpen = codes "aead-open-kept"

@@ -9,6 +9,7 @@ ghost use Rattle.fle_bench.specs.Adler32.{adler32};
 ghost use Rattle.fle_bench.specs.Message.{message_bytes};
 
 use crate::checksum::adler32;
+use crate::input::message;
 use crate::job::{Direction, MOST_BYTES, Way};
 use aes_block::{Schedule, cipher_tables, expand, inv_cipher_tables};
 use cbc_mode::{cbc_open_into, cbc_seal_into, padded_len};
@@ -80,18 +81,6 @@ fn through<B: Block256>(
             Ok(adler32(&opened))
         }
     }
-}
-
-/// A message whose bytes count up from 0 to 250, again and again.
-fn message(alloc: Global, size: usize) -> Result<Vec<u8>, AllocError>
-    ensures len { IfOk result (λ v. length v.items ≡ size) }
-    ensures bytes { IfOk result (λ v. v.items ≡ message_bytes size) }
-{
-    let mut bytes = Vec::new(alloc);
-    for i in 0..size {
-        bytes.push((i % 251) as u8)?;
-    }
-    Ok(bytes)
 }
 
 /// Seals a message some times over, to the same bytes each time.

@@ -25,10 +25,26 @@ pub enum Way {
     Boxes,
 }
 
+/// When a key is made ready.
+#[derive(Clone, Copy)]
+pub enum KeySetup {
+    /// Once, for all turns.
+    Kept,
+    /// In each turn anew.
+    Fresh,
+}
+
 /// What is run.
 #[derive(Clone, Copy)]
 pub enum Subject {
+    /// CBC with AES-256.
     Cbc(Direction, Way),
+    /// HMAC-SHA-512.
+    Hmac(KeySetup),
+    /// The sealing of a value under the vector that it determines.
+    AeadSeal(KeySetup),
+    /// The opening of such a value, under a key that is kept.
+    AeadOpen,
 }
 
 /// The subject that a word names.
@@ -43,6 +59,11 @@ pub fn subject_of(word: &str) -> Option<Subject>
         "cbc-open-tables" => Some(Subject::Cbc(Direction::Open, Way::Tables)),
         "cbc-open-closures" => Some(Subject::Cbc(Direction::Open, Way::Closures)),
         "cbc-open-boxes" => Some(Subject::Cbc(Direction::Open, Way::Boxes)),
+        "hmac-kept" => Some(Subject::Hmac(KeySetup::Kept)),
+        "hmac-fresh" => Some(Subject::Hmac(KeySetup::Fresh)),
+        "aead-seal-kept" => Some(Subject::AeadSeal(KeySetup::Kept)),
+        "aead-seal-fresh" => Some(Subject::AeadSeal(KeySetup::Fresh)),
+        "aead-open-kept" => Some(Subject::AeadOpen),
         _ => None,
     }
 }

@@ -8,8 +8,11 @@
 //! the last answer. It reads no clock: the same words always give the same line.
 #![tactic(auto)]
 
+mod aead;
 mod cbc;
 mod checksum;
+mod hmac;
+mod input;
 mod job;
 
 use crate::job::{MOST_BYTES, Subject, subject_of};
@@ -31,6 +34,9 @@ fn main(rt: HostRuntime) -> anyhow::Result<()> {
     }
     let checksum = match subject {
         Subject::Cbc(direction, way) => cbc::run(rt.alloc(), direction, way, size, turns)?,
+        Subject::Hmac(setup) => hmac::run(rt.alloc(), setup, size, turns)?,
+        Subject::AeadSeal(setup) => aead::run_sealing(rt.alloc(), setup, size, turns)?,
+        Subject::AeadOpen => aead::run_opening(rt.alloc(), size, turns)?,
     };
     println!(rt; "{word} {size} {turns} {checksum:08x}")?;
     Ok(())

@@ -1,6 +1,8 @@
+use crate::aead::{run_opening, run_sealing};
 use crate::cbc::run;
 use crate::checksum::adler32;
-use crate::job::{Direction, Way};
+use crate::hmac;
+use crate::job::{Direction, KeySetup, Way};
 use std::alloc::AllocError;
 
 // What zlib's adler32 gives.
@@ -16,5 +18,25 @@ fn each_way_writes_what_openssl_does(rt: HostRuntime) -> Result<(), AllocError> 
         assert_eq!(rt; run(rt.alloc(), Direction::Seal, way, 1024, 2)?, 0xe13f0c20);
         assert_eq!(rt; run(rt.alloc(), Direction::Open, way, 1024, 2)?, 0x1eb9ec0a);
     }
+    Ok(())
+}
+
+// The checksums of the codes that Python's hmac makes.
+#[test]
+fn codes_are_those_of_python(rt: HostRuntime) -> Result<(), AllocError> {
+    for setup in [KeySetup::Kept, KeySetup::Fresh] {
+        assert_eq!(rt; hmac::run(rt.alloc(), setup, 42, 2)?, 0x2350218c);
+        assert_eq!(rt; hmac::run(rt.alloc(), setup, 74, 2)?, 0x464120e3);
+    }
+    Ok(())
+}
+
+// The checksums of what Python's hmac and OpenSSL's AES-256-CBC make together, and of the message.
+#[test]
+fn values_are_sealed_as_elsewhere_and_opened(rt: HostRuntime) -> Result<(), AllocError> {
+    for setup in [KeySetup::Kept, KeySetup::Fresh] {
+        assert_eq!(rt; run_sealing(rt.alloc(), setup, 16, 2)?, 0x92e128a0);
+    }
+    assert_eq!(rt; run_opening(rt.alloc(), 16, 2)?, 0x02b80079);
     Ok(())
 }

@@ -1,7 +1,7 @@
 use Rattle.std.proofs.Common.{rules}
 use Rattle.fle_bench.specs.Message.{message_bytes}
 use Rattle.fle_bench.proofs.Messages.{message_bytes-next}
-use Rattle.fle_bench.proofs.cbc.message.Goals as goal
+use Rattle.fle_bench.proofs.input.message.Goals as goal
 
 pub loop-i-init : goal.loop-i-init
 unfolding message_bytes

@@ -1,0 +1,111 @@
+//! AEAD_AES_256_CBC_HMAC_SHA_512 (draft-mcgrew-aead-aes-cbc-hmac-sha2) of one value, under the
+//! vector that it determines.
+
+ghost use Rattle.std.specs.Prelude.{◌≡◌, ◌≤◌, ◌<◌, ◌+◌, ◌*◌, ◌/◌, ◌^◌, length, List, take, ℕ, IfOk};
+ghost use Rattle.fle_aead.specs.Sealed.{derived_iv, IsSealed};
+ghost use Rattle.fle_bench.specs.Adler32.{adler32};
+ghost use Rattle.fle_bench.specs.Message.{message_bytes};
+ghost use Rattle.fle_bench.specs.Value.{sealed_value};
+
+use crate::checksum::adler32;
+use crate::input::message;
+use crate::job::{KeySetup, MOST_BYTES};
+use crypto_hooks::Tables;
+use fle_aead::{DataKey, derive_iv, open_into, seal_into, sealed_len};
+use std::alloc::{AllocError, Global};
+
+/// A data key, the bytes 80 to DF.
+const DATA_KEY: [u8; 96] = [
+    0x80, 0x81, 0x82, 0x83, 0x84, 0x85, 0x86, 0x87, 0x88, 0x89, 0x8a, 0x8b, 0x8c, 0x8d, 0x8e, 0x8f,
+    0x90, 0x91, 0x92, 0x93, 0x94, 0x95, 0x96, 0x97, 0x98, 0x99, 0x9a, 0x9b, 0x9c, 0x9d, 0x9e, 0x9f,
+    0xa0, 0xa1, 0xa2, 0xa3, 0xa4, 0xa5, 0xa6, 0xa7, 0xa8, 0xa9, 0xaa, 0xab, 0xac, 0xad, 0xae, 0xaf,
+    0xb0, 0xb1, 0xb2, 0xb3, 0xb4, 0xb5, 0xb6, 0xb7, 0xb8, 0xb9, 0xba, 0xbb, 0xbc, 0xbd, 0xbe, 0xbf,
+    0xc0, 0xc1, 0xc2, 0xc3, 0xc4, 0xc5, 0xc6, 0xc7, 0xc8, 0xc9, 0xca, 0xcb, 0xcc, 0xcd, 0xce, 0xcf,
+    0xd0, 0xd1, 0xd2, 0xd3, 0xd4, 0xd5, 0xd6, 0xd7, 0xd8, 0xd9, 0xda, 0xdb, 0xdc, 0xdd, 0xde, 0xdf,
+];
+
+/// The associated data of a string that is sealed under a derived vector: 01, the key's id, 02.
+const ASSOCIATED: [u8; 18] = [
+    0x01, 0x00, 0x11, 0x22, 0x33, 0x44, 0x55, 0x46, 0x77, 0x88, 0x99, 0xaa, 0xbb, 0xcc, 0xdd, 0xee,
+    0xff, 0x02,
+];
+
+/// Seals a message of some length, and gives the checksum of what it wrote last.
+pub fn run_sealing(
+    alloc: Global,
+    setup: KeySetup,
+    size: usize,
+    turns: u32,
+) -> Result<u32, AllocError>
+    requires { size ≤ MOST_BYTES }
+    ensures { IfOk result (λ sum. 0 < turns
+        → sum ≡ adler32 (sealed_value DATA_KEY ASSOCIATED (message_bytes size))) }
+{
+    let plain = message(alloc, size)?;
+    let mut sealed = vec![in alloc; 0u8; sealed_len(size)]?;
+    match setup {
+        KeySetup::Kept => seal_kept(DATA_KEY, &ASSOCIATED, &plain, &mut sealed, turns),
+        KeySetup::Fresh => seal_fresh(DATA_KEY, &ASSOCIATED, &plain, &mut sealed, turns),
+    }
+    Ok(adler32(&sealed))
+}
+
+/// Opens what a message of some length is sealed to, and gives the checksum of the message that it
+/// found last.
+pub fn run_opening(alloc: Global, size: usize, turns: u32) -> Result<u32, AllocError>
+    requires { size ≤ MOST_BYTES }
+    ensures { IfOk result (λ sum. 0 < turns → sum ≡ adler32 (message_bytes size)) }
+{
+    let plain = message(alloc, size)?;
+    let mut sealed = vec![in alloc; 0u8; sealed_len(size)]?;
+    seal_kept(DATA_KEY, &ASSOCIATED, &plain, &mut sealed, 1);
+    let mut opened = vec![in alloc; 0u8; sealed_len(size)]?;
+    open_kept(DATA_KEY, &ASSOCIATED, &sealed, &mut opened, turns);
+    Ok(adler32(&opened[..size]))
+}
+
+/// Seals a message some times over, to the same bytes each time, under a key that is kept.
+fn seal_kept(bytes: [u8; 96], aad: &[u8], plain: &[u8], out: &mut [u8], turns: u32)
+    requires aad { length aad.now < 2 ^ 31 }
+    requires room { length out.old ≡ 48 + 16 * (length plain.now / 16 + 1) }
+    ensures { 0 < turns → IsSealed bytes aad.now (derived_iv bytes aad.now plain.now) plain.now out.new }
+{
+    let key = DataKey::new(bytes);
+    for _turn in 0..turns {
+        seal_once(&key, aad, plain, out);
+    }
+}
+
+/// The same with nothing kept: each turn makes the key ready anew.
+fn seal_fresh(bytes: [u8; 96], aad: &[u8], plain: &[u8], out: &mut [u8], turns: u32)
+    requires aad { length aad.now < 2 ^ 31 }
+    requires room { length out.old ≡ 48 + 16 * (length plain.now / 16 + 1) }
+    ensures { 0 < turns → IsSealed bytes aad.now (derived_iv bytes aad.now plain.now) plain.now out.new }
+{
+    for _turn in 0..turns {
+        seal_once(&DataKey::new(bytes), aad, plain, out);
+    }
+}
+
+/// Seals a message under the vector that it determines.
+fn seal_once(key: &DataKey, aad: &[u8], plain: &[u8], out: &mut [u8])
+    requires aad { length aad.now < 2 ^ 31 }
+    requires room { length out.old ≡ 48 + 16 * (length plain.now / 16 + 1) }
+    ensures { IsSealed key.now aad.now (derived_iv key.now aad.now plain.now) plain.now out.new }
+{
+    let iv = derive_iv(key, aad, plain);
+    seal_into(&Tables, key, aad, iv, plain, out);
+}
+
+/// Opens a sealed message some times over, under a key that is kept, to the front of `out`.
+fn open_kept(bytes: [u8; 96], aad: &[u8], sealed: &[u8], out: &mut [u8], turns: u32)
+    requires aad { length aad.now < 2 ^ 31 }
+    requires room { length sealed.now ≤ length out.old }
+    ensures { 0 < turns → (iv p : List ℕ) → IsSealed bytes aad.now iv p sealed.now
+        → take (length p) out.new ≡ p }
+{
+    let key = DataKey::new(bytes);
+    for _turn in 0..turns {
+        let _outcome = open_into(&Tables, &key, aad, sealed, out);
+    }
+}
