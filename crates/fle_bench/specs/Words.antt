@@ -4,7 +4,7 @@ use Rattle.fle_bench.specs.declared.job.Direction.TheVariants.{Seal, Open}
 use Rattle.fle_bench.specs.declared.job.Way.TheVariants.{Tables, Closures, Boxes}
 use Rattle.fle_bench.specs.declared.job.KeySetup.TheVariants.{Kept, Fresh}
 use Rattle.fle_bench.specs.declared.job.Subject.{Subject}
-use Rattle.fle_bench.specs.declared.job.Subject.TheVariants.{Cbc, Hmac, AeadSeal, AeadOpen}
+use Rattle.fle_bench.specs.declared.job.Subject.TheVariants.{Cbc, Hmac, AeadSeal, AeadOpen, BsonCheck}
 
 -- the word for a subject
 abbrev pub word_of : Subject → List ℕ
@@ -19,3 +19,4 @@ word_of (Hmac Fresh) = codes "hmac-fresh"
 word_of (AeadSeal Kept) = codes "aead-seal-kept"
 word_of (AeadSeal Fresh) = codes "aead-seal-fresh"
 word_of AeadOpen = codes "aead-open-kept"
+word_of BsonCheck = codes "bson-check"

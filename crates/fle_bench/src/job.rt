@@ -45,6 +45,8 @@ pub enum Subject {
     AeadSeal(KeySetup),
     /// The opening of such a value, under a key that is kept.
     AeadOpen,
+    /// The check of a BSON document that stands on standard input.
+    BsonCheck,
 }
 
 /// The subject that a word names.
@@ -64,6 +66,7 @@ pub fn subject_of(word: &str) -> Option<Subject>
         "aead-seal-kept" => Some(Subject::AeadSeal(KeySetup::Kept)),
         "aead-seal-fresh" => Some(Subject::AeadSeal(KeySetup::Fresh)),
         "aead-open-kept" => Some(Subject::AeadOpen),
+        "bson-check" => Some(Subject::BsonCheck),
         _ => None,
     }
 }

@@ -5,10 +5,12 @@
 //! ```
 //!
 //! The words are what is run, the number of bytes, and how many times. It writes one line, with the Adler-32 checksum of
-//! the last answer. It reads no clock: the same words always give the same line.
+//! the last answer, or, for the check of a document, 1 where it is right. It reads no clock: the same words and the same
+//! input always give the same line.
 #![tactic(auto)]
 
 mod aead;
+mod bson;
 mod cbc;
 mod checksum;
 mod hmac;
@@ -16,6 +18,7 @@ mod input;
 mod job;
 
 use crate::job::{MOST_BYTES, Subject, subject_of};
+use fle_outside::StdinSource;
 use std::env;
 
 fn main(rt: HostRuntime) -> anyhow::Result<()> {
@@ -37,6 +40,10 @@ fn main(rt: HostRuntime) -> anyhow::Result<()> {
         Subject::Hmac(setup) => hmac::run(rt.alloc(), setup, size, turns)?,
         Subject::AeadSeal(setup) => aead::run_sealing(rt.alloc(), setup, size, turns)?,
         Subject::AeadOpen => aead::run_opening(rt.alloc(), size, turns)?,
+        Subject::BsonCheck => {
+            let document = bson::document(rt.alloc(), &mut StdinSource::new(rt.stdin()), size)?;
+            bson::run(&document, turns) as u32
+        }
     };
     println!(rt; "{word} {size} {turns} {checksum:08x}")?;
     Ok(())

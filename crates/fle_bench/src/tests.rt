@@ -40,3 +40,9 @@ fn values_are_sealed_as_elsewhere_and_opened(rt: HostRuntime) -> Result<(), Allo
     assert_eq!(rt; run_opening(rt.alloc(), 16, 2)?, 0x02b80079);
     Ok(())
 }
+
+#[test]
+fn a_document_is_right_or_not(rt: HostRuntime) {
+    assert!(rt; crate::bson::run(b"\x05\x00\x00\x00\x00", 2));
+    assert!(rt; !crate::bson::run(b"\x05\x00\x00\x00\x01", 2));
+}
