@@ -178,7 +178,7 @@ fn a_stream_may_come_in_any_pieces(rt: HostRuntime) -> Result<(), Fail> {
     let two = joined(alloc, INSERT, NOTES)?;
     let three = joined(alloc, &two, PING)?;
     let replies = joined(alloc, REPLY, NOTES_REPLY)?;
-    for step in 1..20 {
+    for step in 1..=three.len() {
         let run = Run {
             step,
             ..plain(&three)
