@@ -175,6 +175,7 @@ fn a_hundred_levels_are_read_and_no_more(rt: HostRuntime) -> Result<(), Fail> {
     assert_eq!(rt; bytes.len(), 797);
     let document = decode(rt.alloc(), &bytes)?;
     assert!(rt; well_formed(&document));
+    assert!(rt; check_bson(&bytes).is_ok());
     let bytes = nested(rt.alloc(), 101)?;
     assert_eq!(rt; bytes.len(), 805);
     let deep = BsonFault {
@@ -186,7 +187,6 @@ fn a_hundred_levels_are_read_and_no_more(rt: HostRuntime) -> Result<(), Fail> {
         Some(CodecFault::Bson(deep))
     );
     assert_eq!(rt; check_bson(&bytes).err(), Some(deep));
-    assert!(rt; check_bson(&nested(rt.alloc(), 100)?).is_ok());
     Ok(())
 }
 
