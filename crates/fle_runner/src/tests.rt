@@ -335,3 +335,45 @@ fn the_version_is_told_or_its_failure(rt: HostRuntime) -> Result<(), Fail> {
     assert!(rt; diag.written() == b"fle: 6 0 0 -\n".as_slice());
     Ok(())
 }
+
+#[test]
+fn each_call_of_folder_and_sinks_fails_in_turn(rt: HostRuntime) -> Result<(), Fail> {
+    let alloc = rt.alloc();
+    for call in [0, 1] {
+        let run = Run {
+            folder: &[call],
+            ..plain(INSERT)
+        };
+        let seen = look(alloc, run)?;
+        expect(&rt, &seen, Status::ReadFault, b"", "fle: 5 0 0 -\n");
+    }
+    let outputs: [(u64, &[u8]); 3] = [(0, b""), (1, &REPLY[..100]), (2, &REPLY[..200])];
+    for (call, out) in outputs {
+        let run = Run {
+            sink: &[call],
+            ..plain(INSERT)
+        };
+        let seen = look(alloc, run)?;
+        expect(&rt, &seen, Status::WriteFault, out, "fle: 6 1 0 -\n");
+    }
+    let lines: [(u64, &str); 10] = [
+        (0, ""),
+        (1, "fle: "),
+        (2, "fle: 1"),
+        (3, "fle: 1 "),
+        (4, "fle: 1 1"),
+        (5, "fle: 1 1 "),
+        (6, "fle: 1 1 24"),
+        (7, "fle: 1 1 24 "),
+        (8, "fle: 1 1 24 -"),
+        (9, "fle: 1 1 24 -\n"),
+    ];
+    for (call, line) in lines {
+        let run = Run {
+            diag: &[call],
+            ..plain(PING)
+        };
+        expect(&rt, &look(alloc, run)?, Status::Refused, b"", line);
+    }
+    Ok(())
+}
