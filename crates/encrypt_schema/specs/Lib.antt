@@ -1,6 +1,5 @@
-pub mod Fields
-pub mod Seen
-pub mod TypeNames
-pub mod Rules
-pub mod Collection
-pub mod Collections
+pub mod Names
+pub mod Row
+pub mod Classes
+pub mod Dotted
+pub mod Reasons

@@ -2,21 +2,15 @@
 //! with the keyword `encrypt` of the MongoDB Client Side Encryption specification.
 #![tactic(auto)]
 
-mod collections;
+mod class;
 mod faults;
-mod fields;
+mod marks;
+mod names;
 mod policy;
-mod rows;
-mod rules;
-mod settings;
-mod stop;
-mod types;
+mod reason;
 
-pub use collections::{Info, Infos};
+pub use class::Class;
 pub use faults::{InfoFault, InfoKind, SchemaFault};
-pub use fields::{ARRAY, BINARY, DOCUMENT, fields_as, raw, text};
+pub use marks::{Mark, MarkFault, Marks, Role};
 pub use policy::{Algorithm, KeyRef, Policy, TypeSet};
-pub use rows::{Row, Rows};
-
-#[cfg(test)]
-mod tests;
+pub use reason::Reason;
