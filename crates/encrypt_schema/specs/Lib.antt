@@ -2,4 +2,12 @@ pub mod Names
 pub mod Row
 pub mod Classes
 pub mod Dotted
+pub mod Values
+pub mod TypeNames
+pub mod Keywords
+pub mod Shapes
+pub mod Rules
+pub mod Schemas
+pub mod Seen
+pub mod Flat
 pub mod Reasons

@@ -3,14 +3,25 @@
 #![tactic(auto)]
 
 mod class;
+mod context;
+mod distinct;
 mod faults;
+mod keyword;
 mod marks;
 mod names;
 mod policy;
+mod reading;
 mod reason;
+mod rows;
+mod rules;
+mod settings;
+mod shape;
+mod types;
+mod values;
 
 pub use class::Class;
 pub use faults::{InfoFault, InfoKind, SchemaFault};
 pub use marks::{Mark, MarkFault, Marks, Role};
 pub use policy::{Algorithm, KeyRef, Policy, TypeSet};
 pub use reason::Reason;
+pub use rows::Rows;

@@ -1,0 +1,15 @@
+use Rattle.std.proofs.Common.{rules, ◌≡◌, IfOk, ℕ, ◌+◌, ◌-◌, ◌*◌, ◌<◌, ◌≤◌, length, ◌/◌, ◌%◌, Bool, true, false, nat_eq, nat_lt, List, [], ◌∷◌, ◌++◌, slice_index_or, slice_set, bit_and, bit_or, Fits, w8, w32, w64, Bor, MutBor, sym, not, ◌∙◌}
+use Rattle.encrypt_schema.specs.Values.{are_distinct}
+use Rattle.encrypt_schema.proofs.Sets.{has, next_known, read_on}
+use Rattle.encrypt_schema.proofs.distinct.are_distinct.Goals as goal
+
+-- src/distinct.rt:16:5
+pub loop-item-preserved : goal.loop-item-preserved
+loop-item-preserved c =
+    let known = c.loop-item.invariant.known in
+    let new : true ≡ not (has c.loop-item.names c.in-Some.item.name) = rw (sym c.name.ensures.name) (sym c.in-Ok-true.field-0-test ∙ c.in-Ok-true.ensures.added) in
+    record {
+      before = c.in-Some.item.name ∷ c.loop-item.invariant.before;
+      known = rw (sym c.name.ensures.name) (next_known _ _ _ _ c.in-Ok-true.ensures.updates known);
+      read = read_on c.loop-item.names c.in-Some.item.name _ _ _ _ _ c.in-Some.ensures.steps.0 new known c.loop-item.invariant.read
+    }

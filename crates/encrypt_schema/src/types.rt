@@ -1,0 +1,186 @@
+//! The aliases of the BSON types in `bsonType`, and the types that an algorithm can protect.
+
+ghost use Rattle.std.specs.Prelude.{◌≡◌, ◌==◌, Some, [], codes, option_map, IfOk};
+ghost use Rattle.std.specs.List.{list_any};
+ghost use Rattle.encrypt_schema.specs.Rules.{wanted, types_stated, types_of, setting_of};
+ghost use Rattle.encrypt_schema.specs.declared.faults.SchemaFault.TheVariants as faults;
+ghost use Rattle.encrypt_schema.specs.Schemas.{Gives};
+ghost use Rattle.encrypt_schema.specs.Seen.{types_in_table};
+ghost use Rattle.encrypt_schema.specs.TypeNames.{byte_in, type_byte, with_type, type_named, types_in, types_named, is_comparable, can_protect, types_allowed};
+
+use crate::faults::SchemaFault;
+use crate::policy::{Algorithm, TypeSet};
+use crate::settings::encrypt_setting;
+use crate::values::{is_string, text_of};
+use bson_codec::{RawDoc, RawItem};
+use bson_tree::Bytes;
+use fle_outside::Memory;
+use std::alloc::Global;
+
+/// Each alias with its type byte, as BSON 1.1 has them.
+static TYPE_NAMES: [(&'static [u8], u8); 17] = [
+    (b"double", 1),
+    (b"string", 2),
+    (b"object", 3),
+    (b"array", 4),
+    (b"binData", 5),
+    (b"objectId", 7),
+    (b"bool", 8),
+    (b"date", 9),
+    (b"regex", 11),
+    (b"dbPointer", 12),
+    (b"javascript", 13),
+    (b"symbol", 14),
+    (b"javascriptWithScope", 15),
+    (b"int", 16),
+    (b"timestamp", 17),
+    (b"long", 18),
+    (b"decimal", 19),
+];
+
+/// Every type that can be protected.
+const EVERY_TYPE: [u8; 17] = [1, 2, 3, 4, 5, 7, 8, 9, 11, 12, 13, 14, 15, 16, 17, 18, 19];
+
+/// Every type that the deterministic algorithm can protect: not double, object, array, bool,
+/// javascriptWithScope and decimal.
+const COMPARABLE_TYPES: [u8; 11] = [2, 5, 7, 9, 11, 12, 13, 14, 16, 17, 18];
+
+/// The types of a rule with this algorithm.
+#[tactic(auto, unfolding(crate::specs::Rules::types_of))]
+pub(crate) fn types_of(
+    alloc: Global,
+    algorithm: Algorithm,
+    schema: &RawDoc<'_>,
+) -> Result<TypeSet, SchemaFault>
+    ensures { Gives (λ t. t) result (types_of algorithm schema.now.tree) }
+{
+    let types = types_stated(alloc, schema)?;
+    if !can_protect(algorithm, types.as_slice()) {
+        return Err(SchemaFault::DeterministicType);
+    }
+    Ok(TypeSet::new(types_allowed(alloc, types)?))
+}
+
+/// The types that `bsonType` of `encrypt` names; none where it doesn't stand.
+#[tactic(auto, unfolding(crate::specs::Rules::types_stated))]
+fn types_stated(alloc: Global, schema: &RawDoc<'_>) -> Result<Bytes, SchemaFault>
+    ensures { Gives (λ t. t) result (wanted (types_stated schema.now.tree) faults.TypeName) }
+{
+    match stated_types(schema) {
+        None => Ok(Bytes::from_vec(Vec::new(alloc))),
+        Some(item) => types_named(alloc, &item),
+    }
+}
+
+fn stated_types<'a>(schema: &RawDoc<'a>) -> Option<RawItem<'a>>
+    ensures { option_map (λ i. i.tree) result ≡ setting_of (codes "encrypt") (codes "bsonType") schema.now.tree }
+{
+    encrypt_setting(schema, b"bsonType")
+}
+
+/// The types that a string, or an array of strings, names.
+fn types_named(alloc: Global, item: &RawItem<'_>) -> Result<Bytes, SchemaFault>
+    ensures { Gives (λ t. t) result (wanted (types_named item.now.tree) faults.TypeName) }
+{
+    if is_string(item) {
+        return one_type(alloc, item);
+    }
+    match item.child() {
+        None => Ok(Bytes::from_vec(Vec::new(alloc))),
+        Some(elements) => types_in(alloc, &elements),
+    }
+}
+
+/// The type that a string names, alone.
+fn one_type(alloc: Global, item: &RawItem<'_>) -> Result<Bytes, SchemaFault>
+    ensures { Gives (λ t. t) result (wanted (with_type (type_named item.now.tree) (Some [])) faults.TypeName) }
+{
+    let Some(byte) = type_named(item) else {
+        return Err(SchemaFault::TypeName);
+    };
+    Ok(Bytes::from_slice(alloc, &[byte])?)
+}
+
+/// The types that the strings of an array name.
+#[tactic(auto, using(crate::proofs::TypeLists::all_types))]
+fn types_in(alloc: Global, elements: &RawDoc<'_>) -> Result<Bytes, SchemaFault>
+    ensures { Gives (λ t. t) result (wanted (types_in elements.now.tree) faults.TypeName) }
+{
+    let mut types = Vec::new(alloc);
+    for item in elements.items() {
+        let Some(byte) = type_named(&item) else {
+            return Err(SchemaFault::TypeName);
+        };
+        match types.push(byte) {
+            Ok(()) => {}
+            Err(_) => return Err(SchemaFault::Memory),
+        }
+    }
+    Ok(Bytes::from_vec(types))
+}
+
+/// The type that a string names.
+fn type_named(item: &RawItem<'_>) -> Option<u8>
+    ensures { result ≡ type_named item.now.tree }
+{
+    type_byte(text_of(item)?)
+}
+
+/// The type byte behind an alias.
+#[tactic(auto, unfolding(crate::specs::TypeNames::type_byte))]
+fn type_byte(name: &[u8]) -> Option<u8>
+    ensures { result ≡ type_byte name.now }
+{
+    byte_in(name, &TYPE_NAMES)
+}
+
+/// The type byte behind a name in a table of names.
+#[tactic(auto, unfolding(crate::specs::Names::named))]
+fn byte_in(name: &[u8], table: &[(&'static [u8], u8)]) -> Option<u8>
+    ensures { result ≡ byte_in name.now (types_in_table table.now) }
+{
+    for row in table {
+        if name == row.0 {
+            return Some(row.1);
+        }
+    }
+    None
+}
+
+/// Whether the algorithm can protect the types named.
+fn can_protect(algorithm: Algorithm, types: &[u8]) -> bool
+    ensures { result ≡ can_protect algorithm types.now }
+{
+    match algorithm {
+        Algorithm::Random => true,
+        Algorithm::Deterministic => match types {
+            [only] => is_comparable(*only),
+            _ => false,
+        },
+    }
+}
+
+/// Whether the deterministic algorithm can protect this type.
+fn is_comparable(tag: u8) -> bool
+    ensures { result ≡ is_comparable tag }
+{
+    contains_type(&COMPARABLE_TYPES, tag)
+}
+
+/// Whether a type stands among these.
+fn contains_type(types: &[u8], tag: u8) -> bool
+    ensures { result ≡ list_any (λ t. t == tag) types.now }
+{
+    types.iter().any(|t| *t == tag)
+}
+
+/// The types of a rule: those named, or every one where none is.
+fn types_allowed(alloc: Global, types: Bytes) -> Result<Bytes, Memory>
+    ensures { IfOk result (λ t. t ≡ types_allowed types) }
+{
+    if types.as_slice().is_empty() {
+        Bytes::from_slice(alloc, &EVERY_TYPE)
+    } else {
+        Ok(types)
+    }
+}
