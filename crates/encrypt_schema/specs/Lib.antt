@@ -3,3 +3,8 @@ pub mod Row
 pub mod Classes
 pub mod Dotted
 pub mod Reasons
+pub mod Fronts
+pub mod Trees
+pub mod Borrowed
+pub mod Spots
+pub mod Cursors

@@ -3,13 +3,17 @@
 #![tactic(auto)]
 
 mod class;
+mod cursor;
 mod faults;
 mod marks;
 mod names;
 mod policy;
 mod reason;
+mod rules;
+mod spots;
 
 pub use class::Class;
+pub use cursor::Cursor;
 pub use faults::{InfoFault, InfoKind, SchemaFault};
 pub use marks::{Mark, MarkFault, Marks, Role};
 pub use policy::{Algorithm, KeyRef, Policy, TypeSet};
