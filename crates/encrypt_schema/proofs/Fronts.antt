@@ -1,5 +1,5 @@
 -- The fronts of rules' paths are the paths that lead to rules.
-use Rattle.std.proofs.Common.{◌≡◌, ◌<◌, ◌≤◌, ℕ, ◌+◌, Bool, true, false, cond, ◌&&◌, ◌||◌, List, [], ◌∷◌, ◌++◌, map, flat_map, length, get_or, is_some, refl, sym, ap, ap₂, ◌∙◌, subst, arith, append-nil}
+use Rattle.std.proofs.Common.{◌≡◌, ◌<◌, ◌≤◌, ℕ, ◌+◌, Bool, true, false, cond, ◌&&◌, ◌||◌, List, [], ◌∷◌, ◌++◌, map, flat_map, length, get_or, Option, Some, is_some, refl, sym, ap, ap₂, ◌∙◌, subst, arith, append-nil}
 use mathlib.Core.Bool.{false≢true}
 use Rattle.std.proofs.lemmas.List.{get_or_append_left, length_push, map_push, append-nil}
 use Rattle.std.proofs.lemmas.Grind.{flat_map-append}
@@ -8,7 +8,8 @@ use Rattle.encrypt_schema.specs.Row.{Row, paths}
 use Rattle.encrypt_schema.specs.Classes.{is_path, is_prefix, number_of, leads}
 use Rattle.encrypt_schema.specs.Fronts.{fronts_of, with_path, each_once, fronts}
 use Rattle.encrypt_schema.proofs.Paths.{among, found_is, spread_and, path_same}
-use Rattle.encrypt_schema.proofs.Numbers.{among_push}
+use Rattle.encrypt_schema.specs.Trees.{or_number}
+use Rattle.encrypt_schema.proofs.Numbers.{among_push, number_push}
 
 or_turn : (a b c : Bool) → (a || (b || c)) ≡ ((a || b) || c)
 or_turn true b c = refl
@@ -94,6 +95,21 @@ with_stays known p i below = by_test (is_some (number_of 0 p known)) where
 pub each_stays : (known ps : List (List (List ℕ))) (i : ℕ) → i < length known → get_or (each_once known ps) i [] ≡ get_or known i []
 each_stays known [] i below = refl
 each_stays known (p ∷ ps) i below = let h = with_stays known p i below in each_stays (with_path known p) ps i h.0 ∙ h.1
+
+-- the empty front is number 0
+with_first : (known : List (List (List ℕ))) (p : List (List ℕ)) → number_of 0 [] known ≡ Some 0 → number_of 0 [] (with_path known p) ≡ Some 0
+with_first known p e = by_test (is_some (number_of 0 p known)) where
+  by_test : (b : Bool) → number_of 0 [] (cond b known (known ++ p ∷ [])) ≡ Some 0
+  by_test true = e
+  by_test false = number_push [] p known ∙ ap (λ (o : Option ℕ). or_number o (is_path [] p) (length known)) e
+
+each_first : (known ps : List (List (List ℕ))) → number_of 0 [] known ≡ Some 0 → number_of 0 [] (each_once known ps) ≡ Some 0
+each_first known [] e = e
+each_first known (p ∷ ps) e = each_first (with_path known p) ps (with_first known p e)
+
+pub fronts_first : (rows : List Row) → number_of 0 [] (fronts rows) ≡ Some 0
+unfolding fronts
+fronts_first rows = each_first ([] ∷ []) (flat_map fronts_of (paths rows)) refl
 
 -- the front of a path that is walked, and what is left of it
 pub after_front : (f : List (List ℕ)) (n : List ℕ) (ps : List (List (List ℕ))) → map (λ q. f ++ q) (map (λ front. n ∷ front) ps) ≡ map (λ q. (f ++ n ∷ []) ++ q) ps

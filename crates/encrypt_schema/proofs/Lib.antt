@@ -6,3 +6,6 @@ pub mod Trees
 pub mod Written
 pub mod Walked
 pub mod Growth
+pub mod Grids
+pub mod Steps
+pub mod Opened

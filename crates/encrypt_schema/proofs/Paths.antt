@@ -61,7 +61,7 @@ path_longer (x ∷ p) n = ap (λ (b : Bool). named x x && b) (path_longer p n) �
   and_nothing true = refl
   and_nothing false = refl
 
-nil_prefix : (r : List (List ℕ)) → is_prefix r [] ≡ is_path [] r
+pub nil_prefix : (r : List (List ℕ)) → is_prefix r [] ≡ is_path [] r
 nil_prefix [] = refl
 nil_prefix (x ∷ r) = refl
 

@@ -7,4 +7,5 @@ pub mod Fronts
 pub mod Trees
 pub mod Borrowed
 pub mod Spots
+pub mod Places
 pub mod Cursors

@@ -1,12 +1,12 @@
 -- The tree of names in memory, spot by spot, and the rules that end in it
-use Rattle.std.specs.Prelude.{◌≡◌, ◌<◌, ◌≤◌, ◌+◌, ◌*◌, ℕ, List, [], ◌∷◌, ◌++◌, map, length, get_or, Option, None, All, Vec}
+use Rattle.std.specs.Prelude.{◌≡◌, ◌<◌, ◌≤◌, ◌+◌, ◌*◌, ℕ, List, [], ◌∷◌, ◌++◌, map, length, get_or, Option, None, Vec}
 use Rattle.std.specs.Cmp.Lexicographic.{slice_cmp}
 use Rattle.std.specs.Ordering.{nat_cmp}
 use Rattle.std.specs.BTreeMap.{BTreeMap, get_by}
 
 use Rattle.std.specs.Global.{Global}
 use Rattle.encrypt_schema.specs.declared.spots.Spot.{Spot}
-use Rattle.encrypt_schema.specs.declared.rules.Rule.{Rule}
+use Rattle.encrypt_schema.specs.declared.rows.Rule.{Rule}
 use Rattle.encrypt_schema.specs.Row.{Row, paths}
 use Rattle.encrypt_schema.specs.Fronts.{fronts}
 use Rattle.encrypt_schema.specs.Trees.{IsTree, HasRules}
@@ -48,12 +48,17 @@ row_by known rule = record { path = get_or known rule.spot []; policy = rule.pol
 abbrev pub rows_of : List Spot → List Rule → List Row
 rows_of spots rules = map (row_by (spot_paths spots)) rules
 
+-- the rules end at spots
+abbrev pub AreInside : ℕ → List Rule → Type 0
+AreInside count [] = Unit {0}
+AreInside count (rule ∷ rules) = (rule.spot < count) × AreInside count rules
+
 -- the spots are the fronts of the rules' paths, and lead where they should
 pub record IsGrid (spots : List Spot) (rules : List Rule) : Type 0 where
   pub root : 0 < length spots
   pub tree : IsTree (spot_paths spots) (child_at spots)
   pub rows : HasRules (spot_paths spots) (rule_at spots) (paths (rows_of spots rules))
   pub whole : spot_paths spots ≡ fronts (rows_of spots rules)
-  pub inside : All (λ rule. rule.spot < length spots) rules
+  pub inside : AreInside (length spots) rules
   pub few : length rules ≤ 4096
   pub size : length spots ≤ 1 + 100 * length rules

@@ -9,7 +9,7 @@ mod marks;
 mod names;
 mod policy;
 mod reason;
-mod rules;
+mod rows;
 mod spots;
 
 pub use class::Class;
@@ -18,3 +18,4 @@ pub use faults::{InfoFault, InfoKind, SchemaFault};
 pub use marks::{Mark, MarkFault, Marks, Role};
 pub use policy::{Algorithm, KeyRef, Policy, TypeSet};
 pub use reason::Reason;
+pub use rows::Rows;

@@ -166,3 +166,17 @@ pub(crate) fn reach(alloc: Global, spots: &mut Vec<Spot>, path: &[&[u8]]) -> Res
     }
     Ok(at)
 }
+
+/// Leaves the root alone, with no name that leads on and no rule.
+pub(crate) fn clear_spots(spots: &mut Vec<Spot>)
+    requires root { 0 < length spots.old.items }
+    ensures paths { spot_paths spots.new.items ≡ [] ∷ [] }
+    ensures children { (i : ℕ) (name : List ℕ) → child_at spots.new.items i name ≡ None }
+    ensures rules { (i : ℕ) → rule_at spots.new.items i ≡ None }
+    ensures count { length spots.new.items ≡ 1 }
+{
+    spots.truncate(1);
+    let root = &mut spots[0];
+    root.below.clear();
+    root.rule = None;
+}
