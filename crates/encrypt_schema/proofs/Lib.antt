@@ -9,3 +9,5 @@ pub mod Growth
 pub mod Grids
 pub mod Steps
 pub mod Opened
+pub mod Splits
+pub mod Walks

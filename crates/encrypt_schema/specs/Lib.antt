@@ -7,5 +7,6 @@ pub mod Fronts
 pub mod Trees
 pub mod Borrowed
 pub mod Spots
+pub mod Parts
 pub mod Places
 pub mod Cursors

@@ -4,6 +4,7 @@
 
 mod class;
 mod cursor;
+mod dotted;
 mod faults;
 mod marks;
 mod names;
@@ -14,6 +15,7 @@ mod spots;
 
 pub use class::Class;
 pub use cursor::Cursor;
+pub use dotted::{Walk, is_dollar, is_position};
 pub use faults::{InfoFault, InfoKind, SchemaFault};
 pub use marks::{Mark, MarkFault, Marks, Role};
 pub use policy::{Algorithm, KeyRef, Policy, TypeSet};
