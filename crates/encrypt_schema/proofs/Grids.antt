@@ -90,7 +90,7 @@ module _ (old mid new : List Spot) (rules : List Rule) (path : List (List ℕ)) 
   has_rules : HasRules (spot_paths mid) (rule_at new) (paths (rows_of old rules) ++ path ∷ [])
   has_rules =
       rules_add (spot_paths mid) path at (rule_at mid) (rule_at new) (paths (rows_of old rules)) (a.rows (paths (rows_of old rules)) a.grid.rows) a.stands
-          (λ i. a.noted i ∙ ap (or_number (rule_at mid i) (i == at)) (sym ruled_count))
+      (λ i. a.noted i ∙ ap (or_number (rule_at mid i) (i == at)) (sym ruled_count))
 
   tree_new : IsTree (spot_paths mid) (child_at new)
   tree_new = record { steps = λ p i name e. a.children_stay i name ∙ a.tree.steps p i name e; closed = a.tree.closed }

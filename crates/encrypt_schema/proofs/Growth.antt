@@ -42,11 +42,11 @@ module _ (old next : List Spot) (at : ℕ) (name : List ℕ) (g : Grows old next
   pub grows_tree : IsTree (spot_paths next) (child_at next)
   grows_tree =
       subst (λ (ps : List (List (List ℕ))). IsTree ps (child_at next)) (sym grown)
-          (tree_push (spot_paths old) path name at stands unknown (child_at old) (child_at next) g.tree
-              (λ i q. g.children i q ∙ ap (λ (n : ℕ). cond (i == at && bytes_eq name q) (Some n) (child_at old i q)) (sym (spot_count old)))
-              (λ q. past_child old (length (spot_paths old)) q (le_of_eq (sym (spot_count old)))))
+      (tree_push (spot_paths old) path name at stands unknown (child_at old) (child_at next) g.tree
+      (λ i q. g.children i q ∙ ap (λ (n : ℕ). cond (i == at && bytes_eq name q) (Some n) (child_at old i q)) (sym (spot_count old)))
+      (λ q. past_child old (length (spot_paths old)) q (le_of_eq (sym (spot_count old)))))
 
   pub grows_rules : (ruled : List (List (List ℕ))) → HasRules (spot_paths old) (rule_at old) ruled → HasRules (spot_paths next) (rule_at next) ruled
   grows_rules ruled rows =
       subst (λ (ps : List (List (List ℕ))). HasRules ps (rule_at next) ruled) (sym grown)
-          (rules_push (spot_paths old) (path ++ name ∷ []) (rule_at old) (rule_at next) ruled rows unknown g.rules (past_rule old (length (spot_paths old)) (le_of_eq (sym (spot_count old)))))
+      (rules_push (spot_paths old) (path ++ name ∷ []) (rule_at old) (rule_at next) ruled rows unknown g.rules (past_rule old (length (spot_paths old)) (le_of_eq (sym (spot_count old)))))

@@ -19,9 +19,9 @@ other_entries eq test old new h = h
 by_name : (f g : List ℕ → Option ℕ) (bs : List ℕ) (w : Option ℕ) → g bs ≡ w → ((cs : List ℕ) → bytes_eq bs cs ≡ false → g cs ≡ f cs) → (cs : List ℕ) → g cs ≡ cond (bytes_eq bs cs) w (f cs)
 by_name f g bs w here other cs =
     ⊎_elim
-        (λ y. subst (λ l. g l ≡ w) ((bytes_decides bs cs).0 y) here ∙ sym (cond-true (bytes_eq bs cs) w (f cs) y))
-        (λ n. other cs n ∙ sym (cond-false (bytes_eq bs cs) w (f cs) n))
-        (cases_Bool (bytes_eq bs cs))
+    (λ y. subst (λ l. g l ≡ w) ((bytes_decides bs cs).0 y) here ∙ sym (cond-true (bytes_eq bs cs) w (f cs) y))
+    (λ n. other cs n ∙ sym (cond-false (bytes_eq bs cs) w (f cs) n))
+    (cases_Bool (bytes_eq bs cs))
 
 pub updates_names : (bs : List ℕ) (m n : BTreeMap (Vec ℕ Global) ℕ) (w : Option ℕ) → tree.UpdatesBy (λ x y. slice_cmp nat_cmp x.items y.items) (λ k. slice_cmp nat_cmp bs k.items) m n w
     → (cs : List ℕ) → numbered n cs ≡ cond (bytes_eq bs cs) w (numbered m cs)

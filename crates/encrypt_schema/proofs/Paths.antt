@@ -112,14 +112,14 @@ pub leads_front : (p : List (List ℕ)) (n : List ℕ) (rs : List (List (List �
 leads_front p n [] e = e
 leads_front p n (r ∷ rs) e =
     ⊎_elim
-        (λ (h : is_prefix (p ++ n ∷ []) r ≡ true). or_left (is_prefix p r) (leads p rs) (prefix_front p n r h))
-        (λ (h : leads (p ++ n ∷ []) rs ≡ true). or_right (is_prefix p r) (leads p rs) (leads_front p n rs h))
-        (or_cases (is_prefix (p ++ n ∷ []) r) (leads (p ++ n ∷ []) rs) e)
+    (λ (h : is_prefix (p ++ n ∷ []) r ≡ true). or_left (is_prefix p r) (leads p rs) (prefix_front p n r h))
+    (λ (h : leads (p ++ n ∷ []) rs ≡ true). or_right (is_prefix p r) (leads p rs) (leads_front p n rs h))
+    (or_cases (is_prefix (p ++ n ∷ []) r) (leads (p ++ n ∷ []) rs) e)
 
 pub among_leads : (p : List (List ℕ)) (rs : List (List (List ℕ))) → among p rs ≡ true → leads p rs ≡ true
 among_leads p [] e = e
 among_leads p (r ∷ rs) e =
     ⊎_elim
-        (λ (h : is_path p r ≡ true). or_left (is_prefix p r) (leads p rs) (path_prefix p r h))
-        (λ (h : among p rs ≡ true). or_right (is_prefix p r) (leads p rs) (among_leads p rs h))
-        (or_cases (is_path p r) (among p rs) e)
+    (λ (h : is_path p r ≡ true). or_left (is_prefix p r) (leads p rs) (path_prefix p r h))
+    (λ (h : among p rs ≡ true). or_right (is_prefix p r) (leads p rs) (among_leads p rs h))
+    (or_cases (is_path p r) (among p rs) e)

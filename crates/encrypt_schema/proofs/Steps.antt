@@ -2,6 +2,7 @@
 use Rattle.std.proofs.Common.{not-suc-le-zero, ◌≡◌, ◌<◌, ℕ, Bool, true, false, ◌||◌, List, [], ◌∷◌, ◌++◌, length, get_or, Option, Some, None, is_some, IfSome, refl, sym, ap, ap₂, subst, ◌∙◌}
 use mathlib.Core.Bool.{false≢true}
 use Rattle.std.proofs.lemmas.Bool.{or_left}
+use Rattle.std.proofs.lemmas.List.{length-map}
 use Rattle.encrypt_schema.specs.declared.spots.Spot.{Spot}
 use Rattle.encrypt_schema.specs.declared.rows.Rule.{Rule}
 use Rattle.encrypt_schema.specs.declared.class.Class.{Class}
@@ -77,8 +78,7 @@ module _ (spots : List Spot) (rules : List Rule) (g : IsGrid spots rules) where
   land_by p covered n c (Some k) e =
       let rs = paths (rows_of spots rules) in
       let q = p ++ n ∷ [] in
-      let ruled : among q rs ≡ is_some (rule_at spots k) = sym (found_is 0 q rs) ∙ ap is_some (sym (g.rows.first q k (on_spot q k e))) in
-      (
+      let ruled : among q rs ≡ is_some (rule_at spots k) = sym (found_is 0 q rs) ∙ ap is_some (sym (g.rows.first q k (on_spot q k e))) in (
         e,
         covers_push p n rs ∙ ap₂ (λ (a b : Bool). a || b) c ruled,
         sym (fronts_lead p n (rows_of spots rules)) ∙ some_among q (fronts (rows_of spots rules)) k e,
@@ -89,9 +89,9 @@ module _ (spots : List Spot) (rules : List Rule) (g : IsGrid spots rules) where
       let away : leads q rs ≡ false = sym (fronts_lead p n (rows_of spots rules)) ∙ sym (found_is 0 q (fronts (rows_of spots rules))) ∙ ap is_some e in
       let cover : covers q rs ≡ (covered || false) = covers_push p n rs ∙ ap₂ (λ (a b : Bool). a || b) c (unled q rs away) in
       off covered q cover away where
-    off : (covered : Bool) (q : List (List ℕ)) → covers q (paths (rows_of spots rules)) ≡ (covered || false) → leads q (paths (rows_of spots rules)) ≡ false → StandsAt (rows_of spots rules) (landed covered None (rule_at spots)) q
-    off true q cover away = (cover, away)
-    off false q cover away = (cover, away)
+        off : (covered : Bool) (q : List (List ℕ)) → covers q (paths (rows_of spots rules)) ≡ (covered || false) → leads q (paths (rows_of spots rules)) ≡ false → StandsAt (rows_of spots rules) (landed covered None (rule_at spots)) q
+        off true q cover away = (cover, away)
+        off false q cover away = (cover, away)
 
   -- a step from a front
   pub step_front : (p : List (List ℕ)) (i : ℕ) (covered : Bool) (n : List ℕ) → StandsAt (rows_of spots rules) (places.Front i covered) p → StandsAt (rows_of spots rules) (landed covered (child_at spots i n) (rule_at spots)) (p ++ n ∷ [])
@@ -130,3 +130,23 @@ place_path rows places.Clear p s e = absurd (clear_above (class_clear rows p s �
 -- a cursor of class Above stands for one path alone
 pub above_path : (rows : List Row) (at : Cursor) (path : List (List ℕ)) → Stands rows at path → class rows path ≡ classes.Above → path ≡ path_of rows at
 above_path rows at path s e = place_path rows at.place path s e
+
+protected_by : (o : Option ℕ) (covered leading : Bool) (i : ℕ) → class_by o covered leading ≡ classes.Protected i → o ≡ Some i
+protected_by (Some j) covered leading i e = ap (λ (k : ℕ). Some k) (same_number j i e) where
+  same_number : (j i : ℕ) → classes.Protected j ≡ classes.Protected i → j ≡ i
+  same_number j i e = cc
+protected_by None true leading i e = absurd cc
+protected_by None false true i e = absurd cc
+protected_by None false false i e = absurd cc
+
+protected_number : (rows : List Row) (path : List (List ℕ)) (i : ℕ) → class rows path ≡ classes.Protected i → number_of 0 path (paths rows) ≡ Some i
+unfolding class
+protected_number rows path i e = protected_by (number_of 0 path (paths rows)) (covers path (paths rows)) (leads path (paths rows)) i e
+
+-- the number of a class Protected is one of a rule
+pub protected_inside : (rows : List Row) (path : List (List ℕ)) (i : ℕ) → class rows path ≡ classes.Protected i → i < length rows
+protected_inside rows path i e = subst (λ (n : ℕ). i < n) (length-map rows (λ (row : Row). row.path)) (number_below path (paths rows) i (protected_number rows path i e))
+
+-- and the path is that rule's
+pub protected_path : (rows : List Row) (path : List (List ℕ)) (i : ℕ) → class rows path ≡ classes.Protected i → get_or (paths rows) i [] ≡ path
+protected_path rows path i e = number_there path (paths rows) i (protected_number rows path i e)

@@ -37,24 +37,24 @@ module _ (known : List (List (List ℕ))) (q : List (List ℕ)) (n : List ℕ) (
   step_is : (path : List (List ℕ)) (i : ℕ) (name : List ℕ) → number_of 0 path known ≡ Some i → (i == at && bytes_eq n name) ≡ is_path (path ++ name ∷ []) (q ++ n ∷ [])
   step_is path i name e =
       bools_same
-          (i == at && bytes_eq n name)
-          (is_path (path ++ name ∷ []) (q ++ n ∷ []))
-          (λ t.
-              let h = and_parts (i == at) (bytes_eq n name) t in
-              let here : path ≡ q = sym (number_there path known i e) ∙ ap (λ (k : ℕ). get_or known k []) (eqb-true i at h.0) ∙ number_there q known at stands in
-              let same : name ≡ n = sym ((bytes_decides n name).0 h.1) in
-              subst (λ (r : List (List ℕ)). is_path r (q ++ n ∷ []) ≡ true) (sym (ap₂ (λ (p : List (List ℕ)) (m : List ℕ). p ++ m ∷ []) here same)) (path_self (q ++ n ∷ [])))
-          (λ t.
-              let h = same_from_push path q name n (path_same (path ++ name ∷ []) (q ++ n ∷ []) t) in
-              let one : i ≡ at = some_is i at (sym e ∙ ap (λ (r : List (List ℕ)). number_of 0 r known) h.0 ∙ stands) in
-              and_from (i == at) (bytes_eq n name) (eq-eqb i at one) ((bytes_decides n name).1 (sym h.1)))
+      (i == at && bytes_eq n name)
+      (is_path (path ++ name ∷ []) (q ++ n ∷ []))
+      (λ t.
+      let h = and_parts (i == at) (bytes_eq n name) t in
+      let here : path ≡ q = sym (number_there path known i e) ∙ ap (λ (k : ℕ). get_or known k []) (eqb-true i at h.0) ∙ number_there q known at stands in
+      let same : name ≡ n = sym ((bytes_decides n name).0 h.1) in
+      subst (λ (r : List (List ℕ)). is_path r (q ++ n ∷ []) ≡ true) (sym (ap₂ (λ (p : List (List ℕ)) (m : List ℕ). p ++ m ∷ []) here same)) (path_self (q ++ n ∷ [])))
+      (λ t.
+      let h = same_from_push path q name n (path_same (path ++ name ∷ []) (q ++ n ∷ []) t) in
+      let one : i ≡ at = some_is i at (sym e ∙ ap (λ (r : List (List ℕ)). number_of 0 r known) h.0 ∙ stands) in
+      and_from (i == at) (bytes_eq n name) (eq-eqb i at one) ((bytes_decides n name).1 (sym h.1)))
 
   module _ (child next : ℕ → List ℕ → Option ℕ) (tree : IsTree known child) (made : (i : ℕ) (name : List ℕ) → next i name ≡ cond (i == at && bytes_eq n name) (Some (length known)) (child i name)) (past : (name : List ℕ) → child (length known) name ≡ None) where
     old_step : (path : List (List ℕ)) (i : ℕ) (name : List ℕ) → number_of 0 path known ≡ Some i → next i name ≡ number_of 0 (path ++ name ∷ []) (known ++ (q ++ n ∷ []) ∷ [])
     old_step path i name e =
         let step = step_is path i name e in
         let absent : (i == at && bytes_eq n name) ≡ true → child i name ≡ None =
-            λ t. tree.steps path i name e ∙ ap (λ (r : List (List ℕ)). number_of 0 r known) (path_same (path ++ name ∷ []) (q ++ n ∷ []) (sym step ∙ t)) ∙ new in
+        λ t. tree.steps path i name e ∙ ap (λ (r : List (List ℕ)). number_of 0 r known) (path_same (path ++ name ∷ []) (q ++ n ∷ []) (sym step ∙ t)) ∙ new in
         made i name
         ∙ cond_or (i == at && bytes_eq n name) (length known) (child i name) absent
         ∙ ap₂ (λ (o : Option ℕ) (b : Bool). or_number o b (length known)) (tree.steps path i name e) step
@@ -74,20 +74,20 @@ module _ (known : List (List (List ℕ))) (q : List (List ℕ)) (n : List ℕ) (
     tree_push = record {
       steps = λ path i name e.
           ⊎_elim
-              (λ h. old_step path i name h)
-              (λ h.
-                  ap (λ (k : ℕ). next k name) (sym h.2)
-                  ∙ new_step name
-                  ∙ ap (λ (r : List (List ℕ)). number_of 0 (r ++ name ∷ []) (known ++ (q ++ n ∷ []) ∷ [])) (sym (path_same path (q ++ n ∷ []) h.1)))
-              (or_is (number_of 0 path known) (is_path path (q ++ n ∷ [])) (length known) i (sym (number_push path (q ++ n ∷ []) known) ∙ e));
+          (λ h. old_step path i name h)
+          (λ h.
+          ap (λ (k : ℕ). next k name) (sym h.2)
+          ∙ new_step name
+          ∙ ap (λ (r : List (List ℕ)). number_of 0 (r ++ name ∷ []) (known ++ (q ++ n ∷ []) ∷ [])) (sym (path_same path (q ++ n ∷ []) h.1)))
+          (or_is (number_of 0 path known) (is_path path (q ++ n ∷ [])) (length known) i (sym (number_push path (q ++ n ∷ []) known) ∙ e));
       closed = λ path name t.
           found_is 0 path (known ++ (q ++ n ∷ []) ∷ [])
           ∙ among_push path (q ++ n ∷ []) known
           ∙ or_left (among path known) (is_path path (q ++ n ∷ []))
-              (⊎_elim
-                  (λ h. sym (found_is 0 path known) ∙ tree.closed path name (found_is 0 (path ++ name ∷ []) known ∙ h))
-                  (λ h. ap (λ (r : List (List ℕ)). among r known) (same_from_push path q name n (path_same (path ++ name ∷ []) (q ++ n ∷ []) h)).0 ∙ some_among q known at stands)
-                  (or_cases (among (path ++ name ∷ []) known) (is_path (path ++ name ∷ []) (q ++ n ∷ [])) (sym (among_push (path ++ name ∷ []) (q ++ n ∷ []) known) ∙ sym (found_is 0 (path ++ name ∷ []) (known ++ (q ++ n ∷ []) ∷ [])) ∙ t)));
+          (⊎_elim
+          (λ h. sym (found_is 0 path known) ∙ tree.closed path name (found_is 0 (path ++ name ∷ []) known ∙ h))
+          (λ h. ap (λ (r : List (List ℕ)). among r known) (same_from_push path q name n (path_same (path ++ name ∷ []) (q ++ n ∷ []) h)).0 ∙ some_among q known at stands)
+          (or_cases (among (path ++ name ∷ []) known) (is_path (path ++ name ∷ []) (q ++ n ∷ [])) (sym (among_push (path ++ name ∷ []) (q ++ n ∷ []) known) ∙ sym (found_is 0 (path ++ name ∷ []) (known ++ (q ++ n ∷ []) ∷ [])) ∙ t)));
     }
 
 -- a new path, at which no rule ends
@@ -97,11 +97,11 @@ rules_push known p rule next ruled rows new made past = record {
   first = λ path i e.
       made i
       ∙ ⊎_elim
-          (λ h. rows.first path i h)
-          (λ h.
-              let unruled : number_of 0 p ruled ≡ None = none_from (number_of 0 p ruled) (λ t. some_none (number_of 0 p known) new (rows.all p t)) in
-              ap rule (sym h.2) ∙ past ∙ sym unruled ∙ ap (λ (r : List (List ℕ)). number_of 0 r ruled) (sym (path_same path p h.1)))
-          (or_is (number_of 0 path known) (is_path path p) (length known) i (sym (number_push path p known) ∙ e));
+      (λ h. rows.first path i h)
+      (λ h.
+      let unruled : number_of 0 p ruled ≡ None = none_from (number_of 0 p ruled) (λ t. some_none (number_of 0 p known) new (rows.all p t)) in
+      ap rule (sym h.2) ∙ past ∙ sym unruled ∙ ap (λ (r : List (List ℕ)). number_of 0 r ruled) (sym (path_same path p h.1)))
+      (or_is (number_of 0 path known) (is_path path p) (length known) i (sym (number_push path p known) ∙ e));
   all = λ path t.
       found_is 0 path (known ++ p ∷ []) ∙ among_push path p known ∙ or_left (among path known) (is_path path p) (sym (found_is 0 path known) ∙ rows.all path t);
 }
@@ -116,7 +116,7 @@ rules_add known p at rule next ruled rows stands made = record {
       ∙ sym (number_push path p ruled);
   all = λ path t.
       ⊎_elim
-          (λ h. rows.all path (found_is 0 path ruled ∙ h))
-          (λ h. ap (λ (r : List (List ℕ)). is_some (number_of 0 r known)) (path_same path p h) ∙ ap is_some stands)
-          (or_cases (among path ruled) (is_path path p) (sym (among_push path p ruled) ∙ sym (found_is 0 path (ruled ++ p ∷ [])) ∙ t));
+      (λ h. rows.all path (found_is 0 path ruled ∙ h))
+      (λ h. ap (λ (r : List (List ℕ)). is_some (number_of 0 r known)) (path_same path p h) ∙ ap is_some stands)
+      (or_cases (among path ruled) (is_path path p) (sym (among_push path p ruled) ∙ sym (found_is 0 path (ruled ++ p ∷ [])) ∙ t));
 }

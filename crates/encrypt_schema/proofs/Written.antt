@@ -29,22 +29,23 @@ kept_rules spots at old new below read same i = ap (λ (l : List (Option ℕ)). 
 written : {Y : Type 0} (spots : List Spot) (at : ℕ) (old new : Spot) → at < length spots → (f : Spot → Y) (d : Y) (i : ℕ) → get_or (map f (set spots at new)) i d ≡ cond (i == at) (f new) (get_or (map f spots) i d)
 written spots at old new below f d i =
     ap (λ (l : List _). get_or l i d) (map-set f spots at new) ∙ by_test (i == at) refl where
-  long : at < length (map f spots)
-  long = subst (λ (n : ℕ). at < n) (sym (length-map spots f)) below
-  by_test : (b : Bool) → (i == at) ≡ b → get_or (set (map f spots) at (f new)) i d ≡ cond b (f new) (get_or (map f spots) i d)
-  by_test true t = ap (λ (k : ℕ). get_or (set (map f spots) at (f new)) k d) (eqb-true i at t) ∙ get_or-set_same (map f spots) at (f new) d long
-  by_test false t = get_or-set_other (map f spots) at i (f new) d (λ same. true≢false (sym (eq-eqb i at same) ∙ t))
+      long : at < length (map f spots)
+      long = subst (λ (n : ℕ). at < n) (sym (length-map spots f)) below
+
+      by_test : (b : Bool) → (i == at) ≡ b → get_or (set (map f spots) at (f new)) i d ≡ cond b (f new) (get_or (map f spots) i d)
+      by_test true t = ap (λ (k : ℕ). get_or (set (map f spots) at (f new)) k d) (eqb-true i at t) ∙ get_or-set_same (map f spots) at (f new) d long
+      by_test false t = get_or-set_other (map f spots) at i (f new) d (λ same. true≢false (sym (eq-eqb i at same) ∙ t))
 
 pub written_child : (spots : List Spot) (at : ℕ) (old new : Spot) → at < length spots → old ≡ get_or spots at old → (name : List ℕ) (n : ℕ) → ((q : List ℕ) → numbered new.below q ≡ cond (bytes_eq name q) (Some n) (numbered old.below q))
     → (i : ℕ) (q : List ℕ) → child_at (set spots at new) i q ≡ cond (i == at && bytes_eq name q) (Some n) (child_at spots i q)
 written_child spots at old new below read name n made i q =
     ap (λ (t : List ℕ → Option ℕ). t q) (written spots at old new below (λ s. numbered s.below) (λ _. None) i) ∙ by_test (i == at) refl where
-  by_test : (b : Bool) → (i == at) ≡ b → cond b (numbered new.below) (child_at spots i) q ≡ cond (b && bytes_eq name q) (Some n) (child_at spots i q)
-  by_test true t =
-      made q
-      ∙ ap (λ (o : Option ℕ). cond (bytes_eq name q) (Some n) o)
+      by_test : (b : Bool) → (i == at) ≡ b → cond b (numbered new.below) (child_at spots i) q ≡ cond (b && bytes_eq name q) (Some n) (child_at spots i q)
+      by_test true t =
+          made q
+          ∙ ap (λ (o : Option ℕ). cond (bytes_eq name q) (Some n) o)
           (ap (λ (l : List ℕ → Option ℕ). l q) (at_known spots at old below read (λ s. numbered s.below) (λ _. None)) ∙ ap (λ (k : ℕ). child_at spots k q) (sym (eqb-true i at t)))
-  by_test false t = refl
+      by_test false t = refl
 
 or_new : (o : Option ℕ) (n : ℕ) → is_some o ≡ false → Some n ≡ or_number o true n
 or_new None n e = refl
@@ -58,11 +59,11 @@ pub written_rule : (spots : List Spot) (at : ℕ) (old new : Spot) → at < leng
     → (i : ℕ) → rule_at (set spots at new) i ≡ or_number (rule_at spots i) (i == at) n
 written_rule spots at old new below read n is free i =
     written spots at old new below (λ s. s.rule) None i ∙ by_test (i == at) refl where
-  by_test : (b : Bool) → (i == at) ≡ b → cond b new.rule (rule_at spots i) ≡ or_number (rule_at spots i) b n
-  by_test true t =
-      let here : old.rule ≡ rule_at spots i = at_known spots at old below read (λ s. s.rule) None ∙ ap (rule_at spots) (sym (eqb-true i at t)) in
-      is ∙ or_new (rule_at spots i) n (ap is_some (sym here) ∙ free)
-  by_test false t = or_old (rule_at spots i) n
+      by_test : (b : Bool) → (i == at) ≡ b → cond b new.rule (rule_at spots i) ≡ or_number (rule_at spots i) b n
+      by_test true t =
+          let here : old.rule ≡ rule_at spots i = at_known spots at old below read (λ s. s.rule) None ∙ ap (rule_at spots) (sym (eqb-true i at t)) in
+          is ∙ or_new (rule_at spots i) n (ap is_some (sym here) ∙ free)
+      by_test false t = or_old (rule_at spots i) n
 
 -- one spot more
 after_push : (known : List (List (List ℕ))) (ls : List (ℕ × List ℕ)) (l : ℕ × List ℕ) → paths_after known (ls ++ l ∷ []) ≡ paths_after known ls ++ (get_or (paths_after known ls) l.0 [] ++ l.1 ∷ []) ∷ []

@@ -33,7 +33,9 @@ impl Rows {
         ensures root { Stands self.now result [] }
     {
         if self.rules.is_empty() {
-            return Cursor { place: Place::Clear };
+            return Cursor {
+                place: Place::Clear,
+            };
         }
         let covered = rule_of(&self.spots, 0).is_some();
         Cursor {
@@ -76,13 +78,8 @@ fn land(spots: &Vec<Spot>, number: u32, covered: bool, name: &[u8]) -> Place
 {
     match child_of(spots, number, name) {
         Some(n) => Place::Front(n, covered || rule_of(spots, n).is_some()),
-        None => {
-            if covered {
-                Place::Below
-            } else {
-                Place::Clear
-            }
-        }
+        None if covered => Place::Below,
+        None => Place::Clear,
     }
 }
 
@@ -93,12 +90,7 @@ fn class_at(spots: &Vec<Spot>, number: u32, covered: bool) -> Class
 {
     match rule_of(spots, number) {
         Some(rule) => Class::Protected(rule),
-        None => {
-            if covered {
-                Class::Below
-            } else {
-                Class::Above
-            }
-        }
+        None if covered => Class::Below,
+        None => Class::Above,
     }
 }

@@ -1,11 +1,30 @@
 //! Dotted paths: names of fields joined by dots, as filters and updates have them.
 
 ghost use Rattle.std.specs.Prelude.{
-    ◌≡◌, ◌<◌, ◌++◌, ◌∷◌, [], ℕ, List, length, not, ◌&&◌, Bool, MatchOption, IfSome,
+  ◌≡◌,
+  ◌<◌,
+  ◌++◌,
+  ◌∷◌,
+  [],
+  ℕ,
+  List,
+  length,
+  not,
+  ◌&&◌,
+  Bool,
+  MatchOption,
+  IfSome,
 };
 ghost use Rattle.encrypt_schema.specs.Cursors.{Stands};
 ghost use Rattle.encrypt_schema.specs.Dotted.{
-    split, is_dollar, are_digits, is_position, is_above, is_clear, positional, is_position_behind,
+  split,
+  is_dollar,
+  are_digits,
+  is_position,
+  is_above,
+  is_clear,
+  positional,
+  is_position_behind,
 };
 ghost use Rattle.encrypt_schema.specs.Parts.{is_nil};
 
@@ -85,7 +104,7 @@ fn is_behind(position: bool, first: bool, before: Class, after: Class) -> bool
 }
 
 impl Rows {
-    /// Where a dotted path leads. It looks at each byte once, and takes no memory.
+    /// Where a dotted path leads. It takes one look-up a component, and no memory.
     pub fn walk(&self, dotted: &[u8]) -> Walk
         ensures at { Stands self.now result.at (split dotted.now) }
         ensures positional { result.positional ≡ positional self.now (split dotted.now) }
@@ -107,7 +126,7 @@ impl Rows {
 
     /// One component further, and whether it is a position on the way to a protected field.
     fn advance(&self, at: Cursor, first: bool, name: &[u8]) -> (Cursor, bool)
-        requires cursor { (path : List (List ℕ)) × Stands self.now at path × (first ≡ is_nil path) }
+        requires cursor { (path : List (List ℕ)) × Stands self.now at path }
         ensures steps { (path : List (List ℕ)) → Stands self.now at path → Stands self.now result.0 (path ++ name.now ∷ []) }
         ensures here { (path : List (List ℕ)) → Stands self.now at path → first ≡ is_nil path → result.1 ≡ is_position_behind self.now path name.now }
     {

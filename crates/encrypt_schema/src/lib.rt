@@ -21,3 +21,6 @@ pub use marks::{Mark, MarkFault, Marks, Role};
 pub use policy::{Algorithm, KeyRef, Policy, TypeSet};
 pub use reason::Reason;
 pub use rows::Rows;
+
+#[cfg(test)]
+mod rows_tests;

@@ -1,7 +1,19 @@
 //! The rules of a schema: which paths are protected, each by which policy.
 
 ghost use Rattle.std.specs.Prelude.{
-    ◌≡◌, ◌<◌, ◌≤◌, ◌++◌, ◌∷◌, [], length, slice_get, option_map, option_copied, OnOk, OnErr, IfOk,
+  ◌≡◌,
+  ◌<◌,
+  ◌≤◌,
+  ◌++◌,
+  ◌∷◌,
+  [],
+  length,
+  slice_get,
+  option_map,
+  option_copied,
+  OnOk,
+  OnErr,
+  IfOk,
 };
 ghost use Rattle.encrypt_schema.specs.Borrowed.{names};
 ghost use Rattle.encrypt_schema.specs.Spots.{rows_of, IsGrid};
@@ -54,7 +66,12 @@ impl Rows {
     }
 
     /// Adds a rule behind the others. After `Memory`, which comes for want of memory alone, no rule is left.
-    pub(crate) fn add(&mut self, alloc: Global, path: &[&[u8]], policy: Policy) -> Result<(), Memory>
+    pub(crate) fn add(
+        &mut self,
+        alloc: Global,
+        path: &[&[u8]],
+        policy: Policy,
+    ) -> Result<(), Memory>
         requires room { length self.old < 4096 }
         requires short { length path.now ≤ 100 }
         ensures added { OnOk result (self.new ≡ self.old ++ record { path = names path.now; policy = policy } ∷ []) }
@@ -90,7 +107,13 @@ impl Rows {
 }
 
 /// Adds a rule to those that a tree of spots holds.
-fn put_row(alloc: Global, spots: &mut Vec<Spot>, rules: &mut Vec<Rule>, path: &[&[u8]], policy: Policy) -> Result<(), Memory>
+fn put_row(
+    alloc: Global,
+    spots: &mut Vec<Spot>,
+    rules: &mut Vec<Rule>,
+    path: &[&[u8]],
+    policy: Policy,
+) -> Result<(), Memory>
     requires grid { IsGrid spots.old.items rules.old.items }
     requires room { length rules.old.items < 4096 }
     requires short { length path.now ≤ 100 }

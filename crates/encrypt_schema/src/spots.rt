@@ -1,8 +1,30 @@
 //! The names that lead to rules, as a tree in which a step is one look-up.
 
 ghost use Rattle.std.specs.Prelude.{
-    ◌≡◌, ◌<◌, ◌≤◌, ◌+◌, ◌-◌, ◌^◌, ◌==◌, ◌&&◌, ◌++◌, ◌∷◌, [], ℕ, List, length, get_or, Some, None, if◌then◌else◌, bytes_eq, OnOk, OnErr,
-    IfOk, is_some, is_ok,
+  ◌≡◌,
+  ◌<◌,
+  ◌≤◌,
+  ◌+◌,
+  ◌-◌,
+  ◌^◌,
+  ◌==◌,
+  ◌&&◌,
+  ◌++◌,
+  ◌∷◌,
+  [],
+  ℕ,
+  List,
+  length,
+  get_or,
+  Some,
+  None,
+  if◌then◌else◌,
+  bytes_eq,
+  OnOk,
+  OnErr,
+  IfOk,
+  is_some,
+  is_ok,
 };
 ghost use Rattle.encrypt_schema.specs.Classes.{number_of};
 ghost use Rattle.encrypt_schema.specs.Fronts.{with_path, each_once, fronts_of};
@@ -97,7 +119,13 @@ fn push_spot(alloc: Global, spots: &mut Vec<Spot>, at: u32, name: &[u8]) -> Resu
 }
 
 /// Lets a name lead from spot `at` to spot `n`.
-fn note_child(alloc: Global, spots: &mut Vec<Spot>, at: u32, name: &[u8], n: u32) -> Result<(), Memory>
+fn note_child(
+    alloc: Global,
+    spots: &mut Vec<Spot>,
+    at: u32,
+    name: &[u8],
+    n: u32,
+) -> Result<(), Memory>
     requires inside { at < length spots.old.items }
     ensures paths { OnOk result (spot_paths spots.new.items ≡ spot_paths spots.old.items) }
     ensures children { OnOk result ((i : ℕ) (q : List ℕ) → child_at spots.new.items i q ≡ (if i == at && bytes_eq name.now q then Some n else child_at spots.old.items i q)) }

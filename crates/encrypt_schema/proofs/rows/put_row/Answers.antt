@@ -47,7 +47,7 @@ adds c =
 pub returns-clause-grid : goal.returns-clause-grid
 returns-clause-grid c =
     subst (IsGrid c.note_rule.new.spots.items) (sym (pushed c))
-        (grid_added c.args.spots.now.items c.reach.new.spots.items c.note_rule.new.spots.items c.args.rules.now.items (names c.args.path.now) c.in_ok-at.at c.args.policy (adds c))
+    (grid_added c.args.spots.now.items c.reach.new.spots.items c.note_rule.new.spots.items c.args.rules.now.items (names c.args.path.now) c.in_ok-at.at c.args.policy (adds c))
 
 pub returns-clause-added : goal.returns-clause-added
 returns-clause-added c =

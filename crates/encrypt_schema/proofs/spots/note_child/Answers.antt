@@ -14,10 +14,10 @@ pub returns-clause-children : goal.returns-clause-children
 returns-clause-children c =
     let updated : UpdatesBy (λ x y. slice_cmp nat_cmp x.items y.items) (λ k. slice_cmp nat_cmp c.in_ok-key.key.items k.items) c.index_mut.result.now.below c.insert.new.self (Some c.args.n) = search rules in
     let made : (q : List ℕ) → numbered c.insert.new.self q ≡ cond (bytes_eq c.args.name.now q) (Some c.args.n) (numbered c.index_mut.result.now.below q) =
-        subst
-            (λ (bs : List ℕ). (q : List ℕ) → numbered c.insert.new.self q ≡ cond (bytes_eq bs q) (Some c.args.n) (numbered c.index_mut.result.now.below q))
-            c.in_ok-key.ensures.copy
-            (updates_names c.in_ok-key.key.items c.index_mut.result.now.below c.insert.new.self (Some c.args.n) updated) in
+    subst
+    (λ (bs : List ℕ). (q : List ℕ) → numbered c.insert.new.self q ≡ cond (bytes_eq bs q) (Some c.args.n) (numbered c.index_mut.result.now.below q))
+    c.in_ok-key.ensures.copy
+    (updates_names c.in_ok-key.key.items c.index_mut.result.now.below c.insert.new.self (Some c.args.n) updated) in
     written_child c.args.spots.now.items c.args.at c.index_mut.result.now _ c.requires.inside c.index_mut.ensures.value c.args.name.now c.args.n made
 
 pub returns-clause-rules : goal.returns-clause-rules
