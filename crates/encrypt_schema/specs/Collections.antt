@@ -1,6 +1,5 @@
 -- MongoDB listCollections: collection infos, one document each, and the rules of their schemas
-use Rattle.std.specs.Prelude.{◌≡◌, ◌≤◌, ℕ, zero, suc, ◌+◌, ◌++◌, Bool, true, false, not, List, [], ◌∷◌, length, drop, Option, Some, None, Result, Ok, Err, codes, if◌then◌else◌}
-use Rattle.std.specs.List.{list_any}
+use Rattle.std.specs.Prelude.{◌≡◌, ◌≤◌, ℕ, zero, suc, ◌+◌, ◌++◌, Bool, true, false, not, List, [], ◌∷◌, length, drop, Option, Some, None, is_some, Result, Ok, Err, codes, if◌then◌else◌}
 use Rattle.bson_tree.specs.Tree.{Tree, Items, kids_of}
 use Rattle.bson_codec.specs.declared.fault.BsonFault.{BsonFault}
 use Rattle.bson_codec.specs.Reading.{front_document}
@@ -10,7 +9,7 @@ use Rattle.encrypt_schema.specs.declared.faults.InfoKind.{InfoKind}
 use Rattle.encrypt_schema.specs.declared.faults.InfoKind.TheVariants.{Bson, Shape, Twice, Schema}
 use Rattle.encrypt_schema.specs.declared.faults.SchemaFault.{SchemaFault}
 use Rattle.encrypt_schema.specs.declared.faults.SchemaFault.TheVariants as schema_faults
-use Rattle.encrypt_schema.specs.Collection.{Collection}
+use Rattle.encrypt_schema.specs.Collection.{Collection, collection_of}
 use Rattle.encrypt_schema.specs.Names.{named}
 use Rattle.encrypt_schema.specs.Row.{Row}
 use Rattle.encrypt_schema.specs.Schemas.{schema_rows}
@@ -75,7 +74,7 @@ info_fields is = do
 
 -- a collection before has this name
 abbrev pub has_name : List ℕ → List Collection → Bool
-has_name name before = list_any (λ collection. named name collection.name) before
+has_name name before = is_some (collection_of before name)
 
 -- the rules of an info: those of its schema; none of a view, whose schema isn't read
 abbrev pub rules_by : Bool → Option Items → Result (List Row) SchemaFault
@@ -97,6 +96,12 @@ judged_fields before (Some fields) =
 unfoldable pub collection_in : List Collection → Items → Result Collection InfoKind
 collection_in before is = judged_fields before (info_fields is)
 
+-- what reading an info answers is what it states; want of memory may come at any time
+abbrev pub Reads : Result Collection InfoFault → ℕ → Result Collection InfoKind → Type 0
+Reads (Ok collection) number read = read ≡ Ok collection
+Reads (Err (info_faults.Bad document kind)) number read = (document ≡ number) × (read ≡ Err kind)
+Reads (Err info_faults.Memory) number read = Unit {0}
+
 -- a file's first faulty document, from 1, and what is wrong with it
 pub record Faulty : Type 0 where
   pub document : ℕ
@@ -115,7 +120,7 @@ in_front before bytes (Err fault) = faulty before Bson
 in_front before bytes (Ok read) = with_rest before (drop read.1 bytes) (collection_in before read.0)
 
 -- the collection of the document at the front of these bytes, and the bytes behind it
-unfoldable pub first_collection : List Collection → List ℕ → Result (Collection × List ℕ) Faulty
+abbrev pub first_collection : List Collection → List ℕ → Result (Collection × List ℕ) Faulty
 first_collection before bytes = in_front before bytes (front_document bytes)
 
 abbrev pub and_others : (List Collection → List ℕ → Result (List Collection) Faulty)
@@ -133,11 +138,6 @@ collections_from (suc n) before (byte ∷ bytes) =
 -- the collections of a file, in order, or its first faulty document
 unfoldable pub collections : List ℕ → Result (List Collection) Faulty
 collections bytes = collections_from (length bytes) [] bytes
-
--- the first collection of this name
-abbrev pub info_named : List ℕ → List Collection → Option Collection
-info_named name [] = None
-info_named name (collection ∷ others) = if named name collection.name then Some collection else info_named name others
 
 -- what loading answers is what is read; want of memory may come at any time
 abbrev pub Loads : Result (List Collection) InfoFault → Result (List Collection) Faulty → Type 0

@@ -9,5 +9,14 @@ pub mod Shapes
 pub mod Rules
 pub mod Schemas
 pub mod Seen
-pub mod Flat
+pub mod Collection
+pub mod Standings
+pub mod Collections
 pub mod Reasons
+pub mod Fronts
+pub mod Trees
+pub mod Borrowed
+pub mod Spots
+pub mod Parts
+pub mod Places
+pub mod Cursors

@@ -1,5 +1,12 @@
--- What the code's own types for schemas stand for
-use Rattle.std.specs.Prelude.{ℕ, List, [], ◌∷◌, ◌++◌, map}
+-- What the code's own types for schemas and infos stand for
+use Rattle.std.specs.Prelude.{ℕ, List, [], ◌∷◌, ◌++◌, map, Option, Some, None}
+use Rattle.bson_tree.specs.Tree.{Items}
+use Rattle.bson_codec.specs.Raw.{At}
+use Rattle.encrypt_schema.specs.declared.field.Field.{Field}
+use Rattle.encrypt_schema.specs.declared.field.Field.TheVariants as fields
+use Rattle.encrypt_schema.specs.declared.info_fields.InfoFields.{InfoFields}
+use Rattle.encrypt_schema.specs.Standings.{Standing, absent, once, repeated}
+use Rattle.encrypt_schema.specs.Collections.{Fields}
 use Rattle.encrypt_schema.specs.declared.context.Context.{Context as Known}
 use Rattle.encrypt_schema.specs.declared.context.Part.{Part as Value}
 use Rattle.encrypt_schema.specs.declared.context.Part.TheVariants as values
@@ -24,10 +31,23 @@ path_below (values.Schema c) name path = path
 path_below (values.Properties c) name path = path ++ name ∷ []
 path_below (values.Schemas c) name path = path
 
--- borrowed names
-abbrev pub names : List (Bor (List ℕ)) → List (List ℕ)
-names borrowed = map (λ name. name.now) borrowed
-
 -- a table of names with numbers, as its rows
 abbrev pub types_in_table : List (Bor (List ℕ) × ℕ) → List (List ℕ × ℕ)
 types_in_table table = map (λ row. (row.0.now, row.1)) table
+
+abbrev pub seen : Field → Standing
+seen fields.Absent = absent
+seen (fields.Once item) = once item.tree
+seen fields.Repeated = repeated
+
+-- a document that may not be there
+abbrev pub document_seen : Option At → Option Items
+document_seen None = None
+document_seen (Some document) = Some document.tree
+
+abbrev pub section_seen : Option (Option At) → Option (Option Items)
+section_seen None = None
+section_seen (Some document) = Some (document_seen document)
+
+abbrev pub fields_seen : InfoFields → Fields
+fields_seen fields = record { name = fields.name.now; view = fields.view; schema = document_seen fields.schema }

@@ -3,9 +3,14 @@
 #![tactic(auto)]
 
 mod class;
+mod collections;
 mod context;
+mod cursor;
 mod distinct;
+mod dotted;
 mod faults;
+mod field;
+mod info_fields;
 mod keyword;
 mod marks;
 mod names;
@@ -16,12 +21,19 @@ mod rows;
 mod rules;
 mod settings;
 mod shape;
+mod spots;
 mod types;
 mod values;
 
 pub use class::Class;
+pub use collections::{Info, Infos};
+pub use cursor::Cursor;
+pub use dotted::{Walk, is_dollar, is_position};
 pub use faults::{InfoFault, InfoKind, SchemaFault};
 pub use marks::{Mark, MarkFault, Marks, Role};
 pub use policy::{Algorithm, KeyRef, Policy, TypeSet};
 pub use reason::Reason;
 pub use rows::Rows;
+
+#[cfg(test)]
+mod rows_tests;

@@ -6,7 +6,8 @@ ghost use Rattle.bson_tree.specs.Tree.{tag_of};
 ghost use Rattle.encrypt_schema.specs.Rules.{is_plain, are_plain, row_of};
 ghost use Rattle.encrypt_schema.specs.Schemas.{Gives, at, enter, events, events_in, part_by, part_of, row_event, run, schema, schemas, schema_rows, with_row};
 ghost use Rattle.encrypt_schema.specs.declared.context.Part.TheVariants as parts;
-ghost use Rattle.encrypt_schema.specs.Seen.{context_at, names, part_at, path_below};
+ghost use Rattle.encrypt_schema.specs.Borrowed.{names};
+ghost use Rattle.encrypt_schema.specs.Seen.{context_at, part_at, path_below};
 
 use crate::context::{Context, Part};
 use crate::faults::SchemaFault;

@@ -1,7 +1,8 @@
 use Rattle.std.proofs.Common.{◌≡◌, ◌+◌, ◌*◌, ◌≤◌}
 use Rattle.bson_tree.specs.Tree.{tree_size, items_size}
 use Rattle.encrypt_schema.specs.Schemas.{events_in, run}
-use Rattle.encrypt_schema.specs.Seen.{names, part_at}
+use Rattle.encrypt_schema.specs.Borrowed.{names}
+use Rattle.encrypt_schema.specs.Seen.{part_at}
 use Rattle.encrypt_schema.proofs.reading.+schema.Given as goal
 
 abbrev pub decreases-read_document : goal.decreases-read_document

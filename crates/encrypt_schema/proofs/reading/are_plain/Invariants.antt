@@ -1,6 +1,6 @@
 use Rattle.std.proofs.Common.{◌≡◌, drop}
 use Rattle.encrypt_schema.specs.Rules.{are_plain}
-use Rattle.encrypt_schema.specs.Seen.{names}
+use Rattle.encrypt_schema.specs.Borrowed.{names}
 use Rattle.encrypt_schema.proofs.reading.are_plain.Given as goal
 
 abbrev pub invariant-loop-name : goal.invariant-loop-name
