@@ -1,12 +1,12 @@
 -- The rules that a tree of spots holds: none, and one more.
-use Rattle.std.proofs.Common.{◌≡◌, ◌<◌, ◌≤◌, ◌+◌, ◌*◌, ◌==◌, ℕ, Bool, true, List, [], ◌∷◌, ◌++◌, map, length, get_or, Option, Some, None, is_some, refl, sym, ap, ap₂, subst, subst₂, ◌∙◌, le_of_eq, arith}
+use Rattle.std.proofs.Common.{◌≡◌, ◌<◌, ◌≤◌, ◌+◌, ◌==◌, ℕ, true, List, [], ◌∷◌, ◌++◌, map, length, Option, Some, None, is_some, refl, sym, ap, ap₂, subst, subst₂, ◌∙◌, arith}
 use mathlib.Core.Bool.{false≢true}
 use Rattle.std.proofs.lemmas.List.{map_push, length-map, length_push}
 use Rattle.encrypt_schema.specs.declared.policy.Policy.{Policy}
 use Rattle.encrypt_schema.specs.declared.spots.Spot.{Spot}
 use Rattle.encrypt_schema.specs.declared.rows.Rule.{Rule}
 use Rattle.encrypt_schema.specs.Row.{Row, paths}
-use Rattle.encrypt_schema.specs.Classes.{is_path, number_of}
+use Rattle.encrypt_schema.specs.Classes.{number_of}
 use Rattle.encrypt_schema.specs.Fronts.{fronts_of, each_once, fronts}
 use Rattle.encrypt_schema.specs.Trees.{IsTree, HasRules, or_number}
 use Rattle.encrypt_schema.specs.Spots.{child_at, rule_at, spot_paths, row_by, rows_of, AreInside, IsGrid}

@@ -1,7 +1,7 @@
 -- A tree of spots after a spot was added and the name noted that leads to it.
-use Rattle.std.proofs.Common.{◌≡◌, ◌<◌, ℕ, Bool, cond, ◌&&◌, ◌==◌, List, [], ◌∷◌, ◌++◌, length, get_or, Option, Some, None, is_some, refl, sym, ap, ap₂, subst, ◌∙◌, bytes_eq, le_refl, le_of_eq}
+use Rattle.std.proofs.Common.{◌≡◌, ◌<◌, ℕ, Bool, cond, ◌&&◌, ◌==◌, List, [], ◌∷◌, ◌++◌, length, get_or, Option, Some, None, is_some, sym, ap, ap₂, subst, ◌∙◌, bytes_eq, le_of_eq}
 use Rattle.encrypt_schema.specs.declared.spots.Spot.{Spot}
-use Rattle.encrypt_schema.specs.Classes.{is_path, number_of}
+use Rattle.encrypt_schema.specs.Classes.{number_of}
 use Rattle.encrypt_schema.specs.Fronts.{with_path}
 use Rattle.encrypt_schema.specs.Trees.{IsTree, HasRules, or_number}
 use Rattle.encrypt_schema.specs.Spots.{child_at, rule_at, spot_paths}

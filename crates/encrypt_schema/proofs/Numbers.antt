@@ -1,10 +1,10 @@
 -- The number of a path among others, where one is added behind them.
-use Rattle.std.proofs.Common.{◌≡◌, ◌<◌, ℕ, zero, suc, ◌+◌, Bool, true, false, cond, ◌||◌, ◌==◌, List, [], ◌∷◌, ◌++◌, length, get_or, Option, Some, None, is_some, refl, sym, ap, subst, ◌∙◌, ⊎_elim, inl, inr, arith}
+use Rattle.std.proofs.Common.{◌≡◌, ◌<◌, ℕ, suc, ◌+◌, Bool, true, false, cond, ◌||◌, ◌==◌, List, [], ◌∷◌, ◌++◌, length, get_or, Option, Some, None, refl, sym, ap, ◌∙◌, arith}
 use mathlib.Core.Bool.{false≢true}
-use Rattle.std.proofs.lemmas.Bool.{cases_Bool, eq-eqb, eqb-true, ne_eqb, or_left, or_right}
+use Rattle.std.proofs.lemmas.Bool.{eq-eqb, ne_eqb}
 use Rattle.encrypt_schema.specs.Classes.{is_path, number_of}
 use Rattle.encrypt_schema.specs.Trees.{or_number}
-use Rattle.encrypt_schema.proofs.Paths.{path_same, path_self, among, found_is}
+use Rattle.encrypt_schema.proofs.Paths.{path_same, path_self, among}
 
 pub some_is : (i j : ℕ) → Some i ≡ Some j → i ≡ j
 some_is i j e = cc

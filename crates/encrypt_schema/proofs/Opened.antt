@@ -1,16 +1,15 @@
 -- Steps and classes of cursors, where the rules are known by their view and the place by a case.
-use Rattle.std.proofs.Common.{◌≡◌, ◌<◌, ℕ, Bool, true, List, [], ◌∷◌, ◌++◌, length, Option, is_some, IfSome, sym, ap, subst, subst₂, ◌∙◌}
+use Rattle.std.proofs.Common.{◌≡◌, ◌<◌, ℕ, Bool, true, List, [], ◌∷◌, ◌++◌, length, is_some, IfSome, sym, ap, subst, subst₂, ◌∙◌}
 use Rattle.encrypt_schema.specs.declared.spots.Spot.{Spot}
 use Rattle.encrypt_schema.specs.declared.rows.Rule.{Rule}
 use Rattle.encrypt_schema.specs.declared.class.Class.{Class}
 use Rattle.encrypt_schema.specs.declared.class.Class.TheVariants as classes
-use Rattle.encrypt_schema.specs.declared.cursor.Cursor.{Cursor}
 use Rattle.encrypt_schema.specs.declared.cursor.Place.{Place}
 use Rattle.encrypt_schema.specs.declared.cursor.Place.TheVariants as places
-use Rattle.encrypt_schema.specs.Row.{Row, paths}
-use Rattle.encrypt_schema.specs.Classes.{leads, class_by, class}
+use Rattle.encrypt_schema.specs.Row.{Row}
+use Rattle.encrypt_schema.specs.Classes.{class_by, class}
 use Rattle.encrypt_schema.specs.Spots.{child_at, rule_at, rows_of, IsGrid}
-use Rattle.encrypt_schema.specs.Cursors.{StandsAt, Stands}
+use Rattle.encrypt_schema.specs.Cursors.{StandsAt}
 use Rattle.encrypt_schema.specs.Places.{landed}
 use Rattle.encrypt_schema.proofs.Steps.{step_below, step_clear, class_below, class_clear, front_inside, child_inside, step_front, class_front, root_front, root_leads}
 

@@ -5,13 +5,12 @@ use Rattle.std.proofs.lemmas.Bool.{or_left}
 use Rattle.std.proofs.lemmas.List.{length-map}
 use Rattle.encrypt_schema.specs.declared.spots.Spot.{Spot}
 use Rattle.encrypt_schema.specs.declared.rows.Rule.{Rule}
-use Rattle.encrypt_schema.specs.declared.class.Class.{Class}
 use Rattle.encrypt_schema.specs.declared.class.Class.TheVariants as classes
 use Rattle.encrypt_schema.specs.declared.cursor.Cursor.{Cursor}
 use Rattle.encrypt_schema.specs.declared.cursor.Place.{Place}
 use Rattle.encrypt_schema.specs.declared.cursor.Place.TheVariants as places
 use Rattle.encrypt_schema.specs.Row.{Row, paths}
-use Rattle.encrypt_schema.specs.Classes.{is_prefix, is_path, number_of, covers, leads, class_by, class}
+use Rattle.encrypt_schema.specs.Classes.{number_of, covers, leads, class_by, class}
 use Rattle.encrypt_schema.specs.Fronts.{fronts}
 use Rattle.encrypt_schema.specs.Spots.{child_at, rule_at, spot_paths, rows_of, IsGrid}
 use Rattle.encrypt_schema.specs.Cursors.{StandsAt, Stands, path_at, path_of}

@@ -1,12 +1,12 @@
 -- A path more in a tree of names, and a rule more at one of its paths.
-use Rattle.std.proofs.Common.{◌≡◌, ◌<◌, ◌⊎◌, inl, inr, ℕ, Bool, true, false, cond, ◌&&◌, ◌||◌, ◌==◌, List, [], ◌∷◌, ◌++◌, length, get_or, Option, Some, None, is_some, refl, sym, ap, ap₂, subst, ◌∙◌, ⊎_elim, bytes_eq, arith}
+use Rattle.std.proofs.Common.{◌≡◌, ◌⊎◌, inl, inr, ℕ, Bool, true, false, cond, ◌&&◌, ◌==◌, List, [], ◌∷◌, ◌++◌, length, get_or, Option, Some, None, is_some, refl, sym, ap, ap₂, subst, ◌∙◌, ⊎_elim, bytes_eq, arith}
 use mathlib.Core.Bool.{false≢true}
-use Rattle.std.specs.Cmp.Lexicographic.{bytes_decides, nat_list_eq_equiv}
-use Rattle.std.proofs.lemmas.Bool.{ne_eqb, eq-eqb, eqb-true, or_left, or_right, or_cases, and_parts, and_from}
+use Rattle.std.specs.Cmp.Lexicographic.{bytes_decides}
+use Rattle.std.proofs.lemmas.Bool.{ne_eqb, eq-eqb, eqb-true, or_left, or_cases, and_parts, and_from}
 use Rattle.std.proofs.lemmas.List.{same_from_push}
 use Rattle.encrypt_schema.specs.Classes.{is_path, number_of}
 use Rattle.encrypt_schema.specs.Trees.{IsTree, HasRules, or_number}
-use Rattle.encrypt_schema.proofs.Paths.{path_same, path_self, path_longer, among, found_is, not_among, some_among}
+use Rattle.encrypt_schema.proofs.Paths.{path_same, path_self, path_longer, among, found_is, some_among}
 use Rattle.encrypt_schema.proofs.Numbers.{some_is, none_some, number_there, number_below, number_push, among_push, same_number}
 
 -- a number of the longer list: one of the shorter, or the new path's

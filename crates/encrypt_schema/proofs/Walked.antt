@@ -1,5 +1,5 @@
 -- The names of a path that was walked up to one of them.
-use Rattle.std.proofs.Common.{◌≡◌, ◌<◌, ◌+◌, ℕ, List, [], ◌∷◌, ◌++◌, map, length, take, drop, get_or, Some, ap, sym, ◌∙◌, Bor}
+use Rattle.std.proofs.Common.{◌≡◌, ◌<◌, ◌+◌, ℕ, List, [], ◌∷◌, ◌++◌, map, length, take, drop, get_or, ap, sym, ◌∙◌, Bor}
 use Rattle.std.proofs.lemmas.List.{take_more, drop_more, map_push, map-id}
 use Rattle.encrypt_schema.specs.Borrowed.{names}
 use Rattle.encrypt_schema.specs.Fronts.{with_path, each_once, fronts_of}

@@ -1,5 +1,5 @@
 -- Spots in memory after one of them was written, or one was added.
-use Rattle.std.proofs.Common.{◌≡◌, ◌<◌, ◌≤◌, ◌+◌, ℕ, Bool, true, false, cond, ◌&&◌, ◌==◌, List, [], ◌∷◌, ◌++◌, map, set, length, get_or, Option, Some, None, refl, sym, ap, ap₂, subst, ◌∙◌, bytes_eq, is_some, true≢false, not-suc-le-zero, arith}
+use Rattle.std.proofs.Common.{◌≡◌, ◌<◌, ◌≤◌, ◌+◌, ℕ, Bool, true, false, cond, ◌&&◌, ◌==◌, List, [], ◌∷◌, ◌++◌, map, set, length, get_or, Option, Some, None, refl, sym, ap, ap₂, subst, ◌∙◌, bytes_eq, true≢false, not-suc-le-zero, arith}
 use Rattle.std.proofs.lemmas.Bool.{eqb-true, eq-eqb}
 use Rattle.std.proofs.lemmas.List.{map-set, set-get_or, get_or-map, get_or-set_same, get_or-set_other, length-map, map_push, length_push, get_or_past}
 use Rattle.encrypt_schema.specs.declared.spots.Spot.{Spot}
@@ -47,22 +47,18 @@ written_child spots at old new below read name n made i q =
           (ap (λ (l : List ℕ → Option ℕ). l q) (at_known spots at old below read (λ s. numbered s.below) (λ _. None)) ∙ ap (λ (k : ℕ). child_at spots k q) (sym (eqb-true i at t)))
       by_test false t = refl
 
-or_new : (o : Option ℕ) (n : ℕ) → is_some o ≡ false → Some n ≡ or_number o true n
-or_new None n e = refl
-or_new (Some i) n e = absurd (true≢false e)
-
 or_old : (o : Option ℕ) (n : ℕ) → o ≡ or_number o false n
 or_old None n = refl
 or_old (Some i) n = refl
 
-pub written_rule : (spots : List Spot) (at : ℕ) (old new : Spot) → at < length spots → old ≡ get_or spots at old → (n : ℕ) → new.rule ≡ Some n → is_some old.rule ≡ false
+pub written_rule : (spots : List Spot) (at : ℕ) (old new : Spot) → at < length spots → old ≡ get_or spots at old → (n : ℕ) → new.rule ≡ or_number old.rule true n
     → (i : ℕ) → rule_at (set spots at new) i ≡ or_number (rule_at spots i) (i == at) n
-written_rule spots at old new below read n is free i =
+written_rule spots at old new below read n is i =
     written spots at old new below (λ s. s.rule) None i ∙ by_test (i == at) refl where
       by_test : (b : Bool) → (i == at) ≡ b → cond b new.rule (rule_at spots i) ≡ or_number (rule_at spots i) b n
       by_test true t =
           let here : old.rule ≡ rule_at spots i = at_known spots at old below read (λ s. s.rule) None ∙ ap (rule_at spots) (sym (eqb-true i at t)) in
-          is ∙ or_new (rule_at spots i) n (ap is_some (sym here) ∙ free)
+          is ∙ ap (λ (o : Option ℕ). or_number o true n) here
       by_test false t = or_old (rule_at spots i) n
 
 -- one spot more

@@ -1,5 +1,5 @@
 -- Which path a cursor stands for
-use Rattle.std.specs.Prelude.{◌≡◌, ℕ, Bool, true, false, List, [], Some, get_or}
+use Rattle.std.specs.Prelude.{◌≡◌, ℕ, true, false, List, [], Some, get_or}
 use Rattle.encrypt_schema.specs.declared.cursor.Cursor.{Cursor}
 use Rattle.encrypt_schema.specs.declared.cursor.Place.{Place}
 use Rattle.encrypt_schema.specs.declared.cursor.Place.TheVariants as places

@@ -1,31 +1,9 @@
 //! Dotted paths: names of fields joined by dots, as filters and updates have them.
 
-ghost use Rattle.std.specs.Prelude.{
-  ◌≡◌,
-  ◌<◌,
-  ◌++◌,
-  ◌∷◌,
-  [],
-  ℕ,
-  List,
-  length,
-  not,
-  ◌&&◌,
-  Bool,
-  MatchOption,
-  IfSome,
-};
+ghost use Rattle.std.specs.Prelude.{◌≡◌, ◌<◌, ◌++◌, ◌∷◌, [], ℕ, List, length, not, ◌&&◌, MatchOption, IfSome};
 ghost use Rattle.encrypt_schema.specs.Cursors.{Stands};
-ghost use Rattle.encrypt_schema.specs.Dotted.{
-  split,
-  is_dollar,
-  are_digits,
-  is_position,
-  is_above,
-  is_clear,
-  positional,
-  is_position_behind,
-};
+ghost use Rattle.encrypt_schema.specs.Dotted.{split, is_dollar, are_digits, is_position};
+ghost use Rattle.encrypt_schema.specs.Dotted.{is_above, is_clear, positional, is_position_behind};
 ghost use Rattle.encrypt_schema.specs.Parts.{is_nil};
 
 use crate::class::Class;

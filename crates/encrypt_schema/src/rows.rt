@@ -1,20 +1,7 @@
 //! The rules of a schema: which paths are protected, each by which policy.
 
-ghost use Rattle.std.specs.Prelude.{
-  ◌≡◌,
-  ◌<◌,
-  ◌≤◌,
-  ◌++◌,
-  ◌∷◌,
-  [],
-  length,
-  slice_get,
-  option_map,
-  option_copied,
-  OnOk,
-  OnErr,
-  IfOk,
-};
+ghost use Rattle.std.specs.Prelude.{◌≡◌, ◌<◌, ◌≤◌, ◌++◌, ◌∷◌, [], length, slice_get};
+ghost use Rattle.std.specs.Prelude.{option_map, option_copied, OnOk, OnErr, IfOk};
 ghost use Rattle.encrypt_schema.specs.Borrowed.{names};
 ghost use Rattle.encrypt_schema.specs.Spots.{rows_of, IsGrid};
 

@@ -1,31 +1,7 @@
 //! The names that lead to rules, as a tree in which a step is one look-up.
 
-ghost use Rattle.std.specs.Prelude.{
-  ◌≡◌,
-  ◌<◌,
-  ◌≤◌,
-  ◌+◌,
-  ◌-◌,
-  ◌^◌,
-  ◌==◌,
-  ◌&&◌,
-  ◌++◌,
-  ◌∷◌,
-  [],
-  ℕ,
-  List,
-  length,
-  get_or,
-  Some,
-  None,
-  if◌then◌else◌,
-  bytes_eq,
-  OnOk,
-  OnErr,
-  IfOk,
-  is_some,
-  is_ok,
-};
+ghost use Rattle.std.specs.Prelude.{◌≡◌, ◌<◌, ◌≤◌, ◌+◌, ◌^◌, ◌==◌, ◌&&◌, ◌++◌, ◌∷◌, [], ℕ, List, length};
+ghost use Rattle.std.specs.Prelude.{true, bytes_eq, get_or, Some, None, if◌then◌else◌, OnOk, IfOk, is_ok};
 ghost use Rattle.encrypt_schema.specs.Classes.{number_of};
 ghost use Rattle.encrypt_schema.specs.Fronts.{with_path, each_once, fronts_of};
 ghost use Rattle.encrypt_schema.specs.Trees.{IsTree, HasRules, or_number};
@@ -139,6 +115,16 @@ fn note_child(
     Ok(())
 }
 
+/// The first of the rules that end at a spot, where one more has number `n`.
+fn first_rule(rule: Option<u32>, n: u32) -> Option<u32>
+    ensures first { result ≡ or_number rule true n }
+{
+    match rule {
+        Some(first) => Some(first),
+        None => Some(n),
+    }
+}
+
 /// Makes the rule of number `n` the first that ends at spot `at`, unless one ends there.
 pub(crate) fn note_rule(spots: &mut Vec<Spot>, at: u32, n: u32)
     requires inside { at < length spots.old.items }
@@ -148,9 +134,7 @@ pub(crate) fn note_rule(spots: &mut Vec<Spot>, at: u32, n: u32)
     ensures count { length spots.new.items ≡ length spots.old.items }
 {
     let spot = &mut spots[at as usize];
-    if spot.rule.is_none() {
-        spot.rule = Some(n);
-    }
+    spot.rule = first_rule(spot.rule, n);
 }
 
 /// The spot to which a name leads from spot `at`; a new one where there was none.

@@ -1,5 +1,5 @@
 -- A dot ends the first component, and so does the end of the bytes.
-use Rattle.std.proofs.Common.{◌≡◌, ◌<◌, ◌≤◌, ◌+◌, ◌==◌, ℕ, List, [], ◌∷◌, true, false, length, take, drop, get_or, sym, ap, ap₂, ◌∙◌, take_all, arith, rules}
+use Rattle.std.proofs.Common.{◌<◌, ◌≤◌, ℕ, List, ◌∷◌, length, take, drop, get_or, sym, ap₂, ◌∙◌, take_all, rules}
 use Rattle.std.proofs.lemmas.Bool.{eq-eqb, ne_eqb}
 use Rattle.std.proofs.lemmas.List.{drop_all}
 use Rattle.encrypt_schema.specs.Dotted.{split}

@@ -1,5 +1,5 @@
 -- Where no name led on, a spot was added and the name noted.
-use Rattle.std.proofs.Common.{◌≡◌, ◌<◌, ◌+◌, ℕ, List, ◌==◌, ◌&&◌, bytes_eq, cond, Option, Some, None, length, sym, ap, ◌∙◌, arith, rules}
+use Rattle.std.proofs.Common.{◌≡◌, ◌+◌, ℕ, ◌==◌, ◌&&◌, bytes_eq, cond, Option, Some, length, sym, ap, ◌∙◌, arith, rules}
 use Rattle.encrypt_schema.specs.Spots.{child_at}
 use Rattle.encrypt_schema.proofs.Growth.{stands_inside, Grows, grows_paths, grows_stands, grows_tree, grows_rules}
 use Rattle.encrypt_schema.proofs.spots.go_on.Goals as goal

@@ -1,5 +1,5 @@
 -- One name of the path more.
-use Rattle.std.proofs.Common.{◌≡◌, ◌<◌, ◌≤◌, ◌+◌, ℕ, List, [], length, take, ap, ◌∙◌, Bor, arith, rules}
+use Rattle.std.proofs.Common.{◌<◌, ℕ, List, [], length, take, ap, ◌∙◌, Bor, arith, rules}
 use Rattle.encrypt_schema.specs.Classes.{number_of}
 use Rattle.encrypt_schema.specs.Borrowed.{names}
 use Rattle.encrypt_schema.specs.Spots.{spot_paths}

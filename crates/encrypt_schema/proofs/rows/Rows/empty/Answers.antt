@@ -1,7 +1,4 @@
 -- The root alone is the tree of no rules.
-use Rattle.std.proofs.Common.{◌≡◌, [], sym, subst, rules}
-use Rattle.encrypt_schema.specs.declared.rows.Rule.{Rule}
-use Rattle.encrypt_schema.specs.Spots.{IsGrid}
 use Rattle.encrypt_schema.proofs.Grids.{grid_root}
 use Rattle.encrypt_schema.proofs.rows.Rows.empty.Goals as goal
 

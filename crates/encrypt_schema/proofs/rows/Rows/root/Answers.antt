@@ -1,6 +1,5 @@
 -- Where there are rules, the root's spot is number 0.
-use Rattle.std.proofs.Common.{◌≡◌, ◌<◌, ℕ, length, ap, ◌∙◌, is_some, rules}
-use Rattle.encrypt_schema.specs.Spots.{rule_at}
+use Rattle.std.proofs.Common.{◌<◌, length, ap, ◌∙◌, is_some, rules}
 use Rattle.encrypt_schema.proofs.Opened.{at_root}
 use Rattle.encrypt_schema.proofs.rows.Rows.root.Goals as goal
 
