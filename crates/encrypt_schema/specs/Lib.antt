@@ -3,3 +3,9 @@ pub mod Row
 pub mod Classes
 pub mod Dotted
 pub mod Reasons
+pub mod Collection
+pub mod Policies
+pub mod Stations
+pub mod Offences
+pub mod Visits
+pub mod Targets
