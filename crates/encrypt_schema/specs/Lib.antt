@@ -9,3 +9,5 @@ pub mod Stations
 pub mod Offences
 pub mod Visits
 pub mod Targets
+pub mod Skeletons
+pub mod Chains
