@@ -1,1 +1,4 @@
 pub mod WorkedCommands
+pub mod Tables
+pub mod Widths
+pub mod Worlds

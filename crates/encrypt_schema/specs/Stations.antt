@@ -72,7 +72,7 @@ is_dollar_first (name ∷ names) = is_dollar name
 
 -- an operator document: a document whose first name begins with a dollar sign
 abbrev pub is_operators : Entry → Bool
-is_operators e = is_document e && is_dollar_first e.names
+is_operators e = is_dollar_first e.names && is_document e
 
 -- a place has this name
 abbrev pub is : List ℕ → Entry → Bool
