@@ -2,3 +2,4 @@ pub mod WorkedCommands
 pub mod Tables
 pub mod Widths
 pub mod Worlds
+pub mod Silence

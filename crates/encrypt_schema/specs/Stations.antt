@@ -200,3 +200,11 @@ abbrev pub has_role : Station → Bool
 has_role (Store i) = true
 has_role (Compare i) = true
 has_role _ = false
+
+-- what isn't looked into
+abbrev pub is_silent : Station → Bool
+is_silent (Store i) = true
+is_silent (Compare i) = true
+is_silent Bare = true
+is_silent Passed = true
+is_silent _ = false
