@@ -6,3 +6,4 @@ pub mod Silence
 pub mod Apart
 pub mod TwoWorlds
 pub mod BothPasses
+pub mod ByPlace

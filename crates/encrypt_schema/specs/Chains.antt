@@ -1,16 +1,17 @@
 -- MongoDB commands insert, update, delete and find, by places: what a place is, read from its chain, which is the command, the
 -- place's ancestors and itself. A place is a list of child numbers; the empty one is the command itself.
-use Rattle.std.specs.Prelude.{ℕ, zero, suc, Bool, true, false, not, ◌||◌, List, [], ◌∷◌, ◌++◌, length, Option, Some, None, unwrap_or, option_map, option_and_then}
+use Rattle.std.specs.Prelude.{ℕ, zero, suc, Bool, true, false, not, ◌||◌, List, [], ◌∷◌, ◌++◌, length, Option, Some, None, unwrap_or, option_map, option_and_then, flat_map}
 use Rattle.std.specs.Option.{option_map_or}
 use Rattle.bson_tree.specs.Tree.{Tree, leaf, node, Items, no_items, item}
 use Rattle.bson_tree.specs.Places.{tree_at, start_of, places}
 use Rattle.bson_tree.specs.Spelling.{value_bytes}
+use Rattle.encrypt_schema.specs.declared.marks.Mark.{Mark}
 use Rattle.encrypt_schema.specs.declared.marks.Role.{Role}
 use Rattle.encrypt_schema.specs.declared.marks.Role.TheVariants as role
 use Rattle.encrypt_schema.specs.declared.reason.Reason.{Reason}
 use Rattle.encrypt_schema.specs.Row.{Row}
 use Rattle.encrypt_schema.specs.Stations.{Entry, Station, Outside, Store, Compare, station, has_role}
-use Rattle.encrypt_schema.specs.Visits.{entry, Visit, station_of, offence_of}
+use Rattle.encrypt_schema.specs.Visits.{entry, Visit, station_of, offence_of, mark_at}
 
 -- what is looked at of an ancestor or of the place: the names of its elder siblings, and itself
 pub record Link : Type 0 where
@@ -104,11 +105,10 @@ site_at place _ = []
 abbrev pub site_of : List Row → Items → List ℕ → List Site
 site_of rows c place = option_map_or (site_at place) (station_at rows c place) []
 
--- those of some places, in order
-abbrev pub sites_among : List Row → Items → List (List ℕ) → List Site
-sites_among rows c [] = []
-sites_among rows c (place ∷ places) = site_of rows c place ++ sites_among rows c places
-
 -- the protected places of a command, in reading order
 abbrev pub sites : List Row → Items → List Site
-sites rows c = sites_among rows c (places c)
+sites rows c = flat_map (site_of rows c) (places c)
+
+-- the mark of a place of a command; none where it isn't protected
+abbrev pub mark_of : List Row → Items → List ℕ → List Mark
+mark_of rows c place = option_map_or (λ v. mark_at (station_of rows v) v) (visit_at rows c place) []
