@@ -7,3 +7,4 @@ pub mod Apart
 pub mod TwoWorlds
 pub mod BothPasses
 pub mod ByPlace
+pub mod ShownPlaces
