@@ -52,7 +52,7 @@ places_next i (item name t is) =
     let c = map-append next (map (λ (p : List ℕ). i ∷ p) (places_in t)) (places_from (i + 1) is) in
     cc
 
-below_next : (o : Option Visit) (rows : List Row) (s : Station) (at : ℕ) (elder : List (List ℕ)) (name : List ℕ) (t : Tree) (is : Items) (place : List ℕ)
+pub below_next : (o : Option Visit) (rows : List Row) (s : Station) (at : ℕ) (elder : List (List ℕ)) (name : List ℕ) (t : Tree) (is : Items) (place : List ℕ)
     → visit_below o rows s at elder (item name t is) (next place)
     ≡ visit_below o rows s (at + (2 + length name) + length (value_bytes t)) (elder ++ name ∷ []) is place
 below_next o rows s at elder name t is [] = refl
@@ -143,7 +143,7 @@ visit_at_from rows c i place =
     option_onward rows Outside _ _ (link [] [] (node 3 c)) (chain_from [] i place c)
     ∙ sym (from_chain rows (station rows Outside (command_entry c)) 4 [] i place c)
 
-visit_at_below : (rows : List Row) (c : Items) (place : List ℕ)
+pub visit_at_below : (rows : List Row) (c : Items) (place : List ℕ)
     → visit_at rows c place ≡ visit_below (Some (command_visit c)) rows (station rows Outside (command_entry c)) 4 [] c place
 visit_at_below rows c [] = refl
 visit_at_below rows c (i ∷ place) = visit_at_from rows c i place

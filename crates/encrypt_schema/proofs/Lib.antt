@@ -8,3 +8,6 @@ pub mod TwoWorlds
 pub mod BothPasses
 pub mod ByPlace
 pub mod ShownPlaces
+pub mod EqualOffences
+pub mod Blanks
+pub mod Sites

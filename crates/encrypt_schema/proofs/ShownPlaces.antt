@@ -74,7 +74,7 @@ shows rows s o = option_map_or (λ links. not (is_below_role rows s links)) o fa
 
 -- a place with no protected ancestor is seen in the skeleton, and no other one
 
-shows_node : (rows : List Row) (s : Station) (l : Link) (o : Option Chain) (b : Bool) (seen : Option Visit) → has_role (station rows s l.entry) ≡ b
+pub shows_node : (rows : List Row) (s : Station) (l : Link) (o : Option Chain) (b : Bool) (seen : Option Visit) → has_role (station rows s l.entry) ≡ b
     → shows rows (station rows s l.entry) o ≡ is_some seen → shows rows s (option_map (onward l) o) ≡ is_some (cond b None seen)
 shows_node rows s l None true seen h p = refl
 shows_node rows s l (Some links) true seen h p = ap (λ (b : Bool). not (b || is_below_role rows (station rows s l.entry) links)) h
@@ -122,7 +122,7 @@ shows_seen rows s at elder (suc i) place (item name t is) =
 
 -- what is read of such a place, behind its veil, is what is seen of it
 
-veiled_node : (rows : List Row) (s : Station) (l : Link) (o : Option Chain) (b : Bool) (v seen : Option Visit) → has_role (station rows s l.entry) ≡ b
+pub veiled_node : (rows : List Row) (s : Station) (l : Link) (o : Option Chain) (b : Bool) (v seen : Option Visit) → has_role (station rows s l.entry) ≡ b
     → (shows rows (station rows s l.entry) o ≡ true → option_map (veil rows) v ≡ seen)
     → shows rows s (option_map (onward l) o) ≡ true → option_map (veil rows) v ≡ cond b None seen
 veiled_node rows s l None b v seen h p q = absurd (false≢true q)

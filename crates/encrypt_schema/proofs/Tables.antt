@@ -21,10 +21,10 @@ without e = record e { names = []; raw = [] }
 pub record Plain (s : Station) : Type 0 where
   pub no : has_role s ≡ false
 
-plain : {s : Station} → has_role s ≡ false → Plain s
-plain e = record { no = e }
+pub no_role : {s : Station} → has_role s ≡ false → Plain s
+no_role e = record { no = e }
 
-plain_cond : (b : Bool) {x y : Station} → Plain x → Plain y → Plain (cond b x y)
+pub plain_cond : (b : Bool) {x y : Station} → Plain x → Plain y → Plain (cond b x y)
 plain_cond true p q = p
 plain_cond false p q = q
 
@@ -32,10 +32,10 @@ plain_cond false p q = q
 pub record Kept {X : Type 0} (s : Station) (a b : X) : Type 0 where
   pub kept : has_role s ≡ true → a ≡ b
 
-one : {X : Type 0} {s : Station} {a : X} → Kept s a a
+pub one : {X : Type 0} {s : Station} {a : X} → Kept s a a
 one = record { kept = λ _. refl }
 
-none : {X : Type 0} {s : Station} {a b : X} → Plain s → Kept s a b
+pub none : {X : Type 0} {s : Station} {a b : X} → Plain s → Kept s a b
 none p = record { kept = λ h. absurd (false≢true (sym p.no ∙ h)) }
 
 alike : {X : Type 0} {s : Station} {a b : X} → a ≡ b → Kept s a b
@@ -45,20 +45,20 @@ under : {X Y : Type 0} (f : X → Y) {s : Station} {a b : X} → Kept s a b → 
 under f k = record { kept = λ h. ap f (k.kept h) }
 
 -- a test that both make
-test : {X : Type 0} (t : Bool) {x y : Station} {a b c d : X} → Kept x a b → Kept y c d → Kept (cond t x y) (cond t a c) (cond t b d)
+pub test : {X : Type 0} (t : Bool) {x y : Station} {a b c d : X} → Kept x a b → Kept y c d → Kept (cond t x y) (cond t a c) (cond t b d)
 test true p q = p
 test false p q = q
 
-command_plain : (names : List (List ℕ)) → Plain (command_of names)
-command_plain [] = plain refl
+pub command_plain : (names : List (List ℕ)) → Plain (command_of names)
+command_plain [] = no_role refl
 command_plain (n ∷ ns) =
     plain_cond
     (named n (codes "insert"))
-    (plain refl)
+    (no_role refl)
     (plain_cond
     (named n (codes "update"))
-    (plain refl)
-    (plain_cond (named n (codes "delete")) (plain refl) (plain_cond (named n (codes "find")) (plain refl) (plain refl))))
+    (no_role refl)
+    (plain_cond (named n (codes "delete")) (no_role refl) (plain_cond (named n (codes "find")) (no_role refl) (no_role refl))))
 
 -- a command is not protected itself
 pub command_without_role : (rows : List Row) (e : Entry) → has_role (station rows Outside e) ≡ false
@@ -66,13 +66,13 @@ command_without_role rows e = (command_plain e.names).no
 
 tested_same : (c : Class) (o : Bool) → Kept (tested_at c o) (tested_at c false) (tested_at c o)
 tested_same c false = one
-tested_same (Protected i) true = none (plain refl)
-tested_same Above true = none (plain refl)
+tested_same (Protected i) true = none (no_role refl)
+tested_same Above true = none (no_role refl)
 tested_same Below true = one
 tested_same Clear true = one
 
 not_plain : (b : Bool) (x : Subject) → Plain (cond b (Test x) Passed)
-not_plain b x = plain_cond b (plain refl) (plain refl)
+not_plain b x = plain_cond b (no_role refl) (no_role refl)
 
 station_kept : (rows : List Row) (s : Station) (e : Entry) → Kept (station rows s e) (station rows s (without e)) (station rows s e)
 station_kept rows Outside e = none (command_plain e.names)
@@ -80,11 +80,11 @@ station_kept rows UpdateItem e =
     none
     (plain_cond
     (is (codes "q") e && is_document e)
-    (plain refl)
+    (no_role refl)
     (plain_cond
     (is (codes "u") e && is_document e)
-    (plain_cond (is_operators e) (plain refl) (plain refl))
-    (plain refl)))
+    (plain_cond (is_operators e) (no_role refl) (no_role refl))
+    (no_role refl)))
 station_kept rows Filter e =
     test (is_logical e.name) one (test (is_dollar e.name) one (tested_same (dotted rows e.name) (is_operators e)))
 station_kept rows (Test x) e =
@@ -104,8 +104,8 @@ operators_same true x y q p = none p
 operators_same false x y q p = one
 
 value_same : (rows : List Row) (c : Class) (e : Entry) → Kept (tested_at c (is_operators e)) (filter_value rows c (without e)) (filter_value rows c e)
-value_same rows (Protected i) e = operators_same (is_operators e) (Test (Field i)) (Compare i) (compared rows (Field i) e) (plain refl)
-value_same rows Above e = operators_same (is_operators e) (Test Prefix) Bare (compared rows Prefix e) (plain refl)
+value_same rows (Protected i) e = operators_same (is_operators e) (Test (Field i)) (Compare i) (compared rows (Field i) e) (no_role refl)
+value_same rows Above e = operators_same (is_operators e) (Test Prefix) Bare (compared rows Prefix e) (no_role refl)
 value_same rows Below e = one
 value_same rows Clear e = one
 
@@ -128,10 +128,10 @@ set_same rows Clear e = one
 reasons_kept : (rows : List Row) (s : Station) (elder : List (List ℕ)) (e : Entry)
     → Kept (station rows s e) (reasons_at rows s elder (without e)) (reasons_at rows s elder e)
 reasons_kept rows Outside elder e = none (command_plain e.names)
-reasons_kept rows Updates elder e = none (plain_cond (is_document e) (plain refl) (plain refl))
-reasons_kept rows Deletes elder e = none (plain_cond (is_document e) (plain refl) (plain refl))
-reasons_kept rows Projection elder e = none (plain refl)
-reasons_kept rows (Argument n) elder e = none (plain refl)
+reasons_kept rows Updates elder e = none (plain_cond (is_document e) (no_role refl) (no_role refl))
+reasons_kept rows Deletes elder e = none (plain_cond (is_document e) (no_role refl) (no_role refl))
+reasons_kept rows Projection elder e = none (no_role refl)
+reasons_kept rows (Argument n) elder e = none (no_role refl)
 reasons_kept rows (Elements x) elder e = alike (compared_same rows x e)
 reasons_kept rows (Document p) elder e = document_same rows (class rows (p ++ e.name ∷ [])) e
 reasons_kept rows Sets elder e =

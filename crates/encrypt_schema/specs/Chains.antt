@@ -112,3 +112,10 @@ sites rows c = flat_map (site_of rows c) (places c)
 -- the mark of a place of a command; none where it isn't protected
 abbrev pub mark_of : List Row → Items → List ℕ → List Mark
 mark_of rows c place = option_map_or (λ v. mark_at (station_of rows v) v) (visit_at rows c place) []
+
+-- the rule and the role of a mark, and of a site
+abbrev pub use_of_mark : Mark → ℕ × Role
+use_of_mark m = (m.policy, m.role)
+
+abbrev pub use_of_site : Site → ℕ × Role
+use_of_site x = (x.policy, x.role)
