@@ -7,7 +7,7 @@ use Rattle.encrypt_schema.specs.declared.class.Class.TheVariants.{Protected, Bel
 use Rattle.encrypt_schema.specs.Row.{Row}
 use Rattle.encrypt_schema.specs.Classes.{class}
 use Rattle.encrypt_schema.specs.Dotted.{split, is_dollar}
-use Rattle.encrypt_schema.specs.Stations.{Entry, Subject, Station, Outside, Insert, Update, Delete, Find, Inserts, Updates, Deletes, UpdateItem, DeleteItem, Filter, Cases, Projection, Test, Elements, Operators, Sets, Argument, Document, Store, Compare, Bare, Passed, is_document, is_array, is_operators, is, is_logical, is_equality, is_membership, is_set, is_random_field, dotted, station, stored_at, tested_at, has_role}
+use Rattle.encrypt_schema.specs.Stations.{Entry, Subject, Station, Outside, Insert, Update, Delete, Find, Inserts, Updates, Deletes, UpdateItem, DeleteItem, Filter, Cases, Projection, Test, Elements, Operators, Sets, Argument, Document, Store, Compare, Bare, Passed, is_document, is_array, is_operators, is_dollar_first, has_name, is_logical, is_equality, is_membership, is_set, is_random_field, dotted, station, stored_at, tested_at, has_role}
 use Rattle.encrypt_schema.specs.Visits.{names_of, is_payload, entry, command_entry}
 use Rattle.encrypt_schema.specs.Skeletons.{Skeleton, hole, plain, branch, Skeletons, no_more, more, blank_hole, blank_in, blanks, blank}
 use Rattle.encrypt_schema.proofs.Tables.{Plain, no_role, plain_cond, Kept, one, none, test, command_plain, command_without_role}
@@ -36,20 +36,20 @@ either b p q = none (plain_cond b p q)
 
 station_kept : (rows : List Row) (s : Station) (e : Entry) → Kept (station rows s e) (station rows s (bare e)) (station rows s e)
 station_kept rows Outside e = none (command_plain e.names)
-station_kept rows Insert e = either (is (codes "documents") e && is_array e) (no_role refl) (no_role refl)
-station_kept rows Update e = either (is (codes "updates") e && is_array e) (no_role refl) (no_role refl)
-station_kept rows Delete e = either (is (codes "deletes") e && is_array e) (no_role refl) (no_role refl)
+station_kept rows Insert e = either (has_name (codes "documents") e && is_array e) (no_role refl) (no_role refl)
+station_kept rows Update e = either (has_name (codes "updates") e && is_array e) (no_role refl) (no_role refl)
+station_kept rows Delete e = either (has_name (codes "deletes") e && is_array e) (no_role refl) (no_role refl)
 station_kept rows Find e =
-    either (is (codes "filter") e && is_document e) (no_role refl) (plain_cond (is (codes "projection") e && is_document e) (no_role refl) (no_role refl))
+    either (has_name (codes "filter") e && is_document e) (no_role refl) (plain_cond (has_name (codes "projection") e && is_document e) (no_role refl) (no_role refl))
 station_kept rows Inserts e = either (is_document e) (no_role refl) (no_role refl)
 station_kept rows Updates e = either (is_document e) (no_role refl) (no_role refl)
 station_kept rows Deletes e = either (is_document e) (no_role refl) (no_role refl)
 station_kept rows UpdateItem e =
     either
-    (is (codes "q") e && is_document e)
+    (has_name (codes "q") e && is_document e)
     (no_role refl)
-    (plain_cond (is (codes "u") e && is_document e) (plain_cond (is_operators e) (no_role refl) (no_role refl)) (no_role refl))
-station_kept rows DeleteItem e = either (is (codes "q") e && is_document e) (no_role refl) (no_role refl)
+    (plain_cond (has_name (codes "u") e && is_document e) (plain_cond (is_dollar_first e.names) (no_role refl) (no_role refl)) (no_role refl))
+station_kept rows DeleteItem e = either (has_name (codes "q") e && is_document e) (no_role refl) (no_role refl)
 station_kept rows (Document p) e = stored_bare (class rows (p ++ e.name ∷ [])) (p ++ e.name ∷ []) (is_document e)
 station_kept rows Filter e =
     test
@@ -64,7 +64,7 @@ station_kept rows (Test x) e =
     (test
     (is_membership e.name)
     (either (is_array e && not (is_random_field rows x)) (no_role refl) (no_role refl))
-    (either (is (codes "$not") e && is_operators e) (no_role refl) (no_role refl)))
+    (either (has_name (codes "$not") e && is_operators e) (no_role refl) (no_role refl)))
 station_kept rows Operators e =
     either (is_set e.name && is_document e) (no_role refl) (plain_cond (is_dollar e.name && is_document e) (no_role refl) (no_role refl))
 station_kept rows Sets e = stored_bare (dotted rows e.name) (split e.name) (is_document e)

@@ -5,18 +5,18 @@ use Rattle.bson_tree.specs.Spelling.{value_bytes}
 use Rattle.encrypt_schema.specs.Names.{named}
 use Rattle.encrypt_schema.specs.Row.{Row}
 use Rattle.encrypt_schema.specs.Collection.{Collection}
-use Rattle.encrypt_schema.specs.Stations.{Entry, Station, Outside, Insert, Update, Delete, Find, Inserts, Updates, Deletes, Filter, Projection, Passed, is_document, is_array, is, command_of, station, has_role}
+use Rattle.encrypt_schema.specs.Stations.{Entry, Station, Outside, Insert, Update, Delete, Find, Inserts, Updates, Deletes, Filter, Projection, Passed, is_document, is_array, has_name, command_of, station, has_role}
 use Rattle.encrypt_schema.specs.Visits.{entry, command_entry, Refusal, or_else, content_verdict}
-use Rattle.encrypt_schema.specs.Targets.{Top, tops, target_of, target, named_by, rows_in, rows_of, verdict}
+use Rattle.encrypt_schema.specs.Targets.{CommandField, command_fields, target_of, target, named_by, rows_in, rows_of, verdict}
 use Rattle.encrypt_schema.specs.Skeletons.{Skeletons, no_more, more, skeleton_in, skeletons, skeleton, width_of}
 use Rattle.encrypt_schema.proofs.Tables.{without}
 use Rattle.encrypt_schema.proofs.Widths.{entry_in, width_kept, veiled, entry_kept}
 use Rattle.encrypt_schema.proofs.TwoWorlds.{equal_content_verdicts}
 
 -- the fields of a command, read from its skeleton
-abbrev pub tops_in : ℕ → Skeletons → List Top
-tops_in at no_more = []
-tops_in at (more name k ks) = record { entry = entry_in name k; start = at + (2 + length name) } ∷ tops_in (at + (2 + length name) + width_of k) ks
+abbrev pub fields_in : ℕ → Skeletons → List CommandField
+fields_in at no_more = []
+fields_in at (more name k ks) = record { entry = entry_in name k; start = at + (2 + length name) } ∷ fields_in (at + (2 + length name) + width_of k) ks
 
 no_role_cond : (b : Bool) (s u : Station) → has_role s ≡ false → has_role u ≡ false → has_role (cond b s u) ≡ false
 no_role_cond true s u p q = p
@@ -33,17 +33,17 @@ is_command_cond rows false s u p q = q
 passed_fields : (rows : List Row) → IsCommand rows Passed
 passed_fields rows = record { fields = λ e. refl }
 
-command_fields : (rows : List Row) (names : List (List ℕ)) → IsCommand rows (command_of names)
-command_fields rows [] = passed_fields rows
-command_fields rows (n ∷ ns) =
+command_without_roles : (rows : List Row) (names : List (List ℕ)) → IsCommand rows (command_of names)
+command_without_roles rows [] = passed_fields rows
+command_without_roles rows (n ∷ ns) =
     is_command_cond rows (named n (codes "insert")) Insert _
-    (record { fields = λ e. no_role_cond (is (codes "documents") e && is_array e) Inserts Passed refl refl })
+    (record { fields = λ e. no_role_cond (has_name (codes "documents") e && is_array e) Inserts Passed refl refl })
     (is_command_cond rows (named n (codes "update")) Update _
-    (record { fields = λ e. no_role_cond (is (codes "updates") e && is_array e) Updates Passed refl refl })
+    (record { fields = λ e. no_role_cond (has_name (codes "updates") e && is_array e) Updates Passed refl refl })
     (is_command_cond rows (named n (codes "delete")) Delete _
-    (record { fields = λ e. no_role_cond (is (codes "deletes") e && is_array e) Deletes Passed refl refl })
+    (record { fields = λ e. no_role_cond (has_name (codes "deletes") e && is_array e) Deletes Passed refl refl })
     (is_command_cond rows (named n (codes "find")) Find Passed
-    (record { fields = λ e. no_role_cond (is (codes "filter") e && is_document e) Filter _ refl (no_role_cond (is (codes "projection") e && is_document e) Projection Passed refl refl) })
+    (record { fields = λ e. no_role_cond (has_name (codes "filter") e && is_document e) Filter _ refl (no_role_cond (has_name (codes "projection") e && is_document e) Projection Passed refl refl) })
     (passed_fields rows))))
 
 field_kept : (rows : List Row) (s : Station) (name : List ℕ) (t : Tree) → IsCommand rows s
@@ -51,32 +51,32 @@ field_kept : (rows : List Row) (s : Station) (name : List ℕ) (t : Tree) → Is
 field_kept rows s name t p =
     sym (ap (λ (b : Bool). cond b (without (entry name t)) (entry name t)) (p.fields (entry name t))) ∙ entry_kept rows (station rows s (entry name t)) name t
 
-tops_kept : (rows : List Row) (s : Station) (at : ℕ) (is : Items) → IsCommand rows s → tops at is ≡ tops_in at (skeletons rows s is)
-tops_kept rows s at no_items p = refl
-tops_kept rows s at (item name t is) p =
+fields_kept : (rows : List Row) (s : Station) (at : ℕ) (is : Items) → IsCommand rows s → command_fields at is ≡ fields_in at (skeletons rows s is)
+fields_kept rows s at no_items p = refl
+fields_kept rows s at (item name t is) p =
     let k = skeleton_in rows (station rows s (entry name t)) t in
     let a : entry name t ≡ entry_in name k = field_kept rows s name t p in
     let b : width_of k ≡ length (value_bytes t) = width_kept rows (station rows s (entry name t)) t in
-    let c = tops_kept rows s (at + (2 + length name) + length (value_bytes t)) is p in
+    let c = fields_kept rows s (at + (2 + length name) + length (value_bytes t)) is p in
     cc
 
-command_tops : (rows : List Row) (c : Items) → tops 4 c ≡ tops_in 4 (skeleton rows c)
-command_tops rows c = tops_kept rows (station rows Outside (command_entry c)) 4 c (command_fields rows (command_entry c).names)
+fields_told : (rows : List Row) (c : Items) → command_fields 4 c ≡ fields_in 4 (skeleton rows c)
+fields_told rows c = fields_kept rows (station rows Outside (command_entry c)) 4 c (command_without_roles rows (command_entry c).names)
 
-equal_tops : (rows : List Row) (c d : Items) → skeleton rows c ≡ skeleton rows d → tops 4 c ≡ tops 4 d
-equal_tops rows c d e = command_tops rows c ∙ (ap (tops_in 4) e ∙ sym (command_tops rows d))
+equal_fields : (rows : List Row) (c d : Items) → skeleton rows c ≡ skeleton rows d → command_fields 4 c ≡ command_fields 4 d
+equal_fields rows c d e = fields_told rows c ∙ (ap (fields_in 4) e ∙ sym (fields_told rows d))
 
 -- commands with equal skeletons have the same verdict of the target pass
 pub equal_targets : (db : List ℕ) (collections : List Collection) (rows : List Row) (c d : Items) → skeleton rows c ≡ skeleton rows d
     → target db collections c ≡ target db collections d
 unfolding target
-equal_targets db collections rows c d e = ap (target_of db collections) (equal_tops rows c d e)
+equal_targets db collections rows c d e = ap (target_of db collections) (equal_fields rows c d e)
 
 -- and the same rules
 pub equal_rows : (collections : List Collection) (rows : List Row) (c d : Items) → skeleton rows c ≡ skeleton rows d
     → rows_of collections c ≡ rows_of collections d
 unfolding rows_of
-equal_rows collections rows c d e = ap (λ (ts : List Top). rows_in (named_by collections ts)) (equal_tops rows c d e)
+equal_rows collections rows c d e = ap (λ (fields : List CommandField). rows_in (named_by collections fields)) (equal_fields rows c d e)
 
 -- commands with equal skeletons under the first one's rules have the same verdict of both passes
 pub equal_verdicts : (db : List ℕ) (collections : List Collection) (c d : Items)

@@ -12,8 +12,8 @@ use Rattle.encrypt_schema.specs.declared.marks.Mark.{Mark}
 use Rattle.encrypt_schema.specs.declared.reason.Reason.{Reason}
 use Rattle.encrypt_schema.specs.Row.{Row}
 use Rattle.encrypt_schema.specs.Stations.{Entry, Station, Outside, station}
-use Rattle.encrypt_schema.specs.Visits.{entry, command_entry, Visit, visit, visits_in, visits, command_visit, command_visits, station_of, offence_of, mark_at, marks, roles}
-use Rattle.encrypt_schema.specs.Chains.{Link, Chain, last, onward, link, chain_in, chain_from, visit_along, visit_at, station_at, offence_at, mark_of}
+use Rattle.encrypt_schema.specs.Visits.{Refusal, refusal, or_else, first_refusal, entry, command_entry, Visit, visit, visits_in, visits, command_visit, command_visits, station_of, offence_of, mark_at, marks, roles}
+use Rattle.encrypt_schema.specs.Chains.{Link, Chain, last, onward, link, chain_in, chain_from, visit_along, visit_at, station_at, offence_at, mark_of, refusal_at, first_of}
 
 -- a place below elements, with what it is carried down
 abbrev mutual
@@ -180,3 +180,17 @@ roles_by_place rows c =
     flat_marks rows (command_visits rows c)
     ∙ (sym (flat_map-map f (λ (v : Visit). Some v) (command_visits rows c))
     ∙ (ap (flat_map f) (sym (by_place rows c)) ∙ flat_map-map f (visit_at rows c) (places c)))
+
+first_in : (rows : List Row) (vs : List Visit) → first_refusal rows vs ≡ first_of (map (refusal rows) vs)
+first_in rows [] = refl
+first_in rows (v ∷ vs) = ap (or_else (refusal rows v)) (first_in rows vs)
+
+-- the verdict on the contents of a command is the refusal of the first of `places` that has an offence, each read from its chain
+pub verdict_by_place : (rows : List Row) (c : Items)
+    → first_refusal rows (command_visits rows c) ≡ first_of (map (refusal_at rows c) (places c))
+verdict_by_place rows c =
+    let f : Option Visit → Option Refusal = λ o. option_and_then (refusal rows) o in
+    let read : map f (map (visit_at rows c) (places c)) ≡ map (refusal_at rows c) (places c) = map-map f (visit_at rows c) (places c) in
+    let own : map f (map Some (command_visits rows c)) ≡ map (refusal rows) (command_visits rows c) = map-map f (λ (v : Visit). Some v) (command_visits rows c) in
+    first_in rows (command_visits rows c)
+    ∙ ap first_of (sym own ∙ (ap (map f) (sym (by_place rows c)) ∙ read))

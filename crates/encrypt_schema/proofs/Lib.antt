@@ -11,3 +11,4 @@ pub mod ShownPlaces
 pub mod EqualOffences
 pub mod Blanks
 pub mod Sites
+pub mod Parts

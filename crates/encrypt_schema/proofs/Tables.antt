@@ -10,7 +10,7 @@ use Rattle.encrypt_schema.specs.Names.{named}
 use Rattle.encrypt_schema.specs.Row.{Row}
 use Rattle.encrypt_schema.specs.Classes.{class}
 use Rattle.encrypt_schema.specs.Dotted.{split, is_dollar, positional}
-use Rattle.encrypt_schema.specs.Stations.{Entry, Subject, Field, Prefix, Station, Outside, Insert, Update, Delete, Find, Inserts, Updates, Deletes, UpdateItem, DeleteItem, Filter, Cases, Projection, Test, Elements, Operators, Sets, Argument, Document, Store, Compare, Bare, Passed, is_document, is_operators, is, is_logical, is_equality, is_membership, dotted, station, has_role, command_of, tested_at}
+use Rattle.encrypt_schema.specs.Stations.{Entry, Subject, Field, Prefix, Station, Outside, Insert, Update, Delete, Find, Inserts, Updates, Deletes, UpdateItem, DeleteItem, Filter, Cases, Projection, Test, Elements, Operators, Sets, Argument, Document, Store, Compare, Bare, Passed, is_document, is_operators, is_dollar_first, has_name, is_logical, is_equality, is_membership, dotted, station, has_role, command_of, tested_at}
 use Rattle.encrypt_schema.specs.Offences.{when, reasons_at, filter_value, compared, document_value, set_value}
 
 -- an entry without what a hole doesn't tell
@@ -79,11 +79,11 @@ station_kept rows Outside e = none (command_plain e.names)
 station_kept rows UpdateItem e =
     none
     (plain_cond
-    (is (codes "q") e && is_document e)
+    (has_name (codes "q") e && is_document e)
     (no_role refl)
     (plain_cond
-    (is (codes "u") e && is_document e)
-    (plain_cond (is_operators e) (no_role refl) (no_role refl))
+    (has_name (codes "u") e && is_document e)
+    (plain_cond (is_dollar_first e.names) (no_role refl) (no_role refl))
     (no_role refl)))
 station_kept rows Filter e =
     test (is_logical e.name) one (test (is_dollar e.name) one (tested_same (dotted rows e.name) (is_operators e)))
@@ -91,7 +91,7 @@ station_kept rows (Test x) e =
     test
     (is_equality e.name)
     one
-    (test (is_membership e.name) one (none (not_plain (is (codes "$not") e && is_operators e) x)))
+    (test (is_membership e.name) one (none (not_plain (has_name (codes "$not") e && is_operators e) x)))
 station_kept rows _ e = one
 
 -- what a protected place is needs no child's name and no raw byte
@@ -148,7 +148,7 @@ reasons_kept rows (Test x) elder e =
     test
     (is_equality e.name)
     (alike (compared_same rows x e))
-    (test (is_membership e.name) one (none (not_plain (is (codes "$not") e && is_operators e) x)))
+    (test (is_membership e.name) one (none (not_plain (has_name (codes "$not") e && is_operators e) x)))
 reasons_kept rows _ elder e = one
 
 -- for which reasons a protected place is refused needs no child's name and no raw byte

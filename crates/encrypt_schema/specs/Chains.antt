@@ -11,7 +11,7 @@ use Rattle.encrypt_schema.specs.declared.marks.Role.TheVariants as role
 use Rattle.encrypt_schema.specs.declared.reason.Reason.{Reason}
 use Rattle.encrypt_schema.specs.Row.{Row}
 use Rattle.encrypt_schema.specs.Stations.{Entry, Station, Outside, Store, Compare, station, has_role}
-use Rattle.encrypt_schema.specs.Visits.{entry, Visit, station_of, offence_of, mark_at}
+use Rattle.encrypt_schema.specs.Visits.{entry, Visit, station_of, offence_of, mark_at, Refusal, refusal, or_else}
 
 -- what is looked at of an ancestor or of the place: the names of its elder siblings, and itself
 pub record Link : Type 0 where
@@ -79,6 +79,15 @@ station_at rows c place = option_map (station_of rows) (visit_at rows c place)
 -- the offence of a place of a command
 abbrev pub offence_at : List Row → Items → List ℕ → Option Reason
 offence_at rows c place = option_and_then (offence_of rows) (visit_at rows c place)
+
+-- the refusal of a place of a command
+abbrev pub refusal_at : List Row → Items → List ℕ → Option Refusal
+refusal_at rows c place = option_and_then (refusal rows) (visit_at rows c place)
+
+-- the first refusal of several
+abbrev pub first_of : List (Option Refusal) → Option Refusal
+first_of [] = None
+first_of (refused ∷ others) = or_else refused (first_of others)
 
 -- an ancestor of the last place of a chain is protected
 abbrev pub is_below_role : List Row → Station → Chain → Bool

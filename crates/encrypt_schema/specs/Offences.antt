@@ -12,7 +12,7 @@ use Rattle.encrypt_schema.specs.Row.{Row}
 use Rattle.encrypt_schema.specs.Policies.{policy_at, is_random, has_type, is_policy}
 use Rattle.encrypt_schema.specs.Classes.{class}
 use Rattle.encrypt_schema.specs.Dotted.{split, is_dollar, positional}
-use Rattle.encrypt_schema.specs.Stations.{Entry, Subject, Field, Prefix, Station, Outside, Insert, Update, Delete, Find, Inserts, Updates, Deletes, UpdateItem, DeleteItem, Filter, Cases, Projection, Test, Elements, Operators, Sets, Argument, Document, Store, Compare, Bare, Passed, is_document, is_array, is_operators, is, is_logical, is_equality, is_membership, is_random_field, dotted, station}
+use Rattle.encrypt_schema.specs.Stations.{Entry, Subject, Field, Prefix, Station, Outside, Insert, Update, Delete, Find, Inserts, Updates, Deletes, UpdateItem, DeleteItem, Filter, Cases, Projection, Test, Elements, Operators, Sets, Argument, Document, Store, Compare, Bare, Passed, is_document, is_array, is_operators, has_name, is_logical, is_equality, is_membership, is_random_field, dotted, station}
 
 -- a reason where a test holds
 abbrev pub when : Bool → Reason → List Reason
@@ -84,8 +84,8 @@ abbrev pub test_value : List Row → Subject → Entry → List Reason
 test_value rows x e =
     if is_equality e.name then compared rows x e
     else if is_membership e.name then membership_value rows x e
-    else if is (codes "$not") e then not_value x e
-    else if is (codes "$exists") e then []
+    else if has_name (codes "$not") e then not_value x e
+    else if has_name (codes "$exists") e then []
     else OperatorOnProtected ∷ []
 
 -- an element of a projection: an array; a document other than one with the single name `$slice` or `$meta`
@@ -146,14 +146,14 @@ reasons_at rows Outside elder e = command_lacks (station rows Outside e) e.names
 -- insert: `documents`, once, an array
 reasons_at rows Insert elder e =
     when (is_again (codes "documents" ∷ []) elder e.name) BadField
-    ++ when (is (codes "documents") e && not (is_array e)) BadField
+    ++ when (has_name (codes "documents") e && not (is_array e)) BadField
 -- of documents
 reasons_at rows Inserts elder e = when (not (is_document e)) BadField
 -- update: `updates`, once, an array; `let`, once, can't be used
 reasons_at rows Update elder e =
     when (is_again (codes "updates" ∷ codes "let" ∷ []) elder e.name) BadField
-    ++ when (is (codes "updates") e && not (is_array e)) BadField
-    ++ when (is (codes "let") e) FieldNotAllowed
+    ++ when (has_name (codes "updates") e && not (is_array e)) BadField
+    ++ when (has_name (codes "let") e) FieldNotAllowed
 -- of documents; each has `q` and `u`
 reasons_at rows Updates elder e =
     when (not (is_document e)) BadField
@@ -162,26 +162,26 @@ reasons_at rows Updates elder e =
 -- `c` can't be used
 reasons_at rows UpdateItem elder e =
     when (is_again (codes "q" ∷ codes "u" ∷ codes "arrayFilters" ∷ codes "c" ∷ []) elder e.name) BadField
-    ++ when (is (codes "q") e && not (is_document e)) BadField
-    ++ when (is (codes "u") e && is_array e) Pipeline
-    ++ when (is (codes "u") e && not (is_array e) && not (is_document e)) BadField
-    ++ when (is (codes "arrayFilters") e || is (codes "c") e) FieldNotAllowed
+    ++ when (has_name (codes "q") e && not (is_document e)) BadField
+    ++ when (has_name (codes "u") e && is_array e) Pipeline
+    ++ when (has_name (codes "u") e && not (is_array e) && not (is_document e)) BadField
+    ++ when (has_name (codes "arrayFilters") e || has_name (codes "c") e) FieldNotAllowed
 -- delete: `deletes`, once, an array; `let`, once, can't be used
 reasons_at rows Delete elder e =
     when (is_again (codes "deletes" ∷ codes "let" ∷ []) elder e.name) BadField
-    ++ when (is (codes "deletes") e && not (is_array e)) BadField
-    ++ when (is (codes "let") e) FieldNotAllowed
+    ++ when (has_name (codes "deletes") e && not (is_array e)) BadField
+    ++ when (has_name (codes "let") e) FieldNotAllowed
 -- of documents; each has `q`
 reasons_at rows Deletes elder e = when (not (is_document e)) BadField ++ when (lacks (codes "q") e.names) BadField
 -- an item of `deletes`: `q`, once, a document
 reasons_at rows DeleteItem elder e =
     when (is_again (codes "q" ∷ []) elder e.name) BadField
-    ++ when (is (codes "q") e && not (is_document e)) BadField
+    ++ when (has_name (codes "q") e && not (is_document e)) BadField
 -- find: each name once; `filter` and `projection` documents; `min`, `max` and `let` can't be used
 reasons_at rows Find elder e =
     when (is_again (codes "filter" ∷ codes "projection" ∷ codes "min" ∷ codes "max" ∷ codes "let" ∷ []) elder e.name) BadField
-    ++ when ((is (codes "filter") e || is (codes "projection") e) && not (is_document e)) BadField
-    ++ when (is (codes "min") e || is (codes "max") e || is (codes "let") e) FieldNotAllowed
+    ++ when ((has_name (codes "filter") e || has_name (codes "projection") e) && not (is_document e)) BadField
+    ++ when (has_name (codes "min") e || has_name (codes "max") e || has_name (codes "let") e) FieldNotAllowed
 -- an element of a projection
 reasons_at rows Projection elder e =
     when (is_array e || (is_document e && not (is_slice_or_meta e.names))) FieldNotAllowed
@@ -191,7 +191,7 @@ reasons_at rows (Document path) elder e = document_value rows (class rows (path 
 -- a path may not be positional
 reasons_at rows Filter elder e =
     if is_logical e.name then when (not (is_array e)) BadField
-    else if is_dollar e.name then when (not (is (codes "$comment") e)) FieldNotAllowed
+    else if is_dollar e.name then when (not (has_name (codes "$comment") e)) FieldNotAllowed
     else when (positional rows (split e.name)) PositionalOnPath ++ filter_value rows (dotted rows e.name) e
 -- of documents
 reasons_at rows Cases elder e = when (not (is_document e)) BadField

@@ -75,8 +75,8 @@ abbrev pub is_operators : Entry → Bool
 is_operators e = is_dollar_first e.names && is_document e
 
 -- a place has this name
-abbrev pub is : List ℕ → Entry → Bool
-is word e = named e.name word
+abbrev pub has_name : List ℕ → Entry → Bool
+has_name word e = named e.name word
 
 -- the logical operators that take an array of filters
 unfoldable pub is_logical : List ℕ → Bool
@@ -108,6 +108,11 @@ command_of (name ∷ names) =
     else if named name (codes "find") then Find
     else Passed
 
+-- an update: it has update operators where its first name begins with a dollar sign; else, also where it is empty, it replaces
+-- the stored document
+abbrev pub update_of : List (List ℕ) → Station
+update_of names = if is_dollar_first names then Operators else Document []
+
 -- a value that is stored at a path, by the path's class and by whether it is a document
 abbrev pub stored_at : Class → List (List ℕ) → Bool → Station
 stored_at (Protected i) path document = Store i
@@ -137,30 +142,29 @@ abbrev pub station : List Row → Station → Entry → Station
 -- a command, by the name of its first field
 station rows Outside e = command_of e.names
 -- insert: `documents`, an array
-station rows Insert e = if is (codes "documents") e && is_array e then Inserts else Passed
+station rows Insert e = if has_name (codes "documents") e && is_array e then Inserts else Passed
 -- each document of `documents` is stored
 station rows Inserts e = if is_document e then Document [] else Passed
 -- update: `updates`, an array
-station rows Update e = if is (codes "updates") e && is_array e then Updates else Passed
+station rows Update e = if has_name (codes "updates") e && is_array e then Updates else Passed
 -- delete: `deletes`, an array
-station rows Delete e = if is (codes "deletes") e && is_array e then Deletes else Passed
+station rows Delete e = if has_name (codes "deletes") e && is_array e then Deletes else Passed
 -- find: `filter` and `projection`, documents
 station rows Find e =
-    if is (codes "filter") e && is_document e then Filter
-    else if is (codes "projection") e && is_document e then Projection
+    if has_name (codes "filter") e && is_document e then Filter
+    else if has_name (codes "projection") e && is_document e then Projection
     else Passed
 -- each document of `updates`
 station rows Updates e = if is_document e then UpdateItem else Passed
 -- each document of `deletes`
 station rows Deletes e = if is_document e then DeleteItem else Passed
--- an item of `updates`: `q`, a document, is a filter; `u`, a document, has update operators where its first name begins with
--- a dollar sign, and else replaces the stored document
+-- an item of `updates`: `q`, a document, is a filter; `u`, a document, is an update
 station rows UpdateItem e =
-    if is (codes "q") e && is_document e then Filter
-    else if is (codes "u") e && is_document e then (if is_operators e then Operators else Document [])
+    if has_name (codes "q") e && is_document e then Filter
+    else if has_name (codes "u") e && is_document e then update_of e.names
     else Passed
 -- an item of `deletes`: `q`, a document, is a filter
-station rows DeleteItem e = if is (codes "q") e && is_document e then Filter else Passed
+station rows DeleteItem e = if has_name (codes "q") e && is_document e then Filter else Passed
 -- a stored document at a path: each element by the class of the path with its name, which is one component whatever it holds
 station rows (Document path) e = stored_at (class rows (path ++ e.name ∷ [])) (path ++ e.name ∷ []) (is_document e)
 -- a filter: `$and`, `$or`, `$nor`, arrays, hold filters; of the other names those that begin with a dollar sign pass, and each
@@ -176,7 +180,7 @@ station rows Cases e = if is_document e then Filter else Passed
 station rows (Test x) e =
     if is_equality e.name then compared_with x
     else if is_membership e.name then (if is_array e && not (is_random_field rows x) then Elements x else Passed)
-    else if is (codes "$not") e && is_operators e then Test x
+    else if has_name (codes "$not") e && is_operators e then Test x
     else Passed
 -- each value in the array of `$in`, `$nin` is compared
 station rows (Elements x) e = compared_with x

@@ -35,15 +35,15 @@ unfoldable pub is_db : List ℕ → Bool
 is_db name = named name (codes "$db")
 
 -- a field of a command: what is looked at of it, and the offset at which its value begins
-pub record Top : Type 0 where
+pub record CommandField : Type 0 where
   pub entry : Entry
   pub start : ℕ
 
 -- the fields of a command, of which the first begins at `at`
-abbrev pub tops : ℕ → Items → List Top
-tops at no_items = []
-tops at (item name t is) =
-    record { entry = entry name t; start = at + (2 + length name) } ∷ tops (at + (2 + length name) + length (value_bytes t)) is
+abbrev pub command_fields : ℕ → Items → List CommandField
+command_fields at no_items = []
+command_fields at (item name t is) =
+    record { entry = entry name t; start = at + (2 + length name) } ∷ command_fields (at + (2 + length name) + length (value_bytes t)) is
 
 -- a string (02)
 abbrev pub is_string : Entry → Bool
@@ -68,10 +68,10 @@ later_reasons db command seen e =
     ++ when (is_db e.name && is_string e && not (named (text_of e.raw) db)) WrongDb
 
 -- the refusal of the first later field that has an offence
-abbrev pub later_refusal : List ℕ → List ℕ → Bool → List Top → Option Refusal
+abbrev pub later_refusal : List ℕ → List ℕ → Bool → List CommandField → Option Refusal
 later_refusal db command seen [] = None
-later_refusal db command seen (t ∷ ts) =
-    or_else (refused_at t.start (least (later_reasons db command seen t.entry))) (later_refusal db command (seen || is_db t.entry.name) ts)
+later_refusal db command seen (field ∷ fields) =
+    or_else (refused_at field.start (least (later_reasons db command seen field.entry))) (later_refusal db command (seen || is_db field.entry.name) fields)
 
 -- the collection of a name
 abbrev pub collection_of : List Collection → List ℕ → Option Collection
@@ -80,9 +80,9 @@ collection_of (collection ∷ collections) name =
     if named collection.name name then Some collection else collection_of collections name
 
 -- the collection that the first field of a command names
-abbrev pub named_by : List Collection → List Top → Option Collection
+abbrev pub named_by : List Collection → List CommandField → Option Collection
 named_by collections [] = None
-named_by collections (t ∷ ts) = if is_string t.entry then collection_of collections (text_of t.entry.raw) else None
+named_by collections (field ∷ fields) = if is_string field.entry then collection_of collections (text_of field.entry.raw) else None
 
 abbrev pub is_view : Option Collection → Bool
 is_view None = false
@@ -95,17 +95,17 @@ view_refusal false at = None
 
 -- the verdict on the fields of a command, by themselves: the empty document is no command; a command that passes is judged no
 -- further; a view counts only where nothing else is refused
-abbrev pub target_of : List ℕ → List Collection → List Top → Option Refusal
+abbrev pub target_of : List ℕ → List Collection → List CommandField → Option Refusal
 target_of db collections [] = Some (record { reason = NotACommand; at = 0 })
-target_of db collections (t ∷ ts) =
-    if is_passed t.entry.name then None
+target_of db collections (field ∷ fields) =
+    if is_passed field.entry.name then None
     else or_else
-    (or_else (refused_at t.start (least (first_reasons t.entry))) (later_refusal db t.entry.name false ts))
-    (view_refusal (is_view (named_by collections (t ∷ ts))) t.start)
+    (or_else (refused_at field.start (least (first_reasons field.entry))) (later_refusal db field.entry.name false fields))
+    (view_refusal (is_view (named_by collections (field ∷ fields))) field.start)
 
 -- the verdict of the target pass: the command, its database and its collection, with none of its contents
 unfoldable pub target : List ℕ → List Collection → Items → Option Refusal
-target db collections c = target_of db collections (tops 4 c)
+target db collections c = target_of db collections (command_fields 4 c)
 
 -- the rules of a collection; none of a view
 abbrev pub rows_in : Option Collection → List Row
@@ -114,7 +114,7 @@ rows_in (Some collection) = if collection.view then [] else collection.rows
 
 -- the rules for a command: those of the collection that it names
 unfoldable pub rows_of : List Collection → Items → List Row
-rows_of collections c = rows_in (named_by collections (tops 4 c))
+rows_of collections c = rows_in (named_by collections (command_fields 4 c))
 
 -- the verdict on a command: that of the target pass, and where it refuses nothing that of the content pass
 abbrev pub verdict : List ℕ → List Collection → Items → Option Refusal
