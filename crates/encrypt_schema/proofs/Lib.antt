@@ -12,3 +12,4 @@ pub mod EqualOffences
 pub mod Blanks
 pub mod Sites
 pub mod Parts
+pub mod Unmarked

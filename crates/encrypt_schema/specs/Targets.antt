@@ -12,15 +12,13 @@ use Rattle.encrypt_schema.specs.Offences.{when, least, text_of}
 use Rattle.encrypt_schema.specs.Visits.{entry, Refusal, refused_at, or_else, content_verdict}
 
 -- the commands whose values are protected
-unfoldable pub is_marked : List ℕ → Bool
-is_marked name = is_among name (codes "insert" ∷ codes "update" ∷ codes "delete" ∷ codes "find" ∷ [])
+abbrev pub marked_names : List (List ℕ)
+marked_names = codes "insert" ∷ codes "update" ∷ codes "delete" ∷ codes "find" ∷ []
 
 -- the commands that pass unchanged
-unfoldable pub is_passed : List ℕ → Bool
-is_passed name =
-    is_among
-    name
-    (codes "ping"
+abbrev pub passed_names : List (List ℕ)
+passed_names =
+    codes "ping"
     ∷ codes "hello"
     ∷ codes "getMore"
     ∷ codes "killCursors"
@@ -28,7 +26,13 @@ is_passed name =
     ∷ codes "listCollections"
     ∷ codes "commitTransaction"
     ∷ codes "abortTransaction"
-    ∷ [])
+    ∷ []
+
+unfoldable pub is_marked : List ℕ → Bool
+is_marked name = is_among name marked_names
+
+unfoldable pub is_passed : List ℕ → Bool
+is_passed name = is_among name passed_names
 
 -- the name of the database's field
 unfoldable pub is_db : List ℕ → Bool
