@@ -1,4 +1,8 @@
+pub mod Examples
 pub mod WorkedCommands
+pub mod WorkedTargets
+pub mod WorkedFilters
+pub mod WorkedUpdates
 pub mod Tables
 pub mod Widths
 pub mod Worlds
