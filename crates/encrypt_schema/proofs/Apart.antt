@@ -7,36 +7,43 @@ use Rattle.bson_tree.specs.Spelling.{framed, value_bytes, items_bytes, doc_bytes
 use Rattle.encrypt_schema.specs.declared.marks.Mark.{Mark}
 use Rattle.encrypt_schema.specs.Row.{Row}
 use Rattle.encrypt_schema.specs.Stations.{Station, Outside, Store, Compare, station, has_role}
-use Rattle.encrypt_schema.specs.Visits.{is_payload, entry, command_entry, Visit, visit, visits, command_visit, command_visits, mark_at, marks, roles, station_of}
-use Rattle.encrypt_schema.specs.Skeletons.{Skeleton, hole, plain, branch, skeleton_in, skeletons, skeleton, width_of, Hole, holes_in, holes, hole_at, AreApart}
+use Rattle.encrypt_schema.specs.Visits.{is_payload, entry, command_entry, Visit, visit, visits, command_visit, mark_at, marks, roles}
+use Rattle.encrypt_schema.specs.Skeletons.{hole, plain, branch, skeleton_in, skeletons, skeleton, width_of, holes_in, holes, hole_at, AreApart}
 use Rattle.encrypt_schema.proofs.Tables.{command_without_role}
 use Rattle.encrypt_schema.proofs.Widths.{framed_length, items_length, width_kept}
-use Rattle.encrypt_schema.proofs.Worlds.{shown_in, shown, command_shown}
-use Rattle.encrypt_schema.proofs.Silence.{Alike, marks_append, alike_cons, cut}
+use Rattle.encrypt_schema.proofs.Worlds.{shown_in, shown}
+use Rattle.encrypt_schema.proofs.Silence.{marks_append, cut}
 
 -- marks between two offsets stand between wider ones too
-wider : (from low : ℕ) (ms : List Mark) (high to : ℕ) → from ≤ low → high ≤ to → AreApart low ms high → AreApart from ms to
+wider : (from low : ℕ) (ms : List Mark) (high to : ℕ) → from ≤ low → high ≤ to → AreApart low ms high
+    → AreApart from ms to
 wider from low [] high to p q a = omega (arith, p, q, a)
-wider from low (m ∷ ms) high to p q a = (omega (arith, p, a.0), a.1, wider m.end m.end ms high to (omega arith) q a.2)
+wider from low (m ∷ ms) high to p q a =
+    (omega (arith, p, a.0), a.1, wider m.end m.end ms high to (omega arith) q a.2)
 
 -- marks in one range, and marks in the next
-apart_append : (from middle to : ℕ) (ms ns : List Mark) → AreApart from ms middle → AreApart middle ns to → AreApart from (ms ++ ns) to
+apart_append : (from middle to : ℕ) (ms ns : List Mark) → AreApart from ms middle → AreApart middle ns to
+    → AreApart from (ms ++ ns) to
 apart_append from middle to [] ns a b = wider from middle ns to to a (omega arith) b
 apart_append from middle to (m ∷ ms) ns a b = (a.0, a.1, apart_append m.end middle to ms ns a.2 b)
 
 -- a value's own mark, or the marks inside it
-apart_own : (u : Station) (v : Visit) (inside : List Mark) (from : ℕ) → from + 2 ≤ v.start → (has_role u ≡ true → inside ≡ [])
+apart_own : (u : Station) (v : Visit) (inside : List Mark) (from : ℕ) → from + 2 ≤ v.start
+    → (has_role u ≡ true → inside ≡ [])
     → AreApart v.start inside (v.start + v.width) → AreApart from (mark_at u v ++ inside) (v.start + v.width)
 apart_own (Store i) v inside from p q a =
     subst (λ (ms : List Mark). AreApart from (mark_at (Store i) v ++ ms) (v.start + v.width)) (sym (q refl)) (p, omega arith, omega arith)
 apart_own (Compare i) v inside from p q a =
     subst (λ (ms : List Mark). AreApart from (mark_at (Compare i) v ++ ms) (v.start + v.width)) (sym (q refl)) (p, omega arith, omega arith)
-apart_own _ v inside from p q a = wider from v.start inside (v.start + v.width) (v.start + v.width) (omega (arith, p)) (omega arith) a
+apart_own _ v inside from p q a =
+    wider from v.start inside (v.start + v.width) (v.start + v.width) (omega (arith, p)) (omega arith) a
 
 -- nothing is shown inside a protected value
-none_inside : (rows : List Row) (u : Station) (at : ℕ) (t : Tree) → has_role u ≡ true → marks rows (shown_in rows u at t) ≡ []
+none_inside : (rows : List Row) (u : Station) (at : ℕ) (t : Tree) → has_role u ≡ true
+    → marks rows (shown_in rows u at t) ≡ []
 none_inside rows u at (leaf tag bytes) h = refl
-none_inside rows u at (node tag is) h = ap (λ (b : Bool). marks rows (cond b [] (shown rows u (at + 4) [] is))) h
+none_inside rows u at (node tag is) h =
+    ap (λ (b : Bool). marks rows (cond b [] (shown rows u (at + 4) [] is))) h
 
 apart_node : (rows : List Row) (u : Station) (at : ℕ) (is : Items) (b : Bool)
     → AreApart (at + 4) (marks rows (shown rows u (at + 4) [] is)) (at + 4 + length (items_bytes is))
@@ -74,7 +81,8 @@ apart_item rows s at elder name t is a b =
     (subst (λ (to : ℕ). AreApart at ((mark_at u v ++ inside) ++ behind) to) end both)
 
 mutual
-  apart_in : (rows : List Row) (u : Station) (at : ℕ) (t : Tree) → AreApart at (marks rows (shown_in rows u at t)) (at + length (value_bytes t))
+  apart_in : (rows : List Row) (u : Station) (at : ℕ) (t : Tree)
+      → AreApart at (marks rows (shown_in rows u at t)) (at + length (value_bytes t))
   apart_in rows u at (leaf tag bytes) = omega arith
   apart_in rows u at (node tag is) = apart_node rows u at is (has_role u) (apart_among rows u (at + 4) [] is)
 
@@ -86,20 +94,22 @@ mutual
       (apart_in rows (station rows s (entry name t)) (at + (2 + length name)) t)
       (apart_among rows s (at + (2 + length name) + length (value_bytes t)) (elder ++ name ∷ []) is)
 
-command_mark : (rows : List Row) (c : Items) (u : Station) → has_role u ≡ false → mark_at u (command_visit c) ≡ []
+command_mark : (rows : List Row) (c : Items) (u : Station) → has_role u ≡ false
+    → mark_at u (command_visit c) ≡ []
 command_mark rows c (Store i) h = absurd (false≢true (sym h))
 command_mark rows c (Compare i) h = absurd (false≢true (sym h))
 command_mark rows c _ h = refl
 
 -- the marks of a command are those of what is shown of its elements
-pub roles_shown : (rows : List Row) (c : Items) → roles rows c ≡ marks rows (shown rows (station rows Outside (command_entry c)) 4 [] c)
+pub roles_shown : (rows : List Row) (c : Items)
+    → roles rows c ≡ marks rows (shown rows (station rows Outside (command_entry c)) 4 [] c)
 roles_shown rows c =
     let s = station rows Outside (command_entry c) in
     ap (λ (ms : List Mark). ms ++ marks rows (visits rows s 4 [] c)) (command_mark rows c s (command_without_role rows (command_entry c)))
     ∙ sym (cut rows s 4 [] c).marked
 
--- the protected places of a command stand apart between its length field and its end: in reading order, none twice, none inside
--- another
+-- the protected places of a command stand apart between its length field and its end: in reading order, none
+-- twice, none inside another
 pub roles_apart : (rows : List Row) (c : Items) → AreApart 4 (roles rows c) (length (doc_bytes c))
 roles_apart rows c =
     let s = station rows Outside (command_entry c) in
@@ -110,12 +120,14 @@ roles_apart rows c =
 -- a value's own hole, or the holes inside it
 
 hole_leaf : (u : Station) (v : Visit) (tag : ℕ) (bytes : List ℕ) → v.entry.tag ≡ tag → v.width ≡ length bytes
-    → holes_in v.start (cond (has_role u) (hole tag (length bytes) (is_payload tag bytes)) (plain tag bytes)) ≡ map hole_at (mark_at u v ++ [])
+    → holes_in v.start (cond (has_role u) (hole tag (length bytes) (is_payload tag bytes)) (plain tag bytes))
+    ≡ map hole_at (mark_at u v ++ [])
 hole_leaf (Store i) v tag bytes p q = let a = sym p in let b = sym q in cc
 hole_leaf (Compare i) v tag bytes p q = let a = sym p in let b = sym q in cc
 hole_leaf _ v tag bytes p q = refl
 
-hole_node : (rows : List Row) (u : Station) (v : Visit) (tag width : ℕ) (is : Items) → v.entry.tag ≡ tag → v.width ≡ width
+hole_node : (rows : List Row) (u : Station) (v : Visit) (tag width : ℕ) (is : Items) → v.entry.tag ≡ tag
+    → v.width ≡ width
     → holes (v.start + 4) (skeletons rows u is) ≡ map hole_at (marks rows (shown rows u (v.start + 4) [] is))
     → holes_in v.start (cond (has_role u) (hole tag width false) (branch tag (skeletons rows u is)))
     ≡ map hole_at (mark_at u v ++ marks rows (cond (has_role u) [] (shown rows u (v.start + 4) [] is)))
@@ -128,10 +140,12 @@ own_marks rows s elder at name t =
     mark_at (station rows s (entry name t)) (visit s elder at name t) ++ marks rows (shown_in rows (station rows s (entry name t)) (at + (2 + length name)) t)
 
 holes_item : (rows : List Row) (s : Station) (at : ℕ) (elder : List (List ℕ)) (name : List ℕ) (t : Tree) (is : Items)
-    → holes_in (at + (2 + length name)) (skeleton_in rows (station rows s (entry name t)) t) ≡ map hole_at (own_marks rows s elder at name t)
+    → holes_in (at + (2 + length name)) (skeleton_in rows (station rows s (entry name t)) t)
+    ≡ map hole_at (own_marks rows s elder at name t)
     → holes (at + (2 + length name) + length (value_bytes t)) (skeletons rows s is)
     ≡ map hole_at (marks rows (shown rows s (at + (2 + length name) + length (value_bytes t)) (elder ++ name ∷ []) is))
-    → holes at (skeletons rows s (item name t is)) ≡ map hole_at (marks rows (shown rows s at elder (item name t is)))
+    → holes at (skeletons rows s (item name t is))
+    ≡ map hole_at (marks rows (shown rows s at elder (item name t is)))
 holes_item rows s at elder name t is a b =
     let u = station rows s (entry name t) in
     let k = skeleton_in rows u t in
@@ -150,8 +164,10 @@ holes_item rows s at elder name t is a b =
 
 mutual
   holes_own : (rows : List Row) (s : Station) (at : ℕ) (elder : List (List ℕ)) (name : List ℕ) (t : Tree)
-      → holes_in (at + (2 + length name)) (skeleton_in rows (station rows s (entry name t)) t) ≡ map hole_at (own_marks rows s elder at name t)
-  holes_own rows s at elder name (leaf tag bytes) = hole_leaf (station rows s (entry name (leaf tag bytes))) (visit s elder at name (leaf tag bytes)) tag bytes refl refl
+      → holes_in (at + (2 + length name)) (skeleton_in rows (station rows s (entry name t)) t)
+      ≡ map hole_at (own_marks rows s elder at name t)
+  holes_own rows s at elder name (leaf tag bytes) =
+      hole_leaf (station rows s (entry name (leaf tag bytes))) (visit s elder at name (leaf tag bytes)) tag bytes refl refl
   holes_own rows s at elder name (node tag is) =
       hole_node rows (station rows s (entry name (node tag is))) (visit s elder at name (node tag is)) tag (length (value_bytes (node tag is))) is refl refl
       (holes_among rows (station rows s (entry name (node tag is))) (at + (2 + length name) + 4) [] is)

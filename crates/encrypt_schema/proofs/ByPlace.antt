@@ -1,5 +1,5 @@
 -- The places of a command, each read from its chain, are its places in reading order.
-use Rattle.std.proofs.Common.{◌≡◌, ℕ, zero, suc, ◌+◌, Bool, true, false, List, [], ◌∷◌, ◌++◌, length, map, Option, Some, None, refl, sym, ap, ◌∙◌, add-one}
+use Rattle.std.proofs.Common.{◌≡◌, ℕ, zero, suc, ◌+◌, List, [], ◌∷◌, ◌++◌, length, map, Option, Some, None, refl, sym, ap, ◌∙◌, add-one}
 use Rattle.std.specs.Prelude.{unwrap_or, option_map, option_and_then, flat_map}
 use Rattle.std.specs.Option.{option_map_or}
 use Rattle.std.proofs.lemmas.List.{map-append}
@@ -11,9 +11,9 @@ use Rattle.bson_tree.specs.Spelling.{value_bytes}
 use Rattle.encrypt_schema.specs.declared.marks.Mark.{Mark}
 use Rattle.encrypt_schema.specs.declared.reason.Reason.{Reason}
 use Rattle.encrypt_schema.specs.Row.{Row}
-use Rattle.encrypt_schema.specs.Stations.{Entry, Station, Outside, station}
+use Rattle.encrypt_schema.specs.Stations.{Station, Outside, station}
 use Rattle.encrypt_schema.specs.Visits.{Refusal, refusal, or_else, first_refusal, entry, command_entry, Visit, visit, visits_in, visits, command_visit, command_visits, station_of, offence_of, mark_at, marks, roles}
-use Rattle.encrypt_schema.specs.Chains.{Link, Chain, last, onward, link, chain_in, chain_from, visit_along, visit_at, station_at, offence_at, mark_of, refusal_at, first_of}
+use Rattle.encrypt_schema.specs.Chains.{Link, Chain, onward, link, chain_from, visit_along, visit_at, station_at, offence_at, mark_of, refusal_at, first_of}
 
 -- a place below elements, with what it is carried down
 abbrev mutual
@@ -41,7 +41,8 @@ next (i ∷ place) = (i + 1) ∷ place
 
 pub map_same : {A B : Type 0} (f g : A → B) (xs : List A) → ((x : A) → f x ≡ g x) → map f xs ≡ map g xs
 map_same f g [] e = refl
-map_same {B = B} f g (x ∷ xs) e = ap (λ (y : B). y ∷ map f xs) (e x) ∙ ap (λ (ys : List B). g x ∷ ys) (map_same f g xs e)
+map_same {B = B} f g (x ∷ xs) e =
+    ap (λ (y : B). y ∷ map f xs) (e x) ∙ ap (λ (ys : List B). g x ∷ ys) (map_same f g xs e)
 
 -- the places of elements that are counted from the next number on
 pub places_next : (i : ℕ) (is : Items) → places_from (i + 1) is ≡ map next (places_from i is)
@@ -56,7 +57,8 @@ pub below_next : (o : Option Visit) (rows : List Row) (s : Station) (at : ℕ) (
     → visit_below o rows s at elder (item name t is) (next place)
     ≡ visit_below o rows s (at + (2 + length name) + length (value_bytes t)) (elder ++ name ∷ []) is place
 below_next o rows s at elder name t is [] = refl
-below_next o rows s at elder name t is (i ∷ place) = ap (λ (n : ℕ). visit_from rows s at elder n place (item name t is)) (add-one i)
+below_next o rows s at elder name t is (i ∷ place) =
+    ap (λ (n : ℕ). visit_from rows s at elder n place (item name t is)) (add-one i)
 
 -- the places in one element, and those in the elements behind it
 by_item : (o : Option Visit) (rows : List Row) (s : Station) (at : ℕ) (elder : List (List ℕ)) (name : List ℕ) (t : Tree) (is : Items)
@@ -64,7 +66,8 @@ by_item : (o : Option Visit) (rows : List Row) (s : Station) (at : ℕ) (elder :
     ≡ Some (visit s elder at name t) ∷ map Some (visits_in rows (station rows s (entry name t)) (at + (2 + length name)) t)
     → map (visit_below o rows s (at + (2 + length name) + length (value_bytes t)) (elder ++ name ∷ []) is) (places_from 0 is)
     ≡ map Some (visits rows s (at + (2 + length name) + length (value_bytes t)) (elder ++ name ∷ []) is)
-    → map (visit_below o rows s at elder (item name t is)) (places_from 0 (item name t is)) ≡ map Some (visits rows s at elder (item name t is))
+    → map (visit_below o rows s at elder (item name t is)) (places_from 0 (item name t is))
+    ≡ map Some (visits rows s at elder (item name t is))
 by_item o rows s at elder name t is inside behind =
     let f = visit_below o rows s at elder (item name t is) in
     let g = visit_below o rows s (at + (2 + length name) + length (value_bytes t)) (elder ++ name ∷ []) is in
@@ -116,10 +119,12 @@ mutual
 
 -- the length of the value at a place below elements
 abbrev pub width_from : ℕ → List ℕ → Items → ℕ
-width_from i place is = unwrap_or (option_map (λ value. length (value_bytes value)) (option_and_then (tree_at place) (nth i is))) 0
+width_from i place is =
+    unwrap_or (option_map (λ value. length (value_bytes value)) (option_and_then (tree_at place) (nth i is))) 0
 
 option_onward : (rows : List Row) (s : Station) (start width : ℕ) (l : Link) (o : Option Chain)
-    → option_map (visit_along rows s start width) (option_map (onward l) o) ≡ option_map (visit_along rows (station rows s l.entry) start width) o
+    → option_map (visit_along rows s start width) (option_map (onward l) o)
+    ≡ option_map (visit_along rows (station rows s l.entry) start width) o
 option_onward rows s start width l None = refl
 option_onward rows s start width l (Some c) = refl
 
@@ -144,12 +149,14 @@ visit_at_from rows c i place =
     ∙ sym (from_chain rows (station rows Outside (command_entry c)) 4 [] i place c)
 
 pub visit_at_below : (rows : List Row) (c : Items) (place : List ℕ)
-    → visit_at rows c place ≡ visit_below (Some (command_visit c)) rows (station rows Outside (command_entry c)) 4 [] c place
+    → visit_at rows c place
+    ≡ visit_below (Some (command_visit c)) rows (station rows Outside (command_entry c)) 4 [] c place
 visit_at_below rows c [] = refl
 visit_at_below rows c (i ∷ place) = visit_at_from rows c i place
 
 -- the places of a command, each read from its chain, are its places in reading order
-pub by_place : (rows : List Row) (c : Items) → map (visit_at rows c) (places c) ≡ map Some (command_visits rows c)
+pub by_place : (rows : List Row) (c : Items)
+    → map (visit_at rows c) (places c) ≡ map Some (command_visits rows c)
 by_place rows c =
     let s = station rows Outside (command_entry c) in
     let first = Some (command_visit c) in
@@ -164,12 +171,14 @@ stations_by_place rows c =
     sym (map-map f (visit_at rows c) (places c)) ∙ (ap (map f) (by_place rows c) ∙ map-map f (λ (v : Visit). Some v) (command_visits rows c))
 
 -- the offence of each place, in reading order
-pub offences_by_place : (rows : List Row) (c : Items) → map (offence_at rows c) (places c) ≡ map (offence_of rows) (command_visits rows c)
+pub offences_by_place : (rows : List Row) (c : Items)
+    → map (offence_at rows c) (places c) ≡ map (offence_of rows) (command_visits rows c)
 offences_by_place rows c =
     let f : Option Visit → Option Reason = λ o. option_and_then (offence_of rows) o in
     sym (map-map f (visit_at rows c) (places c)) ∙ (ap (map f) (by_place rows c) ∙ map-map f (λ (v : Visit). Some v) (command_visits rows c))
 
-flat_marks : (rows : List Row) (vs : List Visit) → marks rows vs ≡ flat_map (λ v. mark_at (station_of rows v) v) vs
+flat_marks : (rows : List Row) (vs : List Visit)
+    → marks rows vs ≡ flat_map (λ v. mark_at (station_of rows v) v) vs
 flat_marks rows [] = refl
 flat_marks rows (v ∷ vs) = ap (λ (ms : List Mark). mark_at (station_of rows v) v ++ ms) (flat_marks rows vs)
 
@@ -185,7 +194,8 @@ first_in : (rows : List Row) (vs : List Visit) → first_refusal rows vs ≡ fir
 first_in rows [] = refl
 first_in rows (v ∷ vs) = ap (or_else (refusal rows v)) (first_in rows vs)
 
--- the verdict on the contents of a command is the refusal of the first of `places` that has an offence, each read from its chain
+-- the verdict on the contents of a command is the refusal of the first of `places` that has an offence, each
+-- read from its chain
 pub verdict_by_place : (rows : List Row) (c : Items)
     → first_refusal rows (command_visits rows c) ≡ first_of (map (refusal_at rows c) (places c))
 verdict_by_place rows c =

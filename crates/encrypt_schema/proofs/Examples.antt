@@ -1,5 +1,5 @@
 -- Commands, rules and collections for examples.
-use Rattle.std.proofs.Common.{◌≡◌, ℕ, ◌+◌, List, [], ◌∷◌, ◌++◌, codes, length}
+use Rattle.std.proofs.Common.{ℕ, ◌+◌, List, [], ◌∷◌, ◌++◌, codes, length}
 use Rattle.std.specs.Prelude.{false, true, Option, Some}
 use Rattle.std.specs.Int.{w32, to_le_bytes}
 use Rattle.bson_tree.specs.Tree.{Tree, leaf, node, Items, no_items, item}
@@ -54,7 +54,8 @@ update_with collection update =
 
 -- {update: collection, updates: [{q: {}, u: update}], $db: "hr"}
 abbrev pub update_by : Tree → Tree → Items
-update_by collection update = update_with collection (node 3 (item (codes "q") empty (one (codes "u") update)))
+update_by collection update =
+    update_with collection (node 3 (item (codes "q") empty (one (codes "u") update)))
 
 -- {find: collection, filter: filter, $db: "hr"}
 abbrev pub find_by : Tree → Tree → Items
@@ -72,7 +73,8 @@ abbrev pub refusal : Reason → ℕ → Option Refusal
 refusal reason at = Some (record { reason = reason; at = at })
 
 abbrev pub rule : List (List ℕ) → Algorithm → List ℕ → Row
-rule path algorithm types = record { path = path; policy = record { algorithm = algorithm; key = Id []; types = types } }
+rule path algorithm types =
+    record { path = path; policy = record { algorithm = algorithm; key = Id []; types = types } }
 
 -- each type that a rule may have
 abbrev pub all_types : List ℕ

@@ -1,7 +1,7 @@
 -- The places of one part of a document's elements, and of the part behind it.
-use Rattle.std.proofs.Common.{◌≡◌, ℕ, ◌+◌, List, [], ◌∷◌, ◌++◌, length, Option, refl, sym, ap, ◌∙◌, arith}
+use Rattle.std.proofs.Common.{◌≡◌, ℕ, ◌+◌, List, [], ◌∷◌, ◌++◌, length, refl, sym, ap, ◌∙◌, arith}
 use Rattle.std.proofs.lemmas.List.{append_assoc, append-nil}
-use Rattle.bson_tree.specs.Tree.{Tree, Items, no_items, item, join}
+use Rattle.bson_tree.specs.Tree.{Items, no_items, item, join}
 use Rattle.bson_tree.specs.Spelling.{value_bytes, items_bytes}
 use Rattle.encrypt_schema.specs.Row.{Row}
 use Rattle.encrypt_schema.specs.Stations.{Station, station}
@@ -14,7 +14,8 @@ pub names_join : (is js : Items) → names_of (join is js) ≡ names_of is ++ na
 names_join no_items js = refl
 names_join (item name t is) js = ap (λ (ns : List (List ℕ)). name ∷ ns) (names_join is js)
 
--- the places of one part and of the part behind it, which begins behind its bytes and has its names as elder siblings
+-- the places of one part and of the part behind it, which begins behind its bytes and has its names as elder
+-- siblings
 pub visits_join : (rows : List Row) (s : Station) (at : ℕ) (elder : List (List ℕ)) (is js : Items)
     → visits rows s at elder (join is js)
     ≡ visits rows s at elder is ++ visits rows s (at + length (items_bytes is)) (elder ++ names_of is) js

@@ -1,21 +1,19 @@
--- By places: no protected place lies below another one; and of two commands with equal skeletons the same is read at each place
--- with no protected ancestor.
+-- By places: no protected place lies below another one; and of two commands with equal skeletons the same is
+-- read at each place with no protected ancestor.
 use Rattle.std.proofs.Common.{◌≡◌, ℕ, zero, suc, ◌+◌, Bool, true, false, cond, not, ◌||◌, List, [], ◌∷◌, ◌++◌, length, Option, Some, None, refl, sym, ap, ◌∙◌}
-use Rattle.std.specs.Prelude.{option_map, option_and_then, is_some}
+use Rattle.std.specs.Prelude.{option_map, is_some}
 use Rattle.std.specs.Option.{option_map_or}
 use Rattle.std.proofs.lemmas.Bool.{false≢true}
-use Rattle.bson_tree.specs.Tree.{Tree, leaf, node, Items, no_items, item}
+use Rattle.bson_tree.specs.Tree.{leaf, node, Items, no_items, item}
 use Rattle.bson_tree.specs.Spelling.{framed, value_bytes, items_bytes}
-use Rattle.encrypt_schema.specs.declared.reason.Reason.{Reason}
 use Rattle.encrypt_schema.specs.Row.{Row}
-use Rattle.encrypt_schema.specs.Stations.{Entry, Station, Outside, Store, Compare, Passed, station, has_role}
-use Rattle.encrypt_schema.specs.Visits.{is_payload, entry, command_entry, Visit, station_of, offence_of}
-use Rattle.encrypt_schema.specs.Skeletons.{Skeleton, hole, plain, branch, Skeletons, no_more, more, skeleton_in, skeletons, skeleton, width_of}
-use Rattle.encrypt_schema.specs.Chains.{visit_along, Link, Chain, last, onward, link, chain_in, chain_from, chain, last_of, parent_along, visit_at, station_at, offence_at, is_below_role, is_shown}
-use Rattle.encrypt_schema.proofs.Tables.{command_without_role}
-use Rattle.encrypt_schema.proofs.Widths.{entry_in, names_kept, width_kept, station_kept}
-use Rattle.encrypt_schema.proofs.Worlds.{skeleton_visit, veil, visit_kept, offence_veiled, command_kept, command_seen}
-use Rattle.encrypt_schema.proofs.ByPlace.{visit_in, visit_from, visit_at_from}
+use Rattle.encrypt_schema.specs.Stations.{Station, Outside, Store, Compare, Passed, station, has_role}
+use Rattle.encrypt_schema.specs.Visits.{is_payload, entry, Visit, station_of}
+use Rattle.encrypt_schema.specs.Skeletons.{Skeleton, hole, plain, branch, Skeletons, no_more, more, skeleton_in, skeletons, width_of}
+use Rattle.encrypt_schema.specs.Chains.{visit_along, Link, Chain, last, onward, link, chain_from, chain, last_of, parent_along, station_at, is_below_role, is_shown}
+use Rattle.encrypt_schema.proofs.Widths.{entry_in, width_kept, station_kept}
+use Rattle.encrypt_schema.proofs.Worlds.{skeleton_visit, veil, visit_kept}
+use Rattle.encrypt_schema.proofs.ByPlace.{visit_from}
 
 -- what the last place of a chain is
 abbrev pub station_along : List Row → Station → Chain → Station
@@ -25,19 +23,22 @@ passed_along : (rows : List Row) (links : Chain) → has_role (station_along row
 passed_along rows (last l) = refl
 passed_along rows (onward l rest) = passed_along rows rest
 
-role_along : (rows : List Row) (s : Station) (links : Chain) → has_role s ≡ true → has_role (station_along rows s links) ≡ false
+role_along : (rows : List Row) (s : Station) (links : Chain) → has_role s ≡ true
+    → has_role (station_along rows s links) ≡ false
 role_along rows (Store i) (last l) h = refl
 role_along rows (Store i) (onward l rest) h = passed_along rows rest
 role_along rows (Compare i) (last l) h = refl
 role_along rows (Compare i) (onward l rest) h = passed_along rows rest
 role_along rows _ links h = absurd (false≢true h)
 
-below_cases : (rows : List Row) (u : Station) (rest : Chain) (b : Bool) → has_role u ≡ b → has_role (station_along rows u rest) ≡ true
+below_cases : (rows : List Row) (u : Station) (rest : Chain) (b : Bool) → has_role u ≡ b
+    → has_role (station_along rows u rest) ≡ true
     → is_below_role rows u rest ≡ false → (b || is_below_role rows u rest) ≡ false
 below_cases rows u rest true h p q = absurd (false≢true (sym (role_along rows u rest h) ∙ p))
 below_cases rows u rest false h p q = q
 
-none_below : (rows : List Row) (s : Station) (links : Chain) → has_role (station_along rows s links) ≡ true → is_below_role rows s links ≡ false
+none_below : (rows : List Row) (s : Station) (links : Chain) → has_role (station_along rows s links) ≡ true
+    → is_below_role rows s links ≡ false
 none_below rows s (last l) h = refl
 none_below rows s (onward l rest) h =
     below_cases rows (station rows s l.entry) rest (has_role (station rows s l.entry)) refl h (none_below rows (station rows s l.entry) rest h)
@@ -49,7 +50,8 @@ no_role_in rows start width None h = h
 no_role_in rows start width (Some links) h = ap not (none_below rows Outside links h)
 
 -- no protected place of a command lies below another one
-pub no_role_below : (rows : List Row) (c : Items) (place : List ℕ) → option_map_or has_role (station_at rows c place) false ≡ true
+pub no_role_below : (rows : List Row) (c : Items) (place : List ℕ)
+    → option_map_or has_role (station_at rows c place) false ≡ true
     → is_shown rows c place ≡ true
 no_role_below rows c place h = no_role_in rows _ _ (chain place c) h
 
@@ -75,14 +77,18 @@ shows rows s o = option_map_or (λ links. not (is_below_role rows s links)) o fa
 -- a place with no protected ancestor is seen in the skeleton, and no other one
 
 pub shows_node : (rows : List Row) (s : Station) (l : Link) (o : Option Chain) (b : Bool) (seen : Option Visit) → has_role (station rows s l.entry) ≡ b
-    → shows rows (station rows s l.entry) o ≡ is_some seen → shows rows s (option_map (onward l) o) ≡ is_some (cond b None seen)
+    → shows rows (station rows s l.entry) o ≡ is_some seen
+    → shows rows s (option_map (onward l) o) ≡ is_some (cond b None seen)
 shows_node rows s l None true seen h p = refl
-shows_node rows s l (Some links) true seen h p = ap (λ (b : Bool). not (b || is_below_role rows (station rows s l.entry) links)) h
+shows_node rows s l (Some links) true seen h p =
+    ap (λ (b : Bool). not (b || is_below_role rows (station rows s l.entry) links)) h
 shows_node rows s l None false seen h p = p
-shows_node rows s l (Some links) false seen h p = ap (λ (b : Bool). not (b || is_below_role rows (station rows s l.entry) links)) h ∙ p
+shows_node rows s l (Some links) false seen h p =
+    ap (λ (b : Bool). not (b || is_below_role rows (station rows s l.entry) links)) h ∙ p
 
 seen_hidden : (rows : List Row) (u v : Station) (at i : ℕ) (place : List ℕ) (tag width : ℕ) (ks : Skeletons)
-    → seen_in rows v at i place (cond (has_role u) (hole tag width false) (branch tag ks)) ≡ cond (has_role u) None (seen_from rows v (at + 4) [] i place ks)
+    → seen_in rows v at i place (cond (has_role u) (hole tag width false) (branch tag ks))
+    ≡ cond (has_role u) None (seen_from rows v (at + 4) [] i place ks)
 seen_hidden rows u v at i place tag width ks =
     elim (has_role u) as (λ b. seen_in rows v at i place (cond b (hole tag width false) (branch tag ks)) ≡ cond b None (seen_from rows v (at + 4) [] i place ks))
     [ true ↦ refl | false ↦ refl ]
@@ -106,7 +112,8 @@ seen_node rows s at j place name tag js =
     ∙ seen_hidden rows u u at j place tag (length (framed (items_bytes js))) (skeletons rows u js)
 
 pub shows_seen : (rows : List Row) (s : Station) (at : ℕ) (elder : List (List ℕ)) (i : ℕ) (place : List ℕ) (is : Items)
-    → shows rows s (chain_from elder i place is) ≡ is_some (seen_from rows s at elder i place (skeletons rows s is))
+    → shows rows s (chain_from elder i place is)
+    ≡ is_some (seen_from rows s at elder i place (skeletons rows s is))
 shows_seen rows s at elder i place no_items = refl
 shows_seen rows s at elder zero [] (item name t is) = refl
 shows_seen rows s at elder zero (j ∷ place) (item name (leaf tag bytes) is) =
@@ -133,9 +140,11 @@ veiled_node rows s l (Some links) false v seen h p q =
 
 pub veiled_seen : (rows : List Row) (s : Station) (at : ℕ) (elder : List (List ℕ)) (i : ℕ) (place : List ℕ) (is : Items)
     → shows rows s (chain_from elder i place is) ≡ true
-    → option_map (veil rows) (visit_from rows s at elder i place is) ≡ seen_from rows s at elder i place (skeletons rows s is)
+    → option_map (veil rows) (visit_from rows s at elder i place is)
+    ≡ seen_from rows s at elder i place (skeletons rows s is)
 veiled_seen rows s at elder i place no_items h = refl
-veiled_seen rows s at elder zero [] (item name t is) h = ap (λ (v : Visit). Some v) (visit_kept rows s elder at name t)
+veiled_seen rows s at elder zero [] (item name t is) h =
+    ap (λ (v : Visit). Some v) (visit_kept rows s elder at name t)
 veiled_seen rows s at elder zero (j ∷ place) (item name (leaf tag bytes) is) h = absurd (false≢true h)
 veiled_seen rows s at elder zero (j ∷ place) (item name (node tag js) is) h =
     let u = station rows s (entry name (node tag js)) in

@@ -1,19 +1,17 @@
 -- Two commands with equal blanks have the same protected places, with the same rules and roles.
-use Rattle.std.proofs.Common.{◌≡◌, ℕ, zero, suc, ◌+◌, Bool, true, false, cond, List, [], ◌∷◌, ◌++◌, length, map, Option, Some, None, refl, sym, ap, ◌∙◌}
+use Rattle.std.proofs.Common.{◌≡◌, ℕ, ◌+◌, Bool, true, false, cond, List, [], ◌∷◌, ◌++◌, length, map, Option, Some, None, refl, sym, ap, ◌∙◌}
 use Rattle.std.specs.Prelude.{flat_map, option_map}
 use Rattle.std.specs.Option.{option_map_or}
 use Rattle.std.proofs.lemmas.Bool.{false≢true}
-use Rattle.std.proofs.lemmas.List.{map-append, append-nil}
+use Rattle.std.proofs.lemmas.List.{map-append}
 use Rattle.std.proofs.lemmas.List.Folds.{flat_map-map}
 use Rattle.std.proofs.lemmas.Grind.{flat_map-append}
 use Rattle.bson_tree.specs.Tree.{Tree, leaf, node, Items, no_items, item}
 use Rattle.bson_tree.specs.Places.{places_in, places_from, places}
 use Rattle.bson_tree.specs.Spelling.{value_bytes}
-use Rattle.encrypt_schema.specs.declared.marks.Mark.{Mark}
-use Rattle.encrypt_schema.specs.declared.marks.Role.{Role}
 use Rattle.encrypt_schema.specs.Row.{Row}
 use Rattle.encrypt_schema.specs.Stations.{Station, Outside, Store, Compare, Passed, station, has_role, is_silent}
-use Rattle.encrypt_schema.specs.Visits.{is_payload, entry, command_entry, Visit, visit, command_visit, station_of, mark_at, roles}
+use Rattle.encrypt_schema.specs.Visits.{entry, command_entry, Visit, visit, command_visit, station_of, mark_at, roles}
 use Rattle.encrypt_schema.specs.Skeletons.{Skeleton, hole, plain, branch, Skeletons, no_more, more, blank_hole, blank_in, blanks, blank}
 use Rattle.encrypt_schema.specs.Chains.{Site, site_at, site_of, sites, visit_at, mark_of, use_of_mark, use_of_site}
 use Rattle.encrypt_schema.proofs.Tables.{command_without_role}
@@ -53,7 +51,8 @@ abbrev mutual
       (site_at (0 ∷ []) (station rows s (entry_in name k)) ++ map site_first (told_in rows (station rows s (entry_in name k)) k)) ++ map site_next (told_below rows s ks)
 
 told_item : (rows : List Row) (s : Station) (name : List ℕ) (t : Tree) (is : Items)
-    → sites_in rows (station rows s (entry name t)) t ≡ told_in rows (station rows s (entry name t)) (blank_in rows (station rows s (entry name t)) t)
+    → sites_in rows (station rows s (entry name t)) t
+    ≡ told_in rows (station rows s (entry name t)) (blank_in rows (station rows s (entry name t)) t)
     → sites_below rows s is ≡ told_below rows s (blanks rows s is)
     → sites_below rows s (item name t is) ≡ told_below rows s (blanks rows s (item name t is))
 told_item rows s name t is p q =
@@ -66,8 +65,10 @@ told_item rows s name t is p q =
     ap (λ (xs : List Site). xs ++ map site_next (sites_below rows s is)) (a ∙ b)
     ∙ ap (λ (ys : List Site). (site_at (0 ∷ []) (station rows s (entry_in name k)) ++ map site_first (told_in rows (station rows s (entry_in name k)) k)) ++ map site_next ys) q
 
-silent_item : (rows : List Row) (s u : Station) (name : List ℕ) (t : Tree) (is : Items) → station rows s (entry name t) ≡ u → site_at (0 ∷ []) u ≡ []
-    → sites_in rows (station rows s (entry name t)) t ≡ [] → sites_below rows s is ≡ [] → sites_below rows s (item name t is) ≡ []
+silent_item : (rows : List Row) (s u : Station) (name : List ℕ) (t : Tree) (is : Items)
+    → station rows s (entry name t) ≡ u → site_at (0 ∷ []) u ≡ []
+    → sites_in rows (station rows s (entry name t)) t ≡ [] → sites_below rows s is ≡ []
+    → sites_below rows s (item name t is) ≡ []
 silent_item rows s u name t is e n p q =
     let a : site_at (0 ∷ []) (station rows s (entry name t)) ≡ [] = ap (site_at (0 ∷ [])) e ∙ n in
     ap (λ (xs : List Site). (xs ++ map site_first (sites_in rows (station rows s (entry name t)) t)) ++ map site_next (sites_below rows s is)) a
@@ -79,42 +80,51 @@ mutual
   silent_in rows s (leaf tag bytes) h = refl
   silent_in rows s (node tag is) h = silent_below rows s is h
 
-  silent_below : (rows : List Row) (s : Station) (is : Items) → is_silent s ≡ true → sites_below rows s is ≡ []
+  silent_below : (rows : List Row) (s : Station) (is : Items) → is_silent s ≡ true
+      → sites_below rows s is ≡ []
   silent_below rows s no_items h = refl
   silent_below rows s (item name t is) h =
       silent_item rows s Passed name t is (child_passed rows s (entry name t) h) refl
       (silent_in rows (station rows s (entry name t)) t (ap is_silent (child_passed rows s (entry name t) h)))
       (silent_below rows s is h)
 
-told_node : (rows : List Row) (u : Station) (tag : ℕ) (is : Items) (b : Bool) → has_role u ≡ b → sites_below rows u is ≡ told_below rows u (blanks rows u is)
+told_node : (rows : List Row) (u : Station) (tag : ℕ) (is : Items) (b : Bool) → has_role u ≡ b
+    → sites_below rows u is ≡ told_below rows u (blanks rows u is)
     → sites_below rows u is ≡ told_in rows u (cond b blank_hole (branch tag (blanks rows u is)))
 told_node rows u tag is true h p = silent_below rows u is (role_silent u h)
 told_node rows u tag is false h p = p
 
-told_leaf : (rows : List Row) (u : Station) (tag : ℕ) (bytes : List ℕ) → [] ≡ told_in rows u (blank_in rows u (leaf tag bytes))
+told_leaf : (rows : List Row) (u : Station) (tag : ℕ) (bytes : List ℕ)
+    → [] ≡ told_in rows u (blank_in rows u (leaf tag bytes))
 told_leaf rows u tag bytes =
     elim (has_role u) as (λ b. [] ≡ told_in rows u (cond b blank_hole (plain tag bytes))) [ true ↦ refl | false ↦ refl ]
 
 -- the sites are told by the blanks
 mutual
-  sites_told_in : (rows : List Row) (u : Station) (t : Tree) → sites_in rows u t ≡ told_in rows u (blank_in rows u t)
+  sites_told_in : (rows : List Row) (u : Station) (t : Tree)
+      → sites_in rows u t ≡ told_in rows u (blank_in rows u t)
   sites_told_in rows u (leaf tag bytes) = told_leaf rows u tag bytes
   sites_told_in rows u (node tag is) = told_node rows u tag is (has_role u) refl (sites_told rows u is)
 
-  sites_told : (rows : List Row) (s : Station) (is : Items) → sites_below rows s is ≡ told_below rows s (blanks rows s is)
+  sites_told : (rows : List Row) (s : Station) (is : Items)
+      → sites_below rows s is ≡ told_below rows s (blanks rows s is)
   sites_told rows s no_items = refl
   sites_told rows s (item name t is) =
       told_item rows s name t is (sites_told_in rows (station rows s (entry name t)) t) (sites_told rows s is)
 
 -- the sites are those of `places`
 
-flat_same : {A B : Type 0} (f g : A → List B) (xs : List A) → ((x : A) → f x ≡ g x) → flat_map f xs ≡ flat_map g xs
+flat_same : {A B : Type 0} (f g : A → List B) (xs : List A) → ((x : A) → f x ≡ g x)
+    → flat_map f xs ≡ flat_map g xs
 flat_same f g [] e = refl
-flat_same {B = B} f g (x ∷ xs) e = ap (λ (ys : List B). ys ++ flat_map f xs) (e x) ∙ ap (λ (ys : List B). g x ++ ys) (flat_same f g xs e)
+flat_same {B = B} f g (x ∷ xs) e =
+    ap (λ (ys : List B). ys ++ flat_map f xs) (e x) ∙ ap (λ (ys : List B). g x ++ ys) (flat_same f g xs e)
 
-map_flat : {A B C : Type 0} (g : B → C) (f : A → List B) (xs : List A) → flat_map (λ x. map g (f x)) xs ≡ map g (flat_map f xs)
+map_flat : {A B C : Type 0} (g : B → C) (f : A → List B) (xs : List A)
+    → flat_map (λ x. map g (f x)) xs ≡ map g (flat_map f xs)
 map_flat g f [] = refl
-map_flat {C = C} g f (x ∷ xs) = ap (λ (ys : List C). map g (f x) ++ ys) (map_flat g f xs) ∙ sym (map-append g (f x) (flat_map f xs))
+map_flat {C = C} g f (x ∷ xs) =
+    ap (λ (ys : List C). map g (f x) ++ ys) (map_flat g f xs) ∙ sym (map-append g (f x) (flat_map f xs))
 
 -- the site of a place that was read, or none
 abbrev pub site_visit : List Row → List ℕ → Option Visit → List Site
@@ -131,11 +141,13 @@ at_next place (Store i) = refl
 at_next place (Compare i) = refl
 at_next place _ = refl
 
-visit_first : (rows : List Row) (place : List ℕ) (o : Option Visit) → site_visit rows (0 ∷ place) o ≡ map site_first (site_visit rows place o)
+visit_first : (rows : List Row) (place : List ℕ) (o : Option Visit)
+    → site_visit rows (0 ∷ place) o ≡ map site_first (site_visit rows place o)
 visit_first rows place None = refl
 visit_first rows place (Some v) = at_first place (station_of rows v)
 
-visit_next : (rows : List Row) (place : List ℕ) (o : Option Visit) → site_visit rows (next place) o ≡ map site_next (site_visit rows place o)
+visit_next : (rows : List Row) (place : List ℕ) (o : Option Visit)
+    → site_visit rows (next place) o ≡ map site_next (site_visit rows place o)
 visit_next rows place None = refl
 visit_next rows place (Some v) = at_next place (station_of rows v)
 
@@ -162,7 +174,8 @@ flat_item : (o : Option Visit) (rows : List Row) (s : Station) (at : ℕ) (elder
     → flat_map (λ (p : List ℕ). site_visit rows (0 ∷ p) (visit_from rows s at elder 0 p (item name t is))) (places_in t)
     ≡ site_at (0 ∷ []) (station rows s (entry name t)) ++ map site_first (sites_in rows (station rows s (entry name t)) t)
     → flat_map (site_below o rows s (at + (2 + length name) + length (value_bytes t)) (elder ++ name ∷ []) is) (places_from 0 is) ≡ sites_below rows s is
-    → flat_map (site_below o rows s at elder (item name t is)) (places_from 0 (item name t is)) ≡ sites_below rows s (item name t is)
+    → flat_map (site_below o rows s at elder (item name t is)) (places_from 0 (item name t is))
+    ≡ sites_below rows s (item name t is)
 flat_item o rows s at elder name t is inside behind =
     let f = site_below o rows s at elder (item name t is) in
     let g = site_below o rows s (at + (2 + length name) + length (value_bytes t)) (elder ++ name ∷ []) is in
@@ -196,7 +209,8 @@ mutual
       (flat_in rows s at elder name t is)
       (flat_below o rows s (at + (2 + length name) + length (value_bytes t)) (elder ++ name ∷ []) is)
 
-site_read : (rows : List Row) (place : List ℕ) (o : Option Visit) → option_map_or (site_at place) (option_map (station_of rows) o) [] ≡ site_visit rows place o
+site_read : (rows : List Row) (place : List ℕ) (o : Option Visit)
+    → option_map_or (site_at place) (option_map (station_of rows) o) [] ≡ site_visit rows place o
 site_read rows place None = refl
 site_read rows place (Some v) = refl
 
@@ -205,7 +219,8 @@ site_none place (Store i) h = absurd (false≢true (sym h))
 site_none place (Compare i) h = absurd (false≢true (sym h))
 site_none place _ h = refl
 
-sites_are : (rows : List Row) (c : Items) → sites rows c ≡ sites_below rows (station rows Outside (command_entry c)) c
+sites_are : (rows : List Row) (c : Items)
+    → sites rows c ≡ sites_below rows (station rows Outside (command_entry c)) c
 sites_are rows c =
     let u = station rows Outside (command_entry c) in
     let first = Some (command_visit c) in
@@ -229,7 +244,8 @@ sites_told_of rows c =
 pub equal_sites : (rows : List Row) (c d : Items) → blank rows c ≡ blank rows d → sites rows c ≡ sites rows d
 equal_sites rows c d e = sites_told_of rows c ∙ (ap (told rows) e ∙ sym (sites_told_of rows d))
 
-kinds_at : (place : List ℕ) (s : Station) (v : Visit) → map use_of_mark (mark_at s v) ≡ map use_of_site (site_at place s)
+kinds_at : (place : List ℕ) (s : Station) (v : Visit)
+    → map use_of_mark (mark_at s v) ≡ map use_of_site (site_at place s)
 kinds_at place (Store i) v = refl
 kinds_at place (Compare i) v = refl
 kinds_at place _ v = refl

@@ -1,6 +1,5 @@
 -- Where a place is protected, the tables read of it no child's name and no raw byte.
-use Rattle.std.proofs.Common.{◌≡◌, ℕ, Bool, true, false, cond, not, ◌&&◌, ◌||◌, List, [], ◌∷◌, ◌++◌, codes, refl, sym, ap, ◌∙◌}
-use Rattle.std.specs.Prelude.{◌==◌}
+use Rattle.std.proofs.Common.{◌≡◌, ℕ, Bool, true, false, cond, ◌&&◌, List, [], ◌∷◌, ◌++◌, codes, refl, sym, ap, ◌∙◌}
 use Rattle.std.proofs.lemmas.Bool.{false≢true}
 use Rattle.encrypt_schema.specs.declared.class.Class.{Class}
 use Rattle.encrypt_schema.specs.declared.class.Class.TheVariants.{Protected, Below, Above, Clear}
@@ -10,7 +9,7 @@ use Rattle.encrypt_schema.specs.Names.{named}
 use Rattle.encrypt_schema.specs.Row.{Row}
 use Rattle.encrypt_schema.specs.Classes.{class}
 use Rattle.encrypt_schema.specs.Dotted.{split, is_dollar, positional}
-use Rattle.encrypt_schema.specs.Stations.{Entry, Subject, Field, Prefix, Station, Outside, Insert, Update, Delete, Find, Inserts, Updates, Deletes, UpdateItem, DeleteItem, Filter, Cases, Projection, Test, Elements, Operators, Sets, Argument, Document, Store, Compare, Bare, Passed, is_document, is_operators, is_dollar_first, has_name, is_logical, is_equality, is_membership, dotted, station, has_role, command_of, tested_at}
+use Rattle.encrypt_schema.specs.Stations.{Entry, Subject, Field, Prefix, Station, Outside, Updates, Deletes, UpdateItem, Filter, Projection, Test, Elements, Sets, Argument, Document, Compare, Bare, Passed, is_document, is_operators, is_dollar_first, has_name, is_logical, is_equality, is_membership, dotted, station, has_role, command_of, tested_at}
 use Rattle.encrypt_schema.specs.Offences.{when, reasons_at, filter_value, compared, document_value, set_value}
 
 -- an entry without what a hole doesn't tell
@@ -45,7 +44,8 @@ under : {X Y : Type 0} (f : X → Y) {s : Station} {a b : X} → Kept s a b → 
 under f k = record { kept = λ h. ap f (k.kept h) }
 
 -- a test that both make
-pub test : {X : Type 0} (t : Bool) {x y : Station} {a b c d : X} → Kept x a b → Kept y c d → Kept (cond t x y) (cond t a c) (cond t b d)
+pub test : {X : Type 0} (t : Bool) {x y : Station} {a b c d : X} → Kept x a b → Kept y c d
+    → Kept (cond t x y) (cond t a c) (cond t b d)
 test true p q = p
 test false p q = q
 
@@ -74,7 +74,8 @@ tested_same Clear true = one
 not_plain : (b : Bool) (x : Subject) → Plain (cond b (Test x) Passed)
 not_plain b x = plain_cond b (no_role refl) (no_role refl)
 
-station_kept : (rows : List Row) (s : Station) (e : Entry) → Kept (station rows s e) (station rows s (without e)) (station rows s e)
+station_kept : (rows : List Row) (s : Station) (e : Entry)
+    → Kept (station rows s e) (station rows s (without e)) (station rows s e)
 station_kept rows Outside e = none (command_plain e.names)
 station_kept rows UpdateItem e =
     none
@@ -103,9 +104,12 @@ operators_same : (o : Bool) (x y : Station) (q : List Reason) → Plain x → Ke
 operators_same true x y q p = none p
 operators_same false x y q p = one
 
-value_same : (rows : List Row) (c : Class) (e : Entry) → Kept (tested_at c (is_operators e)) (filter_value rows c (without e)) (filter_value rows c e)
-value_same rows (Protected i) e = operators_same (is_operators e) (Test (Field i)) (Compare i) (compared rows (Field i) e) (no_role refl)
-value_same rows Above e = operators_same (is_operators e) (Test Prefix) Bare (compared rows Prefix e) (no_role refl)
+value_same : (rows : List Row) (c : Class) (e : Entry)
+    → Kept (tested_at c (is_operators e)) (filter_value rows c (without e)) (filter_value rows c e)
+value_same rows (Protected i) e =
+    operators_same (is_operators e) (Test (Field i)) (Compare i) (compared rows (Field i) e) (no_role refl)
+value_same rows Above e =
+    operators_same (is_operators e) (Test Prefix) Bare (compared rows Prefix e) (no_role refl)
 value_same rows Below e = one
 value_same rows Clear e = one
 
@@ -113,13 +117,15 @@ compared_same : (rows : List Row) (x : Subject) (e : Entry) → compared rows x 
 compared_same rows (Field i) e = refl
 compared_same rows Prefix e = refl
 
-document_same : (rows : List Row) (c : Class) (e : Entry) {s : Station} → Kept s (document_value rows c (without e)) (document_value rows c e)
+document_same : (rows : List Row) (c : Class) (e : Entry) {s : Station}
+    → Kept s (document_value rows c (without e)) (document_value rows c e)
 document_same rows (Protected i) e = one
 document_same rows Above e = one
 document_same rows Below e = one
 document_same rows Clear e = one
 
-set_same : (rows : List Row) (c : Class) (e : Entry) {s : Station} → Kept s (set_value rows c (without e)) (set_value rows c e)
+set_same : (rows : List Row) (c : Class) (e : Entry) {s : Station}
+    → Kept s (set_value rows c (without e)) (set_value rows c e)
 set_same rows (Protected i) e = one
 set_same rows Above e = one
 set_same rows Below e = one
@@ -152,6 +158,7 @@ reasons_kept rows (Test x) elder e =
 reasons_kept rows _ elder e = one
 
 -- for which reasons a protected place is refused needs no child's name and no raw byte
-pub reasons_without : (rows : List Row) (s : Station) (elder : List (List ℕ)) (e : Entry) → has_role (station rows s e) ≡ true
+pub reasons_without : (rows : List Row) (s : Station) (elder : List (List ℕ)) (e : Entry)
+    → has_role (station rows s e) ≡ true
     → reasons_at rows s elder (without e) ≡ reasons_at rows s elder e
 reasons_without rows s elder e h = (reasons_kept rows s elder e).kept h

@@ -5,7 +5,7 @@ use Rattle.bson_tree.specs.Tree.{Items, node, item, no_items}
 use Rattle.encrypt_schema.specs.declared.reason.Reason.TheVariants.{NotACommand, BadField, WrongDb, View}
 use Rattle.encrypt_schema.specs.Names.{named}
 use Rattle.encrypt_schema.specs.Targets.{is_db, is_marked, is_passed, rows_of, target, verdict}
-use Rattle.encrypt_schema.proofs.Examples.{text, int, empty, one, insert_into, refusal, people, collections}
+use Rattle.encrypt_schema.proofs.Examples.{text, int, empty, one, insert_into, refusal, collections}
 
 -- aggregate people, refused at 0
 abbrev pub aggregate : Items

@@ -1,11 +1,12 @@
 -- What is shown of a command, its places that aren't below a protected one, is read from its skeleton alone.
-use Rattle.std.proofs.Common.{◌≡◌, ℕ, ◌+◌, Bool, true, false, cond, List, [], ◌∷◌, ◌++◌, length, map, Option, Some, None, refl, sym, ap, ◌∙◌, arith}
+use Rattle.std.proofs.Common.{◌≡◌, ℕ, ◌+◌, Bool, true, false, cond, List, [], ◌∷◌, ◌++◌, length, map, Option, None, refl, sym, ap, ◌∙◌, arith}
 use Rattle.bson_tree.specs.Tree.{Tree, leaf, node, Items, no_items, item}
 use Rattle.bson_tree.specs.Spelling.{framed, value_bytes, items_bytes}
+use Rattle.encrypt_schema.specs.declared.reason.Reason.{Reason}
 use Rattle.encrypt_schema.specs.Row.{Row}
 use Rattle.encrypt_schema.specs.Stations.{Entry, Station, Outside, Store, Compare, station, has_role}
 use Rattle.encrypt_schema.specs.Offences.{offence, least}
-use Rattle.encrypt_schema.specs.Visits.{is_payload, entry, command_entry, Visit, visit, command_visit, mark_at, marks, Refusal, refusal, refused_at, first_refusal, or_else, Judged, judged, station_of, offence_of}
+use Rattle.encrypt_schema.specs.Visits.{is_payload, entry, command_entry, Visit, visit, command_visit, mark_at, marks, Refusal, refusal, refused_at, first_refusal, or_else, station_of, offence_of}
 use Rattle.encrypt_schema.specs.Skeletons.{Skeleton, hole, plain, branch, Skeletons, no_more, more, skeleton_in, skeletons, skeleton, width_of, widths_of}
 use Rattle.encrypt_schema.proofs.Tables.{without, station_without, reasons_without, command_without_role}
 use Rattle.encrypt_schema.proofs.Widths.{framed_length, entry_in, names_kept, width_kept, widths_kept, veiled, entry_kept, station_kept}
@@ -28,7 +29,8 @@ command_shown rows c = command_visit c ∷ shown rows (station rows Outside (com
 
 -- the same places, read from a skeleton
 abbrev pub skeleton_visit : Station → List (List ℕ) → ℕ → List ℕ → Skeleton → Visit
-skeleton_visit s elder at name k = record { parent = s; elder = elder; entry = entry_in name k; start = at + (2 + length name); width = width_of k }
+skeleton_visit s elder at name k =
+    record { parent = s; elder = elder; entry = entry_in name k; start = at + (2 + length name); width = width_of k }
 
 abbrev mutual
   pub seen_in : List Row → Station → ℕ → Skeleton → List Visit
@@ -57,25 +59,29 @@ map_append f [] ys = refl
 map_append f (x ∷ xs) ys = ap (λ (zs : List Visit). f x ∷ zs) (map_append f xs ys)
 
 pub visit_kept : (rows : List Row) (s : Station) (elder : List (List ℕ)) (at : ℕ) (name : List ℕ) (t : Tree)
-    → veil rows (visit s elder at name t) ≡ skeleton_visit s elder at name (skeleton_in rows (station rows s (entry name t)) t)
+    → veil rows (visit s elder at name t)
+    ≡ skeleton_visit s elder at name (skeleton_in rows (station rows s (entry name t)) t)
 visit_kept rows s elder at name t =
     let k = skeleton_in rows (station rows s (entry name t)) t in
     let a : veiled (station rows s (entry name t)) (entry name t) ≡ entry_in name k = entry_kept rows (station rows s (entry name t)) name t in
     let b : width_of k ≡ length (value_bytes t) = width_kept rows (station rows s (entry name t)) t in
     cc
 
-joined : (f : Visit → Visit) (v w : Visit) (xs ys us vs : List Visit) → f v ≡ w → map f xs ≡ us → map f ys ≡ vs → map f (v ∷ (xs ++ ys)) ≡ w ∷ (us ++ vs)
+joined : (f : Visit → Visit) (v w : Visit) (xs ys us vs : List Visit) → f v ≡ w → map f xs ≡ us
+    → map f ys ≡ vs → map f (v ∷ (xs ++ ys)) ≡ w ∷ (us ++ vs)
 joined f v w xs ys us vs p q r = let m = map_append f xs ys in cc
 
 mutual
-  inside_kept : (rows : List Row) (s : Station) (at : ℕ) (t : Tree) → map (veil rows) (shown_in rows s at t) ≡ seen_in rows s at (skeleton_in rows s t)
+  inside_kept : (rows : List Row) (s : Station) (at : ℕ) (t : Tree)
+      → map (veil rows) (shown_in rows s at t) ≡ seen_in rows s at (skeleton_in rows s t)
   inside_kept rows s at (leaf tag bytes) =
       elim (has_role s) as (λ b. [] ≡ seen_in rows s at (cond b (hole tag (length bytes) (is_payload tag bytes)) (plain tag bytes))) [ true ↦ refl | false ↦ refl ]
   inside_kept rows s at (node tag is) =
       elim (has_role s) as (λ b. map (veil rows) (cond b [] (shown rows s (at + 4) [] is)) ≡ seen_in rows s at (cond b (hole tag (length (framed (items_bytes is))) false) (branch tag (skeletons rows s is))))
       [ true ↦ refl | false ↦ shown_kept rows s (at + 4) [] is ]
 
-  shown_kept : (rows : List Row) (s : Station) (at : ℕ) (elder : List (List ℕ)) (is : Items) → map (veil rows) (shown rows s at elder is) ≡ seen rows s at elder (skeletons rows s is)
+  shown_kept : (rows : List Row) (s : Station) (at : ℕ) (elder : List (List ℕ)) (is : Items)
+      → map (veil rows) (shown rows s at elder is) ≡ seen rows s at elder (skeletons rows s is)
   shown_kept rows s at elder no_items = refl
   shown_kept rows s at elder (item name t is) =
       let u = station rows s (entry name t) in
@@ -90,7 +96,8 @@ command_veiled : (rows : List Row) (e : Entry) → veiled (station rows Outside 
 command_veiled rows e = ap (λ (b : Bool). cond b (without e) e) (command_without_role rows e)
 
 -- what is shown of a command, behind its veil, is what is seen in its skeleton
-pub command_kept : (rows : List Row) (c : Items) → map (veil rows) (command_shown rows c) ≡ command_seen rows (skeleton rows c)
+pub command_kept : (rows : List Row) (c : Items)
+    → map (veil rows) (command_shown rows c) ≡ command_seen rows (skeleton rows c)
 command_kept rows c =
     let e = command_entry c in
     let u = station rows Outside e in
@@ -120,7 +127,8 @@ mark_veiled rows v false h = refl
 
 pub marks_veiled : (rows : List Row) (vs : List Visit) → marks rows (map (veil rows) vs) ≡ marks rows vs
 marks_veiled rows [] = refl
-marks_veiled rows (v ∷ vs) = let a = mark_veiled rows v (has_role (station_of rows v)) refl in let b = marks_veiled rows vs in cc
+marks_veiled rows (v ∷ vs) =
+    let a = mark_veiled rows v (has_role (station_of rows v)) refl in let b = marks_veiled rows vs in cc
 
 offence_by : (rows : List Row) (v : Visit) (b : Bool) → has_role (station_of rows v) ≡ b
     → offence rows v.parent v.elder (cond b (without v.entry) v.entry) ≡ offence_of rows v
@@ -130,6 +138,15 @@ offence_by rows v false h = refl
 
 pub offence_veiled : (rows : List Row) (v : Visit) → offence_of rows (veil rows v) ≡ offence_of rows v
 offence_veiled rows v = offence_by rows v (has_role (station_of rows v)) refl
+
+-- what is said of a place: where its value begins, and its offence
+pub record Judged : Type 0 where
+  pub at : ℕ
+  pub reason : Option Reason
+
+abbrev pub judged : List Row → List Visit → List Judged
+judged rows [] = []
+judged rows (v ∷ vs) = record { at = v.start; reason = offence_of rows v } ∷ judged rows vs
 
 pub judged_veiled : (rows : List Row) (vs : List Visit) → judged rows (map (veil rows) vs) ≡ judged rows vs
 judged_veiled rows [] = refl

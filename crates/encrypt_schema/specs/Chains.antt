@@ -1,6 +1,7 @@
--- MongoDB commands insert, update, delete and find, by places: what a place is, read from its chain, which is the command, the
--- place's ancestors and itself. A place is a list of child numbers; the empty one is the command itself.
-use Rattle.std.specs.Prelude.{ℕ, zero, suc, Bool, true, false, not, ◌||◌, List, [], ◌∷◌, ◌++◌, length, Option, Some, None, unwrap_or, option_map, option_and_then, flat_map}
+-- MongoDB commands insert, update, delete and find, by places: what a place is, read from its chain, which is
+-- the command, the place's ancestors and itself. A place is a list of child numbers; the empty one is the
+-- command itself.
+use Rattle.std.specs.Prelude.{ℕ, zero, suc, Bool, false, not, ◌||◌, List, [], ◌∷◌, ◌++◌, length, Option, Some, None, unwrap_or, option_map, option_and_then, flat_map}
 use Rattle.std.specs.Option.{option_map_or}
 use Rattle.bson_tree.specs.Tree.{Tree, leaf, node, Items, no_items, item}
 use Rattle.bson_tree.specs.Places.{tree_at, start_of, places}
@@ -27,11 +28,13 @@ abbrev pub link : List (List ℕ) → List ℕ → Tree → Link
 link elder name t = record { elder = elder; entry = entry name t }
 
 abbrev mutual
-  -- the chain of the place below a value with a name, and behind elder siblings of these names; none where there is no such place
+  -- the chain of the place below a value with a name, and behind elder siblings of these names; none where
+  -- there is no such place
   pub chain_in : List (List ℕ) → List ℕ → List ℕ → Tree → Option Chain
   chain_in elder name [] t = Some (last (link elder name t))
   chain_in elder name (i ∷ place) (leaf tag bytes) = None
-  chain_in elder name (i ∷ place) (node tag is) = option_map (onward (link elder name (node tag is))) (chain_from [] i place is)
+  chain_in elder name (i ∷ place) (node tag is) =
+      option_map (onward (link elder name (node tag is))) (chain_from [] i place is)
 
   -- the same below child number i of these, which stand behind elder siblings of these names
   pub chain_from : List (List ℕ) → ℕ → List ℕ → Items → Option Chain
@@ -43,7 +46,7 @@ abbrev mutual
 abbrev pub chain : List ℕ → Items → Option Chain
 chain place c = chain_in [] [] place (node 3 c)
 
--- what the parent of the last place of a chain is, where the chain begins below what this is
+-- the station of the parent of the last place of a chain, where the chain begins below a value of this one
 abbrev pub parent_along : List Row → Station → Chain → Station
 parent_along rows s (last l) = s
 parent_along rows s (onward l rest) = parent_along rows (station rows s l.entry) rest
@@ -70,9 +73,11 @@ visit_along rows s start width links = record {
 -- a place of a command, read from its chain; none where there is no such place
 abbrev pub visit_at : List Row → Items → List ℕ → Option Visit
 visit_at rows c place =
-    option_map (visit_along rows Outside (unwrap_or (start_of place c) 0) (width_at place (node 3 c))) (chain place c)
+    option_map
+    (visit_along rows Outside (unwrap_or (start_of place c) 0) (width_at place (node 3 c)))
+    (chain place c)
 
--- what a place of a command is
+-- the station of a place of a command
 abbrev pub station_at : List Row → Items → List ℕ → Option Station
 station_at rows c place = option_map (station_of rows) (visit_at rows c place)
 
@@ -92,7 +97,8 @@ first_of (refused ∷ others) = or_else refused (first_of others)
 -- an ancestor of the last place of a chain is protected
 abbrev pub is_below_role : List Row → Station → Chain → Bool
 is_below_role rows s (last l) = false
-is_below_role rows s (onward l rest) = has_role (station rows s l.entry) || is_below_role rows (station rows s l.entry) rest
+is_below_role rows s (onward l rest) =
+    has_role (station rows s l.entry) || is_below_role rows (station rows s l.entry) rest
 
 -- a place of a command with no protected ancestor
 abbrev pub is_shown : List Row → Items → List ℕ → Bool
@@ -104,7 +110,7 @@ pub record Site : Type 0 where
   pub policy : ℕ
   pub role : Role
 
--- the site of a place that is this; none where it isn't protected
+-- the site of a place of this station; none where it isn't protected
 abbrev pub site_at : List ℕ → Station → List Site
 site_at place (Store i) = record { place = place; policy = i; role = role.Store } ∷ []
 site_at place (Compare i) = record { place = place; policy = i; role = role.Compare } ∷ []

@@ -1,5 +1,5 @@
--- MongoDB commands insert, update, delete and find: for which reasons a place of a command is refused, read from what its
--- parent is, from the names of its elder siblings and from itself.
+-- MongoDB commands insert, update, delete and find: for which reasons a place of a command is refused, read
+-- from what its parent is, from the names of its elder siblings and from itself.
 use Rattle.std.specs.Prelude.{ℕ, ◌==◌, ◌-◌, Bool, true, false, not, ◌&&◌, ◌||◌, nat_lt, List, [], ◌∷◌, ◌++◌, codes, take, drop, length, Option, Some, None, if◌then◌else◌}
 use Rattle.encrypt_schema.specs.declared.class.Class.{Class}
 use Rattle.encrypt_schema.specs.declared.class.Class.TheVariants.{Protected, Below, Above, Clear}
@@ -40,8 +40,8 @@ stored_under policy e =
 abbrev pub stored : List Row → ℕ → Entry → List Reason
 stored rows i e = stored_under (policy_at i rows) e
 
--- a value that is compared. With the field of a rule: what is wrong where it is stored; the random algorithm; a regex (0B).
--- At a path above fields of rules: a document or an array
+-- a value that is compared. With the field of a rule: what is wrong where it is stored; the random algorithm;
+-- a regex (0B). At a path above fields of rules: a document or an array
 abbrev pub compared : List Row → Subject → Entry → List Reason
 compared rows (Field i) e =
     stored rows i e
@@ -74,9 +74,11 @@ filter_value rows Clear e = []
 abbrev pub membership_value : List Row → Subject → Entry → List Reason
 membership_value rows x e = if is_array e then when (is_random_field rows x) RandomCompared else BadField ∷ []
 
--- the value of `$not`: an operator document is judged by itself; a regex can't be applied to the field of a rule
+-- the value of `$not`: an operator document is judged by itself; a regex can't be applied to the field of a
+-- rule
 abbrev pub not_value : Subject → Entry → List Reason
-not_value (Field i) e = if is_operators e then [] else if e.tag == 11 then OperatorOnProtected ∷ [] else BadField ∷ []
+not_value (Field i) e =
+    if is_operators e then [] else if e.tag == 11 then OperatorOnProtected ∷ [] else BadField ∷ []
 not_value Prefix e = if is_operators e then [] else if e.tag == 11 then [] else BadField ∷ []
 
 -- an element of an operator document
@@ -125,7 +127,8 @@ may_rename rows Clear Clear = true
 may_rename rows (Protected i) (Protected j) = is_policy (policy_at i rows) (policy_at j rows)
 may_rename rows _ _ = false
 
--- an element of the argument of `$rename`: no string; a positional target; fields that are protected otherwise
+-- an element of the argument of `$rename`: no string; a positional target; fields that are protected
+-- otherwise
 unfoldable pub renamed : List Row → Entry → List Reason
 renamed rows e =
     when (not (e.tag == 2)) BadField
@@ -158,8 +161,8 @@ reasons_at rows Update elder e =
 reasons_at rows Updates elder e =
     when (not (is_document e)) BadField
     ++ when (lacks (codes "q") e.names || lacks (codes "u") e.names) BadField
--- an item of `updates`: each name once; `q` a document; `u` a document, or an array, which is a pipeline; `arrayFilters` and
--- `c` can't be used
+-- an item of `updates`: each name once; `q` a document; `u` a document, or an array, which is a pipeline;
+-- `arrayFilters` and `c` can't be used
 reasons_at rows UpdateItem elder e =
     when (is_again (codes "q" ∷ codes "u" ∷ codes "arrayFilters" ∷ codes "c" ∷ []) elder e.name) BadField
     ++ when (has_name (codes "q") e && not (is_document e)) BadField
@@ -172,14 +175,17 @@ reasons_at rows Delete elder e =
     ++ when (has_name (codes "deletes") e && not (is_array e)) BadField
     ++ when (has_name (codes "let") e) FieldNotAllowed
 -- of documents; each has `q`
-reasons_at rows Deletes elder e = when (not (is_document e)) BadField ++ when (lacks (codes "q") e.names) BadField
+reasons_at rows Deletes elder e =
+    when (not (is_document e)) BadField ++ when (lacks (codes "q") e.names) BadField
 -- an item of `deletes`: `q`, once, a document
 reasons_at rows DeleteItem elder e =
     when (is_again (codes "q" ∷ []) elder e.name) BadField
     ++ when (has_name (codes "q") e && not (is_document e)) BadField
 -- find: each name once; `filter` and `projection` documents; `min`, `max` and `let` can't be used
 reasons_at rows Find elder e =
-    when (is_again (codes "filter" ∷ codes "projection" ∷ codes "min" ∷ codes "max" ∷ codes "let" ∷ []) elder e.name) BadField
+    when
+    (is_again (codes "filter" ∷ codes "projection" ∷ codes "min" ∷ codes "max" ∷ codes "let" ∷ []) elder e.name)
+    BadField
     ++ when ((has_name (codes "filter") e || has_name (codes "projection") e) && not (is_document e)) BadField
     ++ when (has_name (codes "min") e || has_name (codes "max") e || has_name (codes "let") e) FieldNotAllowed
 -- an element of a projection
@@ -187,8 +193,8 @@ reasons_at rows Projection elder e =
     when (is_array e || (is_document e && not (is_slice_or_meta e.names))) FieldNotAllowed
 -- a stored document at a path
 reasons_at rows (Document path) elder e = document_value rows (class rows (path ++ e.name ∷ [])) e
--- a filter: `$and`, `$or`, `$nor` take an array; of the other names that begin with a dollar sign only `$comment` can be used;
--- a path may not be positional
+-- a filter: `$and`, `$or`, `$nor` take an array; of the other names that begin with a dollar sign only
+-- `$comment` can be used; a path may not be positional
 reasons_at rows Filter elder e =
     if is_logical e.name then when (not (is_array e)) BadField
     else if is_dollar e.name then when (not (has_name (codes "$comment") e)) FieldNotAllowed
@@ -198,9 +204,11 @@ reasons_at rows Cases elder e = when (not (is_document e)) BadField
 reasons_at rows (Test x) elder e = test_value rows x e
 reasons_at rows (Elements x) elder e = compared rows x e
 -- an update with operators: each name begins with a dollar sign; each value is a document
-reasons_at rows Operators elder e = when (not (is_dollar e.name)) BadField ++ when (not (is_document e)) BadField
+reasons_at rows Operators elder e =
+    when (not (is_dollar e.name)) BadField ++ when (not (is_document e)) BadField
 -- an argument: a path may not be positional
-reasons_at rows Sets elder e = when (positional rows (split e.name)) PositionalOnPath ++ set_value rows (dotted rows e.name) e
+reasons_at rows Sets elder e =
+    when (positional rows (split e.name)) PositionalOnPath ++ set_value rows (dotted rows e.name) e
 reasons_at rows (Argument operator) elder e =
     when (positional rows (split e.name)) PositionalOnPath ++ argument_value rows operator e
 -- what isn't looked into

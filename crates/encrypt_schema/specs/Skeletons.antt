@@ -1,5 +1,5 @@
 -- What a command tells of its protected values: a command with a hole at each of them, and one with a blank.
-use Rattle.std.specs.Prelude.{ℕ, ◌+◌, ◌≤◌, ◌++◌, Bool, false, List, [], ◌∷◌, map, length, if◌then◌else◌}
+use Rattle.std.specs.Prelude.{ℕ, ◌+◌, ◌≤◌, ◌++◌, Bool, false, List, [], ◌∷◌, length, if◌then◌else◌}
 use Rattle.bson_tree.specs.Tree.{Tree, leaf, node, Items, no_items, item}
 use Rattle.bson_tree.specs.Spelling.{value_bytes}
 use Rattle.encrypt_schema.specs.declared.marks.Mark.{Mark}
@@ -7,8 +7,8 @@ use Rattle.encrypt_schema.specs.Row.{Row}
 use Rattle.encrypt_schema.specs.Stations.{Station, Outside, station, has_role}
 use Rattle.encrypt_schema.specs.Visits.{entry, command_entry, is_payload}
 
--- a value: a hole, of which a type byte, a length and whether it is a binary of subtype 06 are known; a raw value; a document
--- or an array
+-- a value: a hole, of which a type byte, a length and whether it is a binary of subtype 06 are known; a raw
+-- value; a document or an array
 mutual
   pub data Skeleton : Type 0 where
     hole : ℕ → ℕ → Bool → Skeleton
@@ -19,18 +19,21 @@ mutual
     no_more : Skeletons
     more : List ℕ → Skeleton → Skeletons → Skeletons
 
--- a value that is this, with a hole at each protected one: its type byte, the length of its bytes, whether it is a binary of
--- subtype 06
+-- a value of this station, with a hole at each protected one: its type byte, the length of its bytes, whether it
+-- is a binary of subtype 06
 abbrev mutual
   pub skeleton_in : List Row → Station → Tree → Skeleton
-  skeleton_in rows s (leaf tag bytes) = if has_role s then hole tag (length bytes) (is_payload tag bytes) else plain tag bytes
+  skeleton_in rows s (leaf tag bytes) =
+      if has_role s then hole tag (length bytes) (is_payload tag bytes) else plain tag bytes
   skeleton_in rows s (node tag is) =
-      if has_role s then hole tag (length (value_bytes (node tag is))) false else branch tag (skeletons rows s is)
+      if has_role s then hole tag (length (value_bytes (node tag is))) false
+      else branch tag (skeletons rows s is)
 
-  -- elements whose parent is this
+  -- elements whose parent has this station
   pub skeletons : List Row → Station → Items → Skeletons
   skeletons rows s no_items = no_more
-  skeletons rows s (item name t is) = more name (skeleton_in rows (station rows s (entry name t)) t) (skeletons rows s is)
+  skeletons rows s (item name t is) =
+      more name (skeleton_in rows (station rows s (entry name t)) t) (skeletons rows s is)
 
 -- a command with a hole at each protected value
 abbrev pub skeleton : List Row → Items → Skeletons
@@ -48,7 +51,8 @@ abbrev mutual
 
   pub blanks : List Row → Station → Items → Skeletons
   blanks rows s no_items = no_more
-  blanks rows s (item name t is) = more name (blank_in rows (station rows s (entry name t)) t) (blanks rows s is)
+  blanks rows s (item name t is) =
+      more name (blank_in rows (station rows s (entry name t)) t) (blanks rows s is)
 
 -- a command with one blank, which tells nothing, at each protected value
 abbrev pub blank : List Row → Items → Skeletons
@@ -81,7 +85,8 @@ abbrev mutual
   -- those of elements that begin at `at`
   pub holes : ℕ → Skeletons → List Hole
   holes at no_more = []
-  holes at (more name k ks) = holes_in (at + (2 + length name)) k ++ holes (at + (2 + length name) + width_of k) ks
+  holes at (more name k ks) =
+      holes_in (at + (2 + length name)) k ++ holes (at + (2 + length name) + width_of k) ks
 
 -- the hole where a mark stands
 abbrev pub hole_at : Mark → Hole

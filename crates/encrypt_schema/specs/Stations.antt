@@ -1,5 +1,5 @@
--- MongoDB commands insert, update, delete and find: what a place of a command is, read from what its parent is and from itself.
--- A type byte 03 is a document, 04 an array.
+-- MongoDB commands insert, update, delete and find: what a place of a command is, read from what its parent
+-- is and from itself. A type byte 03 is a document, 04 an array.
 use Rattle.std.specs.Prelude.{ℕ, ◌==◌, Bool, true, false, not, ◌&&◌, ◌||◌, List, [], ◌∷◌, ◌++◌, codes, if◌then◌else◌}
 use Rattle.encrypt_schema.specs.declared.class.Class.{Class}
 use Rattle.encrypt_schema.specs.declared.class.Class.TheVariants.{Protected, Below, Above, Clear}
@@ -9,8 +9,8 @@ use Rattle.encrypt_schema.specs.Policies.{policy_at, is_random}
 use Rattle.encrypt_schema.specs.Classes.{class}
 use Rattle.encrypt_schema.specs.Dotted.{split, is_dollar, positional}
 
--- what is looked at of a place: its name, its type byte, the names of its children, the bytes of a raw value, and whether
--- it is a binary of subtype 06
+-- what is looked at of a place: its name, its type byte, the names of its children, the bytes of a raw value,
+-- and whether it is a binary of subtype 06
 pub record Entry : Type 0 where
   pub name : List ℕ
   pub tag : ℕ
@@ -18,11 +18,13 @@ pub record Entry : Type 0 where
   pub raw : List ℕ
   pub payload : Bool
 
--- what the operators of an operator document are applied to: the field of a rule, or a path above fields of rules
+-- what the operators of an operator document are applied to: the field of a rule, or a path above fields of
+-- rules
 pub data Subject : Type 0 where
   Field : ℕ → Subject
   Prefix : Subject
 
+-- the station of a place: what it is in its command
 pub data Station : Type 0 where
   -- what is around a command
   Outside : Station
@@ -45,7 +47,8 @@ pub data Station : Type 0 where
   -- an operator document; the array of `$in`, `$nin`
   Test : Subject → Station
   Elements : Subject → Station
-  -- an update with operators; the argument of `$set` and `$setOnInsert`; that of another operator, by its name
+  -- an update with operators; the argument of `$set` and `$setOnInsert`; that of another operator, by its
+  -- name
   Operators : Station
   Sets : Station
   Argument : List ℕ → Station
@@ -108,8 +111,8 @@ command_of (name ∷ names) =
     else if named name (codes "find") then Find
     else Passed
 
--- an update: it has update operators where its first name begins with a dollar sign; else, also where it is empty, it replaces
--- the stored document
+-- an update: it has update operators where its first name begins with a dollar sign; else, also where it is
+-- empty, it replaces the stored document
 abbrev pub update_of : List (List ℕ) → Station
 update_of names = if is_dollar_first names then Operators else Document []
 
@@ -137,7 +140,7 @@ abbrev pub is_random_field : List Row → Subject → Bool
 is_random_field rows (Field i) = is_random (policy_at i rows).algorithm
 is_random_field rows Prefix = false
 
--- what a place is: the first argument behind the rules is what its parent is
+-- the station of a place; the first argument behind the rules is its parent's
 abbrev pub station : List Row → Station → Entry → Station
 -- a command, by the name of its first field
 station rows Outside e = command_of e.names
@@ -165,21 +168,25 @@ station rows UpdateItem e =
     else Passed
 -- an item of `deletes`: `q`, a document, is a filter
 station rows DeleteItem e = if has_name (codes "q") e && is_document e then Filter else Passed
--- a stored document at a path: each element by the class of the path with its name, which is one component whatever it holds
-station rows (Document path) e = stored_at (class rows (path ++ e.name ∷ [])) (path ++ e.name ∷ []) (is_document e)
--- a filter: `$and`, `$or`, `$nor`, arrays, hold filters; of the other names those that begin with a dollar sign pass, and each
--- other value is an operator document or one compared value, by the class of its dotted path
+-- a stored document at a path: each element by the class of the path with its name, which is one component
+-- whatever it holds
+station rows (Document path) e =
+    stored_at (class rows (path ++ e.name ∷ [])) (path ++ e.name ∷ []) (is_document e)
+-- a filter: `$and`, `$or`, `$nor`, arrays, hold filters; of the other names those that begin with a dollar
+-- sign pass, and each other value is an operator document or one compared value, by the class of its dotted
+-- path
 station rows Filter e =
     if is_logical e.name then (if is_array e then Cases else Passed)
     else if is_dollar e.name then Passed
     else tested_at (dotted rows e.name) (is_operators e)
 -- each document in the array of `$and`, `$or`, `$nor` is a filter
 station rows Cases e = if is_document e then Filter else Passed
--- an operator document: `$eq` and `$ne` compare; `$in` and `$nin` hold compared values in an array, but not under the random
--- algorithm; `$not` holds an operator document
+-- an operator document: `$eq` and `$ne` compare; `$in` and `$nin` hold compared values in an array, but not
+-- under the random algorithm; `$not` holds an operator document
 station rows (Test x) e =
     if is_equality e.name then compared_with x
-    else if is_membership e.name then (if is_array e && not (is_random_field rows x) then Elements x else Passed)
+    else if is_membership e.name then
+    (if is_array e && not (is_random_field rows x) then Elements x else Passed)
     else if has_name (codes "$not") e && is_operators e then Test x
     else Passed
 -- each value in the array of `$in`, `$nin` is compared

@@ -1,6 +1,6 @@
 -- MongoDB commands: which command it is, on which database and collection; and the verdict on a command.
-use Rattle.std.specs.Prelude.{ℕ, ◌+◌, ◌==◌, Bool, true, false, not, ◌&&◌, ◌||◌, List, [], ◌∷◌, codes, length, Option, Some, None, option_and_then, if◌then◌else◌, ◌++◌}
-use Rattle.bson_tree.specs.Tree.{Tree, Items, no_items, item}
+use Rattle.std.specs.Prelude.{ℕ, ◌+◌, ◌==◌, Bool, true, false, not, ◌&&◌, ◌||◌, List, [], ◌∷◌, codes, length, Option, Some, None, if◌then◌else◌, ◌++◌}
+use Rattle.bson_tree.specs.Tree.{Items, no_items, item}
 use Rattle.bson_tree.specs.Spelling.{value_bytes}
 use Rattle.encrypt_schema.specs.declared.reason.Reason.{Reason}
 use Rattle.encrypt_schema.specs.declared.reason.Reason.TheVariants.{NotACommand, BadField, WrongDb, View}
@@ -47,7 +47,8 @@ pub record CommandField : Type 0 where
 abbrev pub command_fields : ℕ → Items → List CommandField
 command_fields at no_items = []
 command_fields at (item name t is) =
-    record { entry = entry name t; start = at + (2 + length name) } ∷ command_fields (at + (2 + length name) + length (value_bytes t)) is
+    record { entry = entry name t; start = at + (2 + length name) }
+    ∷ command_fields (at + (2 + length name) + length (value_bytes t)) is
 
 -- a string (02)
 abbrev pub is_string : Entry → Bool
@@ -63,8 +64,8 @@ first_reasons e =
     when (not (is_marked e.name || is_passed e.name)) NotACommand
     ++ when (is_marked e.name && (not (is_string e) || is_empty (text_of e.raw))) BadField
 
--- a later field of a command of this name, on the database `db`, where `$db` was seen before or not: the command's name
--- again; `$db` again, or no string; another database
+-- a later field of a command of this name, on the database `db`, where `$db` was seen before or not: the
+-- command's name again; `$db` again, or no string; another database
 abbrev pub later_reasons : List ℕ → List ℕ → Bool → Entry → List Reason
 later_reasons db command seen e =
     when (named e.name command) BadField
@@ -75,7 +76,9 @@ later_reasons db command seen e =
 abbrev pub later_refusal : List ℕ → List ℕ → Bool → List CommandField → Option Refusal
 later_refusal db command seen [] = None
 later_refusal db command seen (field ∷ fields) =
-    or_else (refused_at field.start (least (later_reasons db command seen field.entry))) (later_refusal db command (seen || is_db field.entry.name) fields)
+    or_else
+    (refused_at field.start (least (later_reasons db command seen field.entry)))
+    (later_refusal db command (seen || is_db field.entry.name) fields)
 
 -- the collection of a name
 abbrev pub collection_of : List Collection → List ℕ → Option Collection
@@ -86,7 +89,8 @@ collection_of (collection ∷ collections) name =
 -- the collection that the first field of a command names
 abbrev pub named_by : List Collection → List CommandField → Option Collection
 named_by collections [] = None
-named_by collections (field ∷ fields) = if is_string field.entry then collection_of collections (text_of field.entry.raw) else None
+named_by collections (field ∷ fields) =
+    if is_string field.entry then collection_of collections (text_of field.entry.raw) else None
 
 abbrev pub is_view : Option Collection → Bool
 is_view None = false
@@ -97,14 +101,16 @@ abbrev pub view_refusal : Bool → ℕ → Option Refusal
 view_refusal true at = Some (record { reason = View; at = at })
 view_refusal false at = None
 
--- the verdict on the fields of a command, by themselves: the empty document is no command; a command that passes is judged no
--- further; a view counts only where nothing else is refused
+-- the verdict on the fields of a command, by themselves: the empty document is no command; a command that
+-- passes is judged no further; a view counts only where nothing else is refused
 abbrev pub target_of : List ℕ → List Collection → List CommandField → Option Refusal
 target_of db collections [] = Some (record { reason = NotACommand; at = 0 })
 target_of db collections (field ∷ fields) =
     if is_passed field.entry.name then None
     else or_else
-    (or_else (refused_at field.start (least (first_reasons field.entry))) (later_refusal db field.entry.name false fields))
+    (or_else
+    (refused_at field.start (least (first_reasons field.entry)))
+    (later_refusal db field.entry.name false fields))
     (view_refusal (is_view (named_by collections (field ∷ fields))) field.start)
 
 -- the verdict of the target pass: the command, its database and its collection, with none of its contents

@@ -1,5 +1,5 @@
--- MongoDB commands insert, update, delete and find: the places of a command in reading order, the marks of those that are
--- protected, and the first that is refused.
+-- MongoDB commands insert, update, delete and find: the places of a command in reading order, the marks of
+-- those that are protected, and the first that is refused.
 use Rattle.std.specs.Prelude.{ℕ, ◌+◌, ◌==◌, Bool, false, ◌&&◌, List, [], ◌∷◌, ◌++◌, length, Option, Some, None, slice_index}
 use Rattle.bson_tree.specs.Tree.{Tree, leaf, node, Items, no_items, item, tag_of, kids_of}
 use Rattle.bson_tree.specs.Spelling.{value_bytes}
@@ -43,8 +43,8 @@ entry name t = record {
 abbrev pub command_entry : Items → Entry
 command_entry c = entry [] (node 3 c)
 
--- a place: what its parent is, the names of its elder siblings, what is looked at of it, the offset at which its value begins,
--- and the length of its value
+-- a place: its parent's station, the names of its elder siblings, what is looked at of it, the offset at which
+-- its value begins, and the length of its value
 pub record Visit : Type 0 where
   pub parent : Station
   pub elder : List (List ℕ)
@@ -63,12 +63,13 @@ visit parent elder at name t = record {
 }
 
 abbrev mutual
-  -- the places inside a value that is this and begins at `at`
+  -- the places inside a value of this station that begins at `at`
   pub visits_in : List Row → Station → ℕ → Tree → List Visit
   visits_in rows s at (leaf tag bytes) = []
   visits_in rows s at (node tag is) = visits rows s (at + 4) [] is
 
-  -- the places of elements that begin at `at`, behind elder siblings of these names, and the places inside them
+  -- the places of elements that begin at `at`, whose parent has this station and whose elder siblings have
+  -- these names, and the places inside them
   pub visits : List Row → Station → ℕ → List (List ℕ) → Items → List Visit
   visits rows parent at elder no_items = []
   visits rows parent at elder (item name t is) =
@@ -90,7 +91,7 @@ command_visit c = record {
 abbrev pub command_visits : List Row → Items → List Visit
 command_visits rows c = command_visit c ∷ visits rows (station rows Outside (command_entry c)) 4 [] c
 
--- what a place is
+-- the station of a place
 abbrev pub station_of : List Row → Visit → Station
 station_of rows v = station rows v.parent v.entry
 
@@ -98,7 +99,7 @@ station_of rows v = station rows v.parent v.entry
 abbrev pub mark : Visit → ℕ → Role → Mark
 mark v i why = record { start = v.start; end = v.start + v.width; tag = v.entry.tag; policy = i; role = why }
 
--- the mark of a place that is this; none where it isn't protected
+-- the mark of a place of this station; none where it isn't protected
 abbrev pub mark_at : Station → Visit → List Mark
 mark_at (Store i) v = mark v i role.Store ∷ []
 mark_at (Compare i) v = mark v i role.Compare ∷ []
@@ -144,12 +145,3 @@ first_refusal rows (v ∷ vs) = or_else (refusal rows v) (first_refusal rows vs)
 abbrev pub content_verdict : List Row → Items → Option Refusal
 content_verdict [] c = None
 content_verdict (row ∷ rows) c = first_refusal (row ∷ rows) (command_visits (row ∷ rows) c)
-
--- what is said of a place: where its value begins, and its offence
-pub record Judged : Type 0 where
-  pub at : ℕ
-  pub reason : Option Reason
-
-abbrev pub judged : List Row → List Visit → List Judged
-judged rows [] = []
-judged rows (v ∷ vs) = record { at = v.start; reason = offence_of rows v } ∷ judged rows vs
