@@ -135,6 +135,7 @@ hole_node rows (Store i) v tag width is p q h = let a = sym p in let b = sym q i
 hole_node rows (Compare i) v tag width is p q h = let a = sym p in let b = sym q in cc
 hole_node rows _ v tag width is p q h = h
 
+-- the marks of one element: its own, or those inside it
 abbrev pub own_marks : List Row → Station → List (List ℕ) → ℕ → List ℕ → Tree → List Mark
 own_marks rows s elder at name t =
     mark_at (station rows s (entry name t)) (visit s elder at name t) ++ marks rows (shown_in rows (station rows s (entry name t)) (at + (2 + length name)) t)

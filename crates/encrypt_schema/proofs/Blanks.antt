@@ -80,6 +80,7 @@ pub station_bare : (rows : List Row) (s : Station) (e : Entry) → has_role (sta
     → station rows s (bare e) ≡ station rows s e
 station_bare rows s e h = (station_kept rows s e).kept h
 
+-- blanks keep the names of elements
 pub names_blank : (rows : List Row) (s : Station) (is : Items) → names_in (blanks rows s is) ≡ names_of is
 names_blank rows s no_items = refl
 names_blank rows s (item name t is) = ap (λ (ns : List (List ℕ)). name ∷ ns) (names_blank rows s is)

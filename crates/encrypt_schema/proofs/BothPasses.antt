@@ -69,7 +69,9 @@ fields_told : (rows : List Row) (c : Items) → command_fields 4 c ≡ fields_in
 fields_told rows c =
     fields_kept rows (station rows Outside (command_entry c)) 4 c (command_without_roles rows (command_entry c).names)
 
-equal_fields : (rows : List Row) (c d : Items) → skeleton rows c ≡ skeleton rows d
+-- commands with equal skeletons have the same fields, as far as the target pass looks at them, so the same
+-- offences of that pass at each
+pub equal_fields : (rows : List Row) (c d : Items) → skeleton rows c ≡ skeleton rows d
     → command_fields 4 c ≡ command_fields 4 d
 equal_fields rows c d e = fields_told rows c ∙ (ap (fields_in 4) e ∙ sym (fields_told rows d))
 

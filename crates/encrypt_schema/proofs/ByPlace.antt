@@ -39,6 +39,7 @@ abbrev pub next : List ℕ → List ℕ
 next [] = []
 next (i ∷ place) = (i + 1) ∷ place
 
+-- two functions that agree give the same list
 pub map_same : {A B : Type 0} (f g : A → B) (xs : List A) → ((x : A) → f x ≡ g x) → map f xs ≡ map g xs
 map_same f g [] e = refl
 map_same {B = B} f g (x ∷ xs) e =
@@ -53,6 +54,7 @@ places_next i (item name t is) =
     let c = map-append next (map (λ (p : List ℕ). i ∷ p) (places_in t)) (places_from (i + 1) is) in
     cc
 
+-- the next sibling's place among elements is the place among those behind the first
 pub below_next : (o : Option Visit) (rows : List Row) (s : Station) (at : ℕ) (elder : List (List ℕ)) (name : List ℕ) (t : Tree) (is : Items) (place : List ℕ)
     → visit_below o rows s at elder (item name t is) (next place)
     ≡ visit_below o rows s (at + (2 + length name) + length (value_bytes t)) (elder ++ name ∷ []) is place
@@ -148,6 +150,7 @@ visit_at_from rows c i place =
     option_onward rows Outside _ _ (link [] [] (node 3 c)) (chain_from [] i place c)
     ∙ sym (from_chain rows (station rows Outside (command_entry c)) 4 [] i place c)
 
+-- a place of a command, by what is carried down
 pub visit_at_below : (rows : List Row) (c : Items) (place : List ℕ)
     → visit_at rows c place
     ≡ visit_below (Some (command_visit c)) rows (station rows Outside (command_entry c)) 4 [] c place

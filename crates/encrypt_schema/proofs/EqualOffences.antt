@@ -47,6 +47,7 @@ equal_shown rows c d e [] = refl
 equal_shown rows c d e (i ∷ place) =
     shown_below rows c i place ∙ (ap (λ (ks : Skeletons). is_some (seen_below rows ks i place)) e ∙ sym (shown_below rows d i place))
 
+-- the first place of a list
 abbrev pub first_visit : List Visit → Option Visit
 first_visit [] = None
 first_visit (v ∷ vs) = Some v

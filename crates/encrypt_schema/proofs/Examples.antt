@@ -13,15 +13,19 @@ use Rattle.encrypt_schema.specs.Row.{Row}
 use Rattle.encrypt_schema.specs.Collection.{Collection}
 use Rattle.encrypt_schema.specs.Visits.{Refusal}
 
+-- a string
 abbrev pub text : List ℕ → Tree
 text bytes = leaf 2 (to_le_bytes w32 (length bytes + 1) ++ (bytes ++ 0 ∷ []))
 
+-- an int
 abbrev pub int : ℕ → Tree
 int n = leaf 16 (to_le_bytes w32 n)
 
+-- null
 abbrev pub null : Tree
 null = leaf 10 []
 
+-- the bool true
 abbrev pub yes : Tree
 yes = leaf 8 (1 ∷ [])
 
@@ -29,12 +33,15 @@ yes = leaf 8 (1 ∷ [])
 abbrev pub sealed : Tree
 sealed = leaf 5 (3 ∷ 0 ∷ 0 ∷ 0 ∷ 6 ∷ 1 ∷ 2 ∷ 3 ∷ [])
 
+-- a regex, x without options
 abbrev pub regex : Tree
 regex = leaf 11 (120 ∷ 0 ∷ 0 ∷ [])
 
+-- {}
 abbrev pub empty : Tree
 empty = node 3 no_items
 
+-- a document's only element
 abbrev pub one : List ℕ → Tree → Items
 one name t = item name t no_items
 
@@ -66,12 +73,15 @@ abbrev pub find_in : Tree → Tree → Tree → Items
 find_in collection filter projection =
     item (codes "find") collection (item (codes "filter") filter (item (codes "projection") projection on_hr))
 
+-- the mark from one offset to another
 abbrev pub mark_at : ℕ → ℕ → ℕ → ℕ → Role → Mark
 mark_at start end tag policy why = record { start = start; end = end; tag = tag; policy = policy; role = why }
 
+-- the refusal for a reason at an offset
 abbrev pub refusal : Reason → ℕ → Option Refusal
 refusal reason at = Some (record { reason = reason; at = at })
 
+-- a rule: a path, an algorithm, type bytes
 abbrev pub rule : List (List ℕ) → Algorithm → List ℕ → Row
 rule path algorithm types =
     record { path = path; policy = record { algorithm = algorithm; key = Id []; types = types } }

@@ -1,11 +1,12 @@
 -- The places of one part of a document's elements, and of the part behind it.
-use Rattle.std.proofs.Common.{◌≡◌, ℕ, ◌+◌, List, [], ◌∷◌, ◌++◌, length, refl, sym, ap, ◌∙◌, arith}
+use Rattle.std.proofs.Common.{◌≡◌, ℕ, ◌+◌, ◌<◌, List, [], ◌∷◌, ◌++◌, length, refl, sym, ap, ◌∙◌, arith}
 use Rattle.std.proofs.lemmas.List.{append_assoc, append-nil}
-use Rattle.bson_tree.specs.Tree.{Items, no_items, item, join}
+use Rattle.bson_tree.specs.Tree.{Tree, Items, no_items, item, join}
 use Rattle.bson_tree.specs.Spelling.{value_bytes, items_bytes}
+use Rattle.encrypt_schema.specs.declared.marks.Mark.{Mark}
 use Rattle.encrypt_schema.specs.Row.{Row}
 use Rattle.encrypt_schema.specs.Stations.{Station, station}
-use Rattle.encrypt_schema.specs.Visits.{names_of, entry, Visit, visit, visits_in, visits, marks, first_refusal, or_else}
+use Rattle.encrypt_schema.specs.Visits.{names_of, entry, Visit, visit, visits_in, visits, mark_at, marks, refusal, first_refusal, or_else, command_visits, content_verdict}
 use Rattle.encrypt_schema.proofs.Widths.{items_length}
 use Rattle.encrypt_schema.proofs.Silence.{marks_append, refusal_append}
 
@@ -51,3 +52,33 @@ pub refusal_join : (rows : List Row) (s : Station) (at : ℕ) (elder : List (Lis
 refusal_join rows s at elder is js =
     ap (first_refusal rows) (visits_join rows s at elder is js)
     ∙ refusal_append rows (visits rows s at elder is) (visits rows s (at + length (items_bytes is)) (elder ++ names_of is) js)
+
+-- the marks of a first element: its own, those inside it, then those of the elements behind it
+pub marks_item : (rows : List Row) (s : Station) (at : ℕ) (elder : List (List ℕ)) (name : List ℕ) (t : Tree) (is : Items)
+    → marks rows (visits rows s at elder (item name t is))
+    ≡ mark_at (station rows s (entry name t)) (visit s elder at name t)
+    ++ (marks rows (visits_in rows (station rows s (entry name t)) (at + (2 + length name)) t)
+    ++ marks rows (visits rows s (at + (2 + length name) + length (value_bytes t)) (elder ++ name ∷ []) is))
+marks_item rows s at elder name t is =
+    ap
+    (λ (ms : List Mark). mark_at (station rows s (entry name t)) (visit s elder at name t) ++ ms)
+    (marks_append rows (visits_in rows (station rows s (entry name t)) (at + (2 + length name)) t)
+    (visits rows s (at + (2 + length name) + length (value_bytes t)) (elder ++ name ∷ []) is))
+
+-- the first refusal of a first element: its own, else one inside it, else that of the elements behind it
+pub refusal_item : (rows : List Row) (s : Station) (at : ℕ) (elder : List (List ℕ)) (name : List ℕ) (t : Tree) (is : Items)
+    → first_refusal rows (visits rows s at elder (item name t is))
+    ≡ or_else (refusal rows (visit s elder at name t))
+    (or_else (first_refusal rows (visits_in rows (station rows s (entry name t)) (at + (2 + length name)) t))
+    (first_refusal rows (visits rows s (at + (2 + length name) + length (value_bytes t)) (elder ++ name ∷ []) is)))
+refusal_item rows s at elder name t is =
+    ap
+    (or_else (refusal rows (visit s elder at name t)))
+    (refusal_append rows (visits_in rows (station rows s (entry name t)) (at + (2 + length name)) t)
+    (visits rows s (at + (2 + length name) + length (value_bytes t)) (elder ++ name ∷ []) is))
+
+-- with rules, the verdict on the contents of a command is its first refusal
+pub with_rows : (rows : List Row) (c : Items) → 0 < length rows
+    → content_verdict rows c ≡ first_refusal rows (command_visits rows c)
+with_rows [] c h = absurd (omega arith)
+with_rows (row ∷ rows) c h = refl

@@ -74,8 +74,7 @@ abbrev mutual
 abbrev pub shows : List Row → Station → Option Chain → Bool
 shows rows s o = option_map_or (λ links. not (is_below_role rows s links)) o false
 
--- a place with no protected ancestor is seen in the skeleton, and no other one
-
+-- one link of a chain: nothing below a protected value is seen
 pub shows_node : (rows : List Row) (s : Station) (l : Link) (o : Option Chain) (b : Bool) (seen : Option Visit) → has_role (station rows s l.entry) ≡ b
     → shows rows (station rows s l.entry) o ≡ is_some seen
     → shows rows s (option_map (onward l) o) ≡ is_some (cond b None seen)
@@ -111,6 +110,7 @@ seen_node rows s at j place name tag js =
     ap (λ (x : Station). seen_in rows x at j place k) (sym (station_kept rows s name (node tag js)))
     ∙ seen_hidden rows u u at j place tag (length (framed (items_bytes js))) (skeletons rows u js)
 
+-- a place has no protected ancestor exactly where it is seen in the skeleton
 pub shows_seen : (rows : List Row) (s : Station) (at : ℕ) (elder : List (List ℕ)) (i : ℕ) (place : List ℕ) (is : Items)
     → shows rows s (chain_from elder i place is)
     ≡ is_some (seen_from rows s at elder i place (skeletons rows s is))
@@ -127,8 +127,7 @@ shows_seen rows s at elder (suc i) place (item name t is) =
     ∙ ap (λ (n : ℕ). is_some (seen_from rows s (at + (2 + length name) + n) (elder ++ name ∷ []) i place (skeletons rows s is)))
     (sym (width_kept rows (station rows s (entry name t)) t))
 
--- what is read of such a place, behind its veil, is what is seen of it
-
+-- one link of a chain, for what is read of the place
 pub veiled_node : (rows : List Row) (s : Station) (l : Link) (o : Option Chain) (b : Bool) (v seen : Option Visit) → has_role (station rows s l.entry) ≡ b
     → (shows rows (station rows s l.entry) o ≡ true → option_map (veil rows) v ≡ seen)
     → shows rows s (option_map (onward l) o) ≡ true → option_map (veil rows) v ≡ cond b None seen
@@ -138,6 +137,7 @@ veiled_node rows s l (Some links) true v seen h p q =
 veiled_node rows s l (Some links) false v seen h p q =
     p (sym (ap (λ (b : Bool). not (b || is_below_role rows (station rows s l.entry) links)) h) ∙ q)
 
+-- what is read of a place with no protected ancestor, behind its veil, is what is seen of it in the skeleton
 pub veiled_seen : (rows : List Row) (s : Station) (at : ℕ) (elder : List (List ℕ)) (i : ℕ) (place : List ℕ) (is : Items)
     → shows rows s (chain_from elder i place is) ≡ true
     → option_map (veil rows) (visit_from rows s at elder i place is)

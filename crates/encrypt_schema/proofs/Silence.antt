@@ -37,9 +37,11 @@ pub record Alike (rows : List Row) (vs us : List Visit) : Type 0 where
   pub marked : marks rows vs ≡ marks rows us
   pub refused : first_refusal rows vs ≡ first_refusal rows us
 
+-- a list of places is like itself
 pub same : {rows : List Row} {vs : List Visit} → Alike rows vs vs
 same = record { marked = refl; refused = refl }
 
+-- lists of places that are alike, behind lists that are alike
 pub alike_append : (rows : List Row) (vs us xs ys : List Visit) → Alike rows vs us → Alike rows xs ys
     → Alike rows (vs ++ xs) (us ++ ys)
 alike_append rows vs us xs ys p q =
@@ -53,6 +55,7 @@ alike_append rows vs us xs ys p q =
     let qr = q.refused in
     record { marked = cc; refused = cc }
 
+-- the same place before lists that are alike
 pub alike_cons : (rows : List Row) (v : Visit) (vs us : List Visit) → Alike rows vs us
     → Alike rows (v ∷ vs) (v ∷ us)
 alike_cons rows v vs us p = record {
@@ -111,6 +114,12 @@ pub silent : (rows : List Row) (s : Station) (at : ℕ) (elder : List (List ℕ)
     → (marks rows (visits rows s at elder is) ≡ []) × (first_refusal rows (visits rows s at elder is) ≡ None)
 silent rows s at elder is h = let a = silent_among rows s at elder is h in (a.marked, a.refused)
 
+-- nor inside one value
+pub silent_inside : (rows : List Row) (s : Station) (at : ℕ) (t : Tree) → is_silent s ≡ true
+    → (marks rows (visits_in rows s at t) ≡ []) × (first_refusal rows (visits_in rows s at t) ≡ None)
+silent_inside rows s at t h = let a = silent_in rows s at t h in (a.marked, a.refused)
+
+-- a protected value isn't looked into
 pub role_silent : (s : Station) → has_role s ≡ true → is_silent s ≡ true
 role_silent (Store i) h = refl
 role_silent (Compare i) h = refl

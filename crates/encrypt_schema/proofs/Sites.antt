@@ -24,6 +24,7 @@ use Rattle.encrypt_schema.proofs.ByPlace.{next, visit_from, visit_below, places_
 abbrev pub site_first : Site → Site
 site_first x = record x { place = 0 ∷ x.place }
 
+-- the same behind the first element
 abbrev pub site_next : Site → Site
 site_next x = record x { place = next x.place }
 
@@ -151,6 +152,7 @@ visit_next : (rows : List Row) (place : List ℕ) (o : Option Visit)
 visit_next rows place None = refl
 visit_next rows place (Some v) = at_next place (station_of rows v)
 
+-- the site of a place below elements
 abbrev pub site_below : Option Visit → List Row → Station → ℕ → List (List ℕ) → Items → List ℕ → List Site
 site_below o rows s at elder is place = site_visit rows place (visit_below o rows s at elder is place)
 

@@ -20,9 +20,11 @@ without e = record e { names = []; raw = [] }
 pub record Plain (s : Station) : Type 0 where
   pub no : has_role s ≡ false
 
+-- a station that isn't protected, by its definition
 pub no_role : {s : Station} → has_role s ≡ false → Plain s
 no_role e = record { no = e }
 
+-- a choice of two that aren't
 pub plain_cond : (b : Bool) {x y : Station} → Plain x → Plain y → Plain (cond b x y)
 plain_cond true p q = p
 plain_cond false p q = q
@@ -31,9 +33,11 @@ plain_cond false p q = q
 pub record Kept {X : Type 0} (s : Station) (a b : X) : Type 0 where
   pub kept : has_role s ≡ true → a ≡ b
 
+-- a value is one with itself
 pub one : {X : Type 0} {s : Station} {a : X} → Kept s a a
 one = record { kept = λ _. refl }
 
+-- where nothing is protected there is nothing to show
 pub none : {X : Type 0} {s : Station} {a b : X} → Plain s → Kept s a b
 none p = record { kept = λ h. absurd (false≢true (sym p.no ∙ h)) }
 
@@ -49,6 +53,7 @@ pub test : {X : Type 0} (t : Bool) {x y : Station} {a b c d : X} → Kept x a b 
 test true p q = p
 test false p q = q
 
+-- a command is not protected itself
 pub command_plain : (names : List (List ℕ)) → Plain (command_of names)
 command_plain [] = no_role refl
 command_plain (n ∷ ns) =

@@ -8,9 +8,11 @@ use Rattle.encrypt_schema.specs.Visits.{names_of, is_payload, entry}
 use Rattle.encrypt_schema.specs.Skeletons.{Skeleton, hole, plain, branch, Skeletons, no_more, more, skeleton_in, skeletons, width_of, widths_of}
 use Rattle.encrypt_schema.proofs.Tables.{without, station_without}
 
+-- a document: four bytes of length, its elements, 00
 pub framed_length : (bs : List ℕ) → length (framed bs) ≡ length bs + 5
 framed_length bs = simp length-append (omega arith)
 
+-- an element: a type byte, a name, 00, a value
 pub items_length : (name : List ℕ) (t : Tree) (is : Items)
     → length (items_bytes (item name t is))
     ≡ 2 + length name + length (value_bytes t) + length (items_bytes is)
@@ -30,6 +32,7 @@ entry_in name (plain tag bytes) =
 entry_in name (branch tag ks) =
     record { name = name; tag = tag; names = names_in ks; raw = []; payload = false }
 
+-- skeletons keep the names of elements
 pub names_kept : (rows : List Row) (s : Station) (is : Items) → names_in (skeletons rows s is) ≡ names_of is
 names_kept rows s no_items = refl
 names_kept rows s (item name t is) = ap (λ (ns : List (List ℕ)). name ∷ ns) (names_kept rows s is)

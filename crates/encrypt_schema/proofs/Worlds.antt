@@ -24,6 +24,7 @@ abbrev mutual
       ∷ (shown_in rows (station rows s (entry name t)) (at + (2 + length name)) t
       ++ shown rows s (at + (2 + length name) + length (value_bytes t)) (elder ++ name ∷ []) is)
 
+-- those of a command
 abbrev pub command_shown : List Row → Items → List Visit
 command_shown rows c = command_visit c ∷ shown rows (station rows Outside (command_entry c)) 4 [] c
 
@@ -45,6 +46,7 @@ abbrev mutual
       ∷ (seen_in rows (station rows s (entry_in name k)) (at + (2 + length name)) k
       ++ seen rows s (at + (2 + length name) + width_of k) (elder ++ name ∷ []) ks)
 
+-- the same places of a command, read from its skeleton
 abbrev pub command_seen : List Row → Skeletons → List Visit
 command_seen rows ks =
     record { parent = Outside; elder = []; entry = entry_in [] (branch 3 ks); start = 0; width = widths_of ks + 5 }
@@ -58,6 +60,7 @@ map_append : (f : Visit → Visit) (xs ys : List Visit) → map f (xs ++ ys) ≡
 map_append f [] ys = refl
 map_append f (x ∷ xs) ys = ap (λ (zs : List Visit). f x ∷ zs) (map_append f xs ys)
 
+-- a place behind its veil is read from its value's skeleton
 pub visit_kept : (rows : List Row) (s : Station) (elder : List (List ℕ)) (at : ℕ) (name : List ℕ) (t : Tree)
     → veil rows (visit s elder at name t)
     ≡ skeleton_visit s elder at name (skeleton_in rows (station rows s (entry name t)) t)
@@ -112,8 +115,6 @@ command_kept rows c =
     ∙ ap (λ (n : ℕ). record { parent = Outside; elder = []; entry = entry_in [] (branch 3 (skeletons rows u c)); start = 0; width = n }) (sym w) in
     cc
 
--- what is read of a place is read of it behind its veil
-
 mark_without : (s : Station) (v : Visit) → mark_at s (record v { entry = without v.entry }) ≡ mark_at s v
 mark_without (Store i) v = refl
 mark_without (Compare i) v = refl
@@ -125,6 +126,7 @@ mark_veiled rows v true h =
     ap (λ (s : Station). mark_at s (record v { entry = without v.entry })) (station_without rows v.parent v.entry h) ∙ mark_without (station_of rows v) v
 mark_veiled rows v false h = refl
 
+-- the marks of places are read behind their veils
 pub marks_veiled : (rows : List Row) (vs : List Visit) → marks rows (map (veil rows) vs) ≡ marks rows vs
 marks_veiled rows [] = refl
 marks_veiled rows (v ∷ vs) =
@@ -136,6 +138,7 @@ unfolding offence
 offence_by rows v true h = ap least (reasons_without rows v.parent v.elder v.entry h)
 offence_by rows v false h = refl
 
+-- the offence of a place is read behind its veil
 pub offence_veiled : (rows : List Row) (v : Visit) → offence_of rows (veil rows v) ≡ offence_of rows v
 offence_veiled rows v = offence_by rows v (has_role (station_of rows v)) refl
 
@@ -144,10 +147,12 @@ pub record Judged : Type 0 where
   pub at : ℕ
   pub reason : Option Reason
 
+-- what is said of places, in order
 abbrev pub judged : List Row → List Visit → List Judged
 judged rows [] = []
 judged rows (v ∷ vs) = record { at = v.start; reason = offence_of rows v } ∷ judged rows vs
 
+-- what is said of places is read behind their veils
 pub judged_veiled : (rows : List Row) (vs : List Visit) → judged rows (map (veil rows) vs) ≡ judged rows vs
 judged_veiled rows [] = refl
 judged_veiled rows (v ∷ vs) = let a = offence_veiled rows v in let b = judged_veiled rows vs in cc
@@ -157,6 +162,7 @@ abbrev pub first_said : List Judged → Option Refusal
 first_said [] = None
 first_said (j ∷ js) = or_else (refused_at j.at j.reason) (first_said js)
 
+-- the first refusal is that of what is said
 pub said_first : (rows : List Row) (vs : List Visit) → first_said (judged rows vs) ≡ first_refusal rows vs
 said_first rows [] = refl
 said_first rows (v ∷ vs) = ap (or_else (refusal rows v)) (said_first rows vs)

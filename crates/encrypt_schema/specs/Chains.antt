@@ -24,6 +24,7 @@ pub data Chain : Type 0 where
   last : Link → Chain
   onward : Link → Chain → Chain
 
+-- the link of a value with a name behind these elder siblings
 abbrev pub link : List (List ℕ) → List ℕ → Tree → Link
 link elder name t = record { elder = elder; entry = entry name t }
 

@@ -37,6 +37,7 @@ stored_under policy e =
     when (is_never_allowed e.tag || not (has_type policy.types e.tag)) TypeNotAllowed
     ++ when e.payload AlreadyEncrypted
 
+-- the same under the rule of a number
 abbrev pub stored : List Row → ℕ → Entry → List Reason
 stored rows i e = stored_under (policy_at i rows) e
 

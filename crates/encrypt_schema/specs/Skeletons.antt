@@ -19,8 +19,8 @@ mutual
     no_more : Skeletons
     more : List ℕ → Skeleton → Skeletons → Skeletons
 
--- a value of this station, with a hole at each protected one: its type byte, the length of its bytes, whether it
--- is a binary of subtype 06
+-- a value of this station, with a hole at each protected one: its type byte, the length of its bytes, whether
+-- it is a binary of subtype 06
 abbrev mutual
   pub skeleton_in : List Row → Station → Tree → Skeleton
   skeleton_in rows s (leaf tag bytes) =

@@ -62,9 +62,11 @@ pub data Station : Type 0 where
   -- a value that isn't looked into
   Passed : Station
 
+-- a document
 abbrev pub is_document : Entry → Bool
 is_document e = e.tag == 3
 
+-- an array
 abbrev pub is_array : Entry → Bool
 is_array e = e.tag == 4
 

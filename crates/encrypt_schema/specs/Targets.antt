@@ -28,9 +28,11 @@ passed_names =
     ∷ codes "abortTransaction"
     ∷ []
 
+-- a command whose values are protected
 unfoldable pub is_marked : List ℕ → Bool
 is_marked name = is_among name marked_names
 
+-- a command that passes unchanged
 unfoldable pub is_passed : List ℕ → Bool
 is_passed name = is_among name passed_names
 
@@ -54,6 +56,7 @@ command_fields at (item name t is) =
 abbrev pub is_string : Entry → Bool
 is_string e = e.tag == 2
 
+-- the empty text
 abbrev pub is_empty : List ℕ → Bool
 is_empty [] = true
 is_empty (byte ∷ bytes) = false
@@ -92,6 +95,7 @@ named_by collections [] = None
 named_by collections (field ∷ fields) =
     if is_string field.entry then collection_of collections (text_of field.entry.raw) else None
 
+-- the collection is a view
 abbrev pub is_view : Option Collection → Bool
 is_view None = false
 is_view (Some collection) = collection.view

@@ -25,6 +25,7 @@ raw_of (node tag is) = []
 unfoldable pub is_payload : ℕ → List ℕ → Bool
 is_payload tag bytes = tag == 5 && slice_index bytes 4 == 6
 
+-- a value that is a binary of subtype 06
 abbrev pub holds_payload : Tree → Bool
 holds_payload (leaf tag bytes) = is_payload tag bytes
 holds_payload (node tag is) = false
@@ -43,8 +44,8 @@ entry name t = record {
 abbrev pub command_entry : Items → Entry
 command_entry c = entry [] (node 3 c)
 
--- a place: its parent's station, the names of its elder siblings, what is looked at of it, the offset at which
--- its value begins, and the length of its value
+-- a place: its parent's station, the names of its elder siblings, what is looked at of it, the offset at
+-- which its value begins, and the length of its value
 pub record Visit : Type 0 where
   pub parent : Station
   pub elder : List (List ℕ)
@@ -123,6 +124,7 @@ pub record Refusal : Type 0 where
   pub reason : Reason
   pub at : ℕ
 
+-- a refusal at an offset, where there is a reason
 abbrev pub refused_at : ℕ → Option Reason → Option Refusal
 refused_at at None = None
 refused_at at (Some reason) = Some (record { reason = reason; at = at })
