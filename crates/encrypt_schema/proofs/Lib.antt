@@ -15,5 +15,6 @@ pub mod ShownPlaces
 pub mod EqualOffences
 pub mod Blanks
 pub mod Sites
+pub mod EqualPlaces
 pub mod Parts
 pub mod Unmarked

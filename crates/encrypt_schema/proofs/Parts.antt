@@ -30,7 +30,7 @@ visits_join rows s at elder (item name t is) js =
     let b : behind + length (items_bytes is) ≡ at + length (items_bytes (item name t is)) = omega (arith, items_length name t is) in
     let c : (elder ++ name ∷ []) ++ names_of is ≡ elder ++ (name ∷ names_of is) = append_assoc elder (name ∷ []) (names_of is) in
     let d : visits rows s behind (elder ++ name ∷ []) (join is js)
-        ≡ visits rows s behind (elder ++ name ∷ []) is ++ visits rows s (at + length (items_bytes (item name t is))) (elder ++ (name ∷ names_of is)) js
+    ≡ visits rows s behind (elder ++ name ∷ []) is ++ visits rows s (at + length (items_bytes (item name t is))) (elder ++ (name ∷ names_of is)) js
     = a
     ∙ (ap (λ (n : ℕ). visits rows s behind (elder ++ name ∷ []) is ++ visits rows s n ((elder ++ name ∷ []) ++ names_of is) js) b
     ∙ ap (λ (ns : List (List ℕ)). visits rows s behind (elder ++ name ∷ []) is ++ visits rows s (at + length (items_bytes (item name t is))) ns js) c) in
