@@ -20,3 +20,10 @@ pub mod Spots
 pub mod Parts
 pub mod Places
 pub mod Cursors
+pub mod Policies
+pub mod Stations
+pub mod Offences
+pub mod Visits
+pub mod Targets
+pub mod Skeletons
+pub mod Chains

@@ -1,10 +1,5 @@
 -- The path was reached, and its spot has the rule.
-<<<<<<< HEAD
-use Rattle.std.proofs.Common.{◌≤◌, ◌≡◌, ◌<◌, ◌++◌, ◌∷◌, [], ℕ, List, length, ◌==◌, Bor, arith, sym, ap, subst, ◌∙◌, rules}
-use Rattle.encrypt_schema.specs.declared.rows.Rule.{Rule}
-=======
-use Rattle.std.proofs.Common.{◌≡◌, ◌++◌, ◌∷◌, [], ℕ, List, length, ◌==◌, Bor, arith, sym, ap, subst, ◌∙◌, rules}
->>>>>>> 7afe1ab56f0ea43d212ff286e325b6356173f841
+use Rattle.std.proofs.Common.{◌≤◌, ◌≡◌, ◌++◌, ◌∷◌, [], ℕ, List, length, ◌==◌, Bor, arith, sym, ap, subst, ◌∙◌, rules}
 use Rattle.encrypt_schema.specs.Classes.{number_of}
 use Rattle.encrypt_schema.specs.Trees.{or_number}
 use Rattle.encrypt_schema.specs.Borrowed.{names}

@@ -1,0 +1,110 @@
+-- The definitions on which command it is, on which database and collection, by computation.
+use Rattle.std.proofs.Common.{◌≡◌, [], codes, refl}
+use Rattle.std.specs.Prelude.{None}
+use Rattle.bson_tree.specs.Tree.{Items, node, item, no_items}
+use Rattle.encrypt_schema.specs.declared.reason.Reason.TheVariants.{NotACommand, BadField, WrongDb, View}
+use Rattle.encrypt_schema.specs.Names.{named}
+use Rattle.encrypt_schema.specs.Targets.{is_db, is_marked, is_passed, rows_of, target, verdict}
+use Rattle.encrypt_schema.proofs.Examples.{text, int, empty, one, insert_into, refusal, collections}
+
+-- aggregate people, refused at 0
+abbrev pub aggregate : Items
+aggregate =
+    item (codes "aggregate") (text (codes "people")) (item (codes "pipeline") (node 4 no_items) (one (codes "cursor") empty))
+
+pub aggregate_refused : target (codes "hr") collections aggregate ≡ refusal NotACommand 15
+unfolding is_marked is_passed named target
+aggregate_refused = refl
+
+-- the empty document, refused at the command
+abbrev pub nothing : Items
+nothing = no_items
+
+pub nothing_refused : target (codes "hr") collections nothing ≡ refusal NotACommand 0
+unfolding target
+nothing_refused = refl
+
+-- find 1, refused at 0
+abbrev pub no_name : Items
+no_name = item (codes "find") (int 1) (one (codes "$db") (text (codes "hr")))
+
+pub no_name_refused : target (codes "hr") collections no_name ≡ refusal BadField 10
+unfolding is_marked is_passed named target
+no_name_refused = refl
+
+-- find "", refused at 0
+abbrev pub empty_name : Items
+empty_name = item (codes "find") (text []) (one (codes "$db") (text (codes "hr")))
+
+pub empty_name_refused : target (codes "hr") collections empty_name ≡ refusal BadField 10
+unfolding is_marked is_passed named target
+empty_name_refused = refl
+
+-- find people with `find` twice, refused at 1
+abbrev pub command_twice : Items
+command_twice =
+    item (codes "find") (text (codes "people")) (item (codes "find") (text (codes "people")) (one (codes "$db") (text (codes "hr"))))
+
+pub command_twice_refused : target (codes "hr") collections command_twice ≡ refusal BadField 27
+unfolding is_db is_marked is_passed named target
+command_twice_refused = refl
+
+-- insert people with `$db` "x", refused at 2
+abbrev pub other_database : Items
+other_database =
+    item (codes "insert") (text (codes "people")) (item (codes "documents") (node 4 no_items) (one (codes "$db") (text (codes "x"))))
+
+pub other_database_refused : target (codes "hr") collections other_database ≡ refusal WrongDb 44
+unfolding is_db is_marked is_passed named target
+other_database_refused = refl
+
+-- insert people with `$db` twice, refused at 3
+abbrev pub database_twice : Items
+database_twice =
+    item (codes "insert") (text (codes "people")) (item (codes "documents") (node 4 no_items) (item (codes "$db") (text (codes "hr")) (one (codes "$db") (text (codes "hr")))))
+
+pub database_twice_refused : target (codes "hr") collections database_twice ≡ refusal BadField 56
+unfolding is_db is_marked is_passed named target
+database_twice_refused = refl
+
+-- insert people with `$db` 1, refused at 2
+abbrev pub no_database : Items
+no_database =
+    item (codes "insert") (text (codes "people")) (item (codes "documents") (node 4 no_items) (one (codes "$db") (int 1)))
+
+pub no_database_refused : target (codes "hr") collections no_database ≡ refusal BadField 44
+unfolding is_db is_marked is_passed named target
+no_database_refused = refl
+
+-- insert v {p: 1}, refused at 0
+abbrev pub view_named : Items
+view_named = insert_into (text (codes "v")) (node 3 (one (codes "p") (int 1)))
+
+pub view_named_refused : target (codes "hr") collections view_named ≡ refusal View 12
+unfolding is_db is_marked is_passed named target
+view_named_refused = refl
+
+-- insert v with `$db` "x", refused at 2
+abbrev pub view_elsewhere : Items
+view_elsewhere =
+    item (codes "insert") (text (codes "v")) (item (codes "documents") (node 4 no_items) (one (codes "$db") (text (codes "x"))))
+
+pub view_elsewhere_refused : target (codes "hr") collections view_elsewhere ≡ refusal WrongDb 39
+unfolding is_db is_marked is_passed named target
+view_elsewhere_refused = refl
+
+-- {ping: 1, $db: "admin"}
+abbrev pub ping : Items
+ping = item (codes "ping") (int 1) (one (codes "$db") (text (codes "admin")))
+
+pub ping_accepted : verdict (codes "hr") collections ping ≡ None
+unfolding is_passed named rows_of target
+ping_accepted = refl
+
+-- insert unknown {ssn: "x"}
+abbrev pub unknown : Items
+unknown = insert_into (text (codes "unknown")) (node 3 (one (codes "ssn") (text (codes "x"))))
+
+pub unknown_accepted : verdict (codes "hr") collections unknown ≡ None
+unfolding is_db is_marked is_passed named rows_of target
+unknown_accepted = refl
