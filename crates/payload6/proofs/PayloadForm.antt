@@ -1,0 +1,63 @@
+-- Payloads taken apart, and put together again.
+use Rattle.std.proofs.Common.{◌≡◌, ◌∙◌, ℕ, ◌+◌, ◌*◌, ◌/◌, ◌<◌, List, [], ◌∷◌, ◌++◌, length, take, drop, arith, ap, sym, subst, refl}
+use Rattle.std.proofs.lemmas.List.{drop_at, take_at, length-append}
+use Rattle.encrypt_schema.specs.declared.policy.Algorithm.{Algorithm}
+use Rattle.fle_aead.specs.Sealed.{IsSealed}
+use Rattle.fle_aead.proofs.SealedForm.{sealed-iv, sealed-length}
+use Rattle.payload6.specs.Payload.{algorithm_number, head, payload_iv, IsPayload, IsSealedPayload, IsVector}
+
+pub head-size : (kind : ℕ) (id : List ℕ) (type : ℕ) → length id ≡ 16 → length (head kind id type) ≡ 18
+head-size kind id type long = omega (arith, length-append id (type ∷ []), long)
+
+-- what is sealed behind a head is a payload
+pub payload_from : (kind : ℕ) (id key : List ℕ) (type : ℕ) (iv p h c : List ℕ) → length id ≡ 16 → h ≡ head kind id type
+    → IsSealed key h iv p c → IsSealedPayload kind id key type iv p (h ++ c)
+payload_from kind id key type iv p h c long is s = record {
+  sealed = c;
+  id_size = long;
+  parts = ap (λ (x : List ℕ). x ++ c) is;
+  message = subst (λ (a : List ℕ). IsSealed key a iv p c) is s;
+}
+
+pub behind-head : (kind : ℕ) (id key : List ℕ) (type : ℕ) (iv p bytes : List ℕ) (s : IsSealedPayload kind id key type iv p bytes)
+    → drop 18 bytes ≡ s.sealed
+behind-head kind id key type iv p bytes s =
+    ap (drop 18) s.parts ∙ drop_at (head kind id type) s.sealed 18 (head-size kind id type s.id_size)
+
+pub before-sealed : (kind : ℕ) (id key : List ℕ) (type : ℕ) (iv p bytes : List ℕ) → IsSealedPayload kind id key type iv p bytes
+    → take 18 bytes ≡ head kind id type
+before-sealed kind id key type iv p bytes s =
+    ap (take 18) s.parts ∙ take_at (head kind id type) s.sealed 18 (head-size kind id type s.id_size)
+
+-- the message that is sealed behind the head
+pub message_in : (kind : ℕ) (id key : List ℕ) (type : ℕ) (iv p h c : List ℕ) → length id ≡ 16 → h ≡ head kind id type
+    → IsSealedPayload kind id key type iv p (h ++ c) → IsSealed key h iv p c
+message_in kind id key type iv p h c long is s =
+    let size : length h ≡ 18 = ap length is ∙ head-size kind id type long in
+    let same : s.sealed ≡ c = sym (behind-head kind id key type iv p (h ++ c) s) ∙ drop_at h c 18 size in
+    subst (λ (a : List ℕ). IsSealed key a iv p c) (sym is)
+    (subst (λ (x : List ℕ). IsSealed key (head kind id type) iv p x) same s.message)
+
+-- bytes 18 to 33 are the vector
+pub vector_is : (kind : ℕ) (id key : List ℕ) (type : ℕ) (iv p bytes : List ℕ) → IsSealedPayload kind id key type iv p bytes
+    → payload_iv bytes ≡ iv
+vector_is kind id key type iv p bytes s =
+    ap (take 16) (behind-head kind id key type iv p bytes s) ∙ sealed-iv key (head kind id type) iv p s.sealed s.message
+
+pub payload_of : (algorithm : Algorithm) (kind : ℕ) (id key : List ℕ) (type : ℕ) (iv p bytes : List ℕ)
+    → IsSealedPayload kind id key type iv p bytes → kind ≡ algorithm_number algorithm
+    → IsVector algorithm key (head kind id type) p iv → IsPayload algorithm id key type p bytes
+payload_of algorithm kind id key type iv p bytes s is v =
+    let vector : iv ≡ payload_iv bytes = sym (vector_is kind id key type iv p bytes s) in record {
+      form = subst (λ (k : ℕ). IsSealedPayload k id key type (payload_iv bytes) p bytes) is
+          (subst (λ (x : List ℕ). IsSealedPayload kind id key type x p bytes) vector s);
+      vector = subst (λ (k : ℕ). IsVector algorithm key (head k id type) p (payload_iv bytes)) is
+          (subst (λ (x : List ℕ). IsVector algorithm key (head kind id type) p x) vector v);
+    }
+
+-- a payload has 18 bytes more than what is sealed
+pub payload-length : (kind : ℕ) (id key : List ℕ) (type : ℕ) (iv p bytes : List ℕ) → IsSealedPayload kind id key type iv p bytes
+    → length bytes ≡ 66 + 16 * (length p / 16 + 1)
+payload-length kind id key type iv p bytes s =
+    ap length s.parts ∙ omega (arith, length-append (head kind id type) s.sealed, head-size kind id type s.id_size,
+    sealed-length key (head kind id type) iv p s.sealed s.message)
