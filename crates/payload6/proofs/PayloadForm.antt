@@ -1,10 +1,11 @@
 -- Payloads taken apart, and put together again.
-use Rattle.std.proofs.Common.{◌≡◌, ◌∙◌, ℕ, ◌+◌, ◌*◌, ◌/◌, ◌<◌, List, [], ◌∷◌, ◌++◌, length, take, drop, arith, ap, sym, subst, refl}
+use Rattle.std.proofs.Common.{◌≡◌, ◌∙◌, ℕ, ◌+◌, ◌*◌, ◌/◌, ◌<◌, List, [], ◌∷◌, ◌++◌, length, get_or, take, drop, arith, ap, sym, subst, refl}
 use Rattle.std.proofs.lemmas.List.{drop_at, take_at, length-append}
 use Rattle.encrypt_schema.specs.declared.policy.Algorithm.{Algorithm}
-use Rattle.fle_aead.specs.Sealed.{IsSealed}
-use Rattle.fle_aead.proofs.SealedForm.{sealed-iv, sealed-length}
-use Rattle.payload6.specs.Payload.{algorithm_number, head, payload_iv, IsPayload, IsSealedPayload, IsVector}
+use Rattle.encrypt_schema.specs.declared.policy.Algorithm.TheVariants.{Deterministic, Random}
+use Rattle.fle_aead.specs.Sealed.{body, tag, IsSealed}
+use Rattle.fle_aead.proofs.SealedForm.{sealed-determines, sealed-iv, sealed-length}
+use Rattle.payload6.specs.Payload.{algorithm_number, head, payload_iv, HasKind, IsKind, IsPayload, IsPayloadLength, IsSealedPayload, IsVector}
 
 pub head-size : (kind : ℕ) (id : List ℕ) (type : ℕ) → length id ≡ 16 → length (head kind id type) ≡ 18
 head-size kind id type long = omega (arith, length-append id (type ∷ []), long)
@@ -61,3 +62,52 @@ pub payload-length : (kind : ℕ) (id key : List ℕ) (type : ℕ) (iv p bytes :
 payload-length kind id key type iv p bytes s =
     ap length s.parts ∙ omega (arith, length-append (head kind id type) s.sealed, head-size kind id type s.id_size,
     sealed-length key (head kind id type) iv p s.sealed s.message)
+
+-- ---- laws
+
+number-is_kind : (algorithm : Algorithm) → IsKind (algorithm_number algorithm)
+number-is_kind Deterministic = (omega arith, omega arith)
+number-is_kind Random = (omega arith, omega arith)
+
+pub has-kind : (algorithm : Algorithm) (id key : List ℕ) (type : ℕ) (p bytes : List ℕ) → IsPayload algorithm id key type p bytes → HasKind bytes
+has-kind algorithm id key type p bytes s = subst HasKind (sym s.form.parts) (number-is_kind algorithm)
+
+pub has-length : (algorithm : Algorithm) (id key : List ℕ) (type : ℕ) (p bytes : List ℕ) → IsPayload algorithm id key type p bytes
+    → IsPayloadLength (length bytes)
+has-length algorithm id key type p bytes s =
+    (length p / 16 + 1, omega arith, payload-length (algorithm_number algorithm) id key type (payload_iv bytes) p bytes s.form)
+
+-- the parts of a head
+head-determines : (kind kind' : ℕ) (id id' : List ℕ) (type type' : ℕ) → length id ≡ 16 → length id' ≡ 16
+    → head kind id type ≡ head kind' id' type' → (kind ≡ kind') × (id ≡ id') × (type ≡ type')
+head-determines kind kind' id id' type type' long long' same =
+    let rest : id ++ type ∷ [] ≡ id' ++ type' ∷ [] = ap (drop 1) same in (
+      ap (λ (x : List ℕ). get_or x 0 0) same,
+      sym (take_at id (type ∷ []) 16 long) ∙ ap (take 16) rest ∙ take_at id' (type' ∷ []) 16 long',
+      ap (λ (x : List ℕ). get_or x 0 0) (sym (drop_at id (type ∷ []) 16 long) ∙ ap (drop 16) rest ∙ drop_at id' (type' ∷ []) 16 long'),
+    )
+
+pub payload-determines : (kind kind' : ℕ) (id id' key : List ℕ) (type type' : ℕ) (iv iv' p p' bytes : List ℕ)
+    → IsSealedPayload kind id key type iv p bytes → IsSealedPayload kind' id' key type' iv' p' bytes
+    → (kind ≡ kind') × (id ≡ id') × (type ≡ type') × (iv ≡ iv') × (p ≡ p')
+payload-determines kind kind' id id' key type type' iv iv' p p' bytes s t =
+    let heads : head kind id type ≡ head kind' id' type' =
+    sym (before-sealed kind id key type iv p bytes s) ∙ before-sealed kind' id' key type' iv' p' bytes t in
+    let same : s.sealed ≡ t.sealed =
+    sym (behind-head kind id key type iv p bytes s) ∙ behind-head kind' id' key type' iv' p' bytes t in
+    let message : IsSealed key (head kind id type) iv' p' s.sealed =
+    subst (λ (a : List ℕ). IsSealed key a iv' p' s.sealed) (sym heads)
+    (subst (λ (x : List ℕ). IsSealed key (head kind' id' type') iv' p' x) (sym same) t.message) in
+    let parts = head-determines kind kind' id id' type type' s.id_size t.id_size heads in
+    let inside = sealed-determines key (head kind id type) iv p iv' p' s.sealed s.message message in
+    (parts.0, parts.1, parts.2, inside.0, inside.1)
+
+-- equal plain texts have equal deterministic payloads
+pub equal-payloads : (id key : List ℕ) (type : ℕ) (p bytes bytes' : List ℕ) → IsPayload Deterministic id key type p bytes
+    → IsPayload Deterministic id key type p bytes' → bytes ≡ bytes'
+equal-payloads id key type p bytes bytes' s t =
+    let a : List ℕ = head 1 id type in
+    let same : payload_iv bytes ≡ payload_iv bytes' = s.vector ∙ sym t.vector in
+    let sealed : s.form.sealed ≡ t.form.sealed =
+    s.form.message.form ∙ ap (λ (iv : List ℕ). body key iv p ++ tag key a (body key iv p)) same ∙ sym t.form.message.form in
+    s.form.parts ∙ ap (λ (x : List ℕ). a ++ x) sealed ∙ sym t.form.parts
