@@ -1,9 +1,9 @@
 -- Payloads taken apart, and put together again.
-use Rattle.std.proofs.Common.{◌≡◌, ◌∙◌, ℕ, ◌+◌, ◌*◌, ◌/◌, ◌<◌, List, [], ◌∷◌, ◌++◌, length, get_or, take, drop, arith, ap, sym, subst, refl}
+use Rattle.std.proofs.Common.{◌≡◌, ◌∙◌, ℕ, ◌+◌, ◌-◌, ◌*◌, ◌/◌, ◌%◌, ◌<◌, List, [], ◌∷◌, ◌++◌, length, get_or, take, drop, arith, ap, sym, subst, refl}
 use Rattle.std.proofs.lemmas.List.{drop_at, take_at, length-append}
 use Rattle.encrypt_schema.specs.declared.policy.Algorithm.{Algorithm}
 use Rattle.encrypt_schema.specs.declared.policy.Algorithm.TheVariants.{Deterministic, Random}
-use Rattle.fle_aead.specs.Sealed.{body, tag, IsSealed}
+use Rattle.fle_aead.specs.Sealed.{body, tag, IsSealed, IsSealedLength}
 use Rattle.fle_aead.proofs.SealedForm.{sealed-determines, sealed-iv, sealed-length}
 use Rattle.payload6.specs.Payload.{algorithm_number, head, payload_iv, HasKind, IsKind, IsPayload, IsPayloadLength, IsSealedPayload, IsVector}
 
@@ -111,3 +111,17 @@ equal-payloads id key type p bytes bytes' s t =
     let sealed : s.form.sealed ≡ t.form.sealed =
     s.form.message.form ∙ ap (λ (iv : List ℕ). body key iv p ++ tag key a (body key iv p)) same ∙ sym t.form.message.form in
     s.form.parts ∙ ap (λ (x : List ℕ). a ++ x) sealed ∙ sym t.form.parts
+
+-- ---- opening
+
+-- a message is shorter than what it is sealed to
+pub shorter : (key a iv p c : List ℕ) → IsSealed key a iv p c → length p < length c
+shorter key a iv p c s = omega (arith, sealed-length key a iv p c s)
+
+-- a length that isn't right is no payload's
+pub blocks-of : (n : ℕ) → 48 < n → n % 16 ≡ 0 → IsSealedLength n
+blocks-of n some whole = (n / 16 - 3, omega arith, omega arith)
+
+-- the message found is the one that was sealed
+pub found-is : (key a iv p iv' p' c : List ℕ) → IsSealed key a iv p c → IsSealed key a iv' p' c → p ≡ p'
+found-is key a iv p iv' p' c s t = (sealed-determines key a iv p iv' p' c s t).1
