@@ -60,8 +60,12 @@ payload_of algorithm kind id key type iv p bytes s is v =
 pub payload-length : (kind : ℕ) (id key : List ℕ) (type : ℕ) (iv p bytes : List ℕ) → IsSealedPayload kind id key type iv p bytes
     → length bytes ≡ 66 + 16 * (length p / 16 + 1)
 payload-length kind id key type iv p bytes s =
-    ap length s.parts ∙ omega (arith, length-append (head kind id type) s.sealed, head-size kind id type s.id_size,
-    sealed-length key (head kind id type) iv p s.sealed s.message)
+    ap length s.parts ∙ omega (
+      arith,
+      length-append (head kind id type) s.sealed,
+      head-size kind id type s.id_size,
+      sealed-length key (head kind id type) iv p s.sealed s.message,
+    )
 
 -- ---- laws
 
@@ -86,6 +90,16 @@ head-determines kind kind' id id' type type' long long' same =
       sym (take_at id (type ∷ []) 16 long) ∙ ap (take 16) rest ∙ take_at id' (type' ∷ []) 16 long',
       ap (λ (x : List ℕ). get_or x 0 0) (sym (drop_at id (type ∷ []) 16 long) ∙ ap (drop 16) rest ∙ drop_at id' (type' ∷ []) 16 long'),
     )
+
+-- bytes are parted in one way
+pub parted-once : (kind kind' : ℕ) (id id' : List ℕ) (type type' : ℕ) (c c' : List ℕ) → length id ≡ 16 → length id' ≡ 16
+    → head kind id type ++ c ≡ head kind' id' type' ++ c' → (kind ≡ kind') × (id ≡ id') × (type ≡ type') × (c ≡ c')
+parted-once kind kind' id id' type type' c c' long long' same =
+    let size = head-size kind id type long in
+    let size' = head-size kind' id' type' long' in
+    let heads = head-determines kind kind' id id' type type' long long'
+    (sym (take_at (head kind id type) c 18 size) ∙ ap (take 18) same ∙ take_at (head kind' id' type') c' 18 size') in
+    (heads.0, heads.1, heads.2, sym (drop_at (head kind id type) c 18 size) ∙ ap (drop 18) same ∙ drop_at (head kind' id' type') c' 18 size')
 
 pub payload-determines : (kind kind' : ℕ) (id id' key : List ℕ) (type type' : ℕ) (iv iv' p p' bytes : List ℕ)
     → IsSealedPayload kind id key type iv p bytes → IsSealedPayload kind' id' key type' iv' p' bytes

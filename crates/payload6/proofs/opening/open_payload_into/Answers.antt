@@ -56,7 +56,7 @@ pub returns-then-is_original-clause-plain : goal.returns-then-is_original-clause
 returns-then-is_original-clause-plain g c = (
   λ e. absurd cc,
   λ w. absurd (w.not_original (subst (λ (p : List ℕ). IsOriginal c.args.levels c.args.payload.now.tag p)
-  (found-is _ _ _ _ _ _ _ c.in-Ok.ensures.ok w.sealed) (c.if-is_original.ensures.0 refl))),
+      (found-is _ _ _ _ _ _ _ c.in-Ok.ensures.ok w.sealed) (c.if-is_original.ensures.0 refl))),
 )
 
 pub returns-else-is_original-clause-opens : goal.returns-else-is_original-clause-opens
