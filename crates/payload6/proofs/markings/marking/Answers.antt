@@ -1,4 +1,4 @@
-use Rattle.std.proofs.Common.{◌≡◌, ◌+◌, ◌++◌, ◌∷◌, [], ℕ, List, arith, rules, sym, ap, ◌∙◌, length}
+use Rattle.std.proofs.Common.{◌≡◌, ◌+◌, ◌++◌, ◌∷◌, [], ℕ, List, rules, sym, ap, ◌∙◌, length}
 use Rattle.bson_tree.specs.Spelling.{value_bytes}
 use Rattle.payload6.specs.Marking.{key_id}
 use Rattle.payload6.proofs.MarkingForm.{put_parts}

@@ -1,5 +1,4 @@
-use Rattle.std.proofs.Common.{◌≡◌, ◌∙◌, ◌<◌, ℕ, List, length, take, Err, Ok, ap, arith, refl, rules, subst, sym}
-use Rattle.bson_codec.specs.Raw.{SpellsWithin}
+use Rattle.std.proofs.Common.{◌≡◌, ◌∙◌, ℕ, List, length, take, Err, Ok, ap, arith, refl, rules, subst, sym}
 use Rattle.fle_aead.specs.Sealed.{IsSealed, IsWronglyTagged}
 use Rattle.payload6.specs.Opening.{IsOriginal}
 use Rattle.payload6.proofs.PayloadForm.{blocks-of, found-is, message_in, shorter}
