@@ -42,8 +42,8 @@ fn values_are_sealed_as_elsewhere_and_opened(rt: HostRuntime) -> Result<(), Allo
     Ok(())
 }
 
-// The checksums of the payloads that Python's hmac and OpenSSL's AES-256-CBC make together, of which the deterministic
-// one is libmongocrypt's too, and of the value.
+// The checksums of the payloads that Python's hmac and OpenSSL's AES-256-CBC make together, of which
+// the deterministic one is libmongocrypt's too, and of the value.
 #[test]
 fn payloads_are_those_made_elsewhere(rt: HostRuntime) -> Result<(), AllocError> {
     let rows = [

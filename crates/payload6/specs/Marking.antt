@@ -1,4 +1,5 @@
--- MongoDB Client Side Encryption, BSON binary subtype 6, intent-to-encrypt marking: the value with its policy, for who seals it
+-- MongoDB Client Side Encryption, BSON binary subtype 6, intent-to-encrypt marking: the value with its
+-- policy, for who seals it
 use Rattle.std.specs.Prelude.{ℕ, List, [], ◌∷◌, ◌++◌, length, codes}
 use Rattle.std.specs.Int.{to_le_bytes, w32}
 use Rattle.bson_tree.specs.Tree.{Tree, Items, leaf, no_items, item}

@@ -49,8 +49,8 @@ pub fn open_payload_into<B: Block256>(
         (iv_of payload.now.sealed.now) (take n out.new)
         (payload.now.head.now ++ payload.now.sealed.now)) }
     ensures original { IfOk result (λ n. IsOriginal levels payload.now.tag (take n out.new)) }
-    ensures opens { (iv p : List ℕ) → IsSealedPayload payload.now.kind payload.now.key_id key.now payload.now.tag iv p
-        (payload.now.head.now ++ payload.now.sealed.now) → IsOriginal levels payload.now.tag p
+    ensures opens { (iv p : List ℕ) → IsSealedPayload payload.now.kind payload.now.key_id key.now payload.now.tag
+        iv p (payload.now.head.now ++ payload.now.sealed.now) → IsOriginal levels payload.now.tag p
         → (result ≡ Ok (length p)) × (take (length p) out.new ≡ p) }
     ensures tag { (computed found : List ℕ) → (result ≡ Err (PayloadFault.Tag computed found))
         ↔ IsWronglyTagged key.now payload.now.head.now payload.now.sealed.now computed found }
