@@ -1,12 +1,9 @@
 -- Payloads of binaries.
-use Rattle.std.proofs.Common.{◌≡◌, ◌∙◌, ℕ, ◌+◌, ◌*◌, ◌/◌, ◌≤◌, ◌<◌, List, ◌∷◌, ◌++◌, length, take, arith, ap, sym, subst, refl}
-use Rattle.std.proofs.lemmas.List.{length-append}
+use Rattle.std.proofs.Common.{◌≡◌, ◌∙◌, ℕ, ◌+◌, ◌/◌, ◌≤◌, List, ◌++◌, length, arith, ap, sym, subst, refl}
 use Rattle.encrypt_schema.specs.declared.policy.Algorithm.{Algorithm}
 use Rattle.encrypt_schema.specs.declared.policy.Algorithm.TheVariants.{Deterministic, Random}
 use Rattle.bson_tree.specs.Tree.{leaf}
-use Rattle.bson_codec.specs.Layout.{IsBinary}
 use Rattle.bson_codec.specs.Table.{layout_of}
-use Rattle.fle_aead.specs.Sealed.{IsSealed}
 use Rattle.payload6.specs.Opening.{IsOriginal}
 use Rattle.payload6.specs.Payload.{algorithm_number, head, HasKind, IsKind, IsPayloadLength, IsSealedPayload}
 use Rattle.payload6.proofs.PayloadForm.{parted-once, payload-length}

@@ -1,4 +1,4 @@
-use Rattle.std.proofs.Common.{◌≡◌, ◌∙◌, ℕ, List, length, Err, ap, rules, subst}
+use Rattle.std.proofs.Common.{◌≡◌, ◌∙◌, ℕ, length, Err, ap, rules, subst}
 use Rattle.payload6.specs.Opening.{IsOriginal}
 use Rattle.fle_bench.proofs.Payloads.{has-kind, has-length, parted}
 use Rattle.fle_bench.proofs.payload.open_once.Goals as goal
