@@ -1,4 +1,5 @@
 pub mod Adler32
 pub mod Message
+pub mod Payload
 pub mod Value
 pub mod Words

@@ -1,10 +1,11 @@
 -- The words of the command line that name what is run.
 use Rattle.std.specs.Prelude.{ℕ, List, codes}
+use Rattle.encrypt_schema.specs.declared.policy.Algorithm.TheVariants.{Deterministic, Random}
 use Rattle.fle_bench.specs.declared.job.Direction.TheVariants.{Seal, Open}
 use Rattle.fle_bench.specs.declared.job.Way.TheVariants.{Tables, Closures, Boxes}
 use Rattle.fle_bench.specs.declared.job.KeySetup.TheVariants.{Kept, Fresh}
 use Rattle.fle_bench.specs.declared.job.Subject.{Subject}
-use Rattle.fle_bench.specs.declared.job.Subject.TheVariants.{Cbc, Hmac, AeadSeal, AeadOpen, BsonCheck}
+use Rattle.fle_bench.specs.declared.job.Subject.TheVariants.{Cbc, Hmac, AeadSeal, AeadOpen, Payload, BsonCheck}
 
 -- the word for a subject
 abbrev pub word_of : Subject → List ℕ
@@ -19,4 +20,8 @@ word_of (Hmac Fresh) = codes "hmac-fresh"
 word_of (AeadSeal Kept) = codes "aead-seal-kept"
 word_of (AeadSeal Fresh) = codes "aead-seal-fresh"
 word_of AeadOpen = codes "aead-open-kept"
+word_of (Payload Seal Deterministic) = codes "payload-seal-deterministic"
+word_of (Payload Seal Random) = codes "payload-seal-random"
+word_of (Payload Open Deterministic) = codes "payload-open-deterministic"
+word_of (Payload Open Random) = codes "payload-open-random"
 word_of BsonCheck = codes "bson-check"

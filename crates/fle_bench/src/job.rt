@@ -4,6 +4,8 @@ ghost use Rattle.std.specs.Prelude.{◌≡◌, ◌≢◌, IfNone, IfSome};
 ghost use Rattle.fle_bench.specs.Words.{word_of};
 ghost use Rattle.fle_bench.specs.declared.job.Subject.{Subject};
 
+use encrypt_schema::Algorithm;
+
 /// The most bytes of a run: 64 MiB.
 pub const MOST_BYTES: usize = 67108864;
 
@@ -45,6 +47,8 @@ pub enum Subject {
     AeadSeal(KeySetup),
     /// The opening of such a value, under a key that is kept.
     AeadOpen,
+    /// A payload of a binary, sealed, or taken apart and opened, under a key that is kept.
+    Payload(Direction, Algorithm),
     /// The check of a BSON document that stands on standard input.
     BsonCheck,
 }
@@ -66,6 +70,14 @@ pub fn subject_of(word: &str) -> Option<Subject>
         "aead-seal-kept" => Some(Subject::AeadSeal(KeySetup::Kept)),
         "aead-seal-fresh" => Some(Subject::AeadSeal(KeySetup::Fresh)),
         "aead-open-kept" => Some(Subject::AeadOpen),
+        "payload-seal-deterministic" => {
+            Some(Subject::Payload(Direction::Seal, Algorithm::Deterministic))
+        }
+        "payload-seal-random" => Some(Subject::Payload(Direction::Seal, Algorithm::Random)),
+        "payload-open-deterministic" => {
+            Some(Subject::Payload(Direction::Open, Algorithm::Deterministic))
+        }
+        "payload-open-random" => Some(Subject::Payload(Direction::Open, Algorithm::Random)),
         "bson-check" => Some(Subject::BsonCheck),
         _ => None,
     }

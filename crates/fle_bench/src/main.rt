@@ -16,8 +16,9 @@ mod checksum;
 mod hmac;
 mod input;
 mod job;
+mod payload;
 
-use crate::job::{MOST_BYTES, Subject, subject_of};
+use crate::job::{Direction, MOST_BYTES, Subject, subject_of};
 use fle_outside::StdinSource;
 use std::env;
 
@@ -40,6 +41,12 @@ fn main(rt: HostRuntime) -> anyhow::Result<()> {
         Subject::Hmac(setup) => hmac::run(rt.alloc(), setup, size, turns)?,
         Subject::AeadSeal(setup) => aead::run_sealing(rt.alloc(), setup, size, turns)?,
         Subject::AeadOpen => aead::run_opening(rt.alloc(), size, turns)?,
+        Subject::Payload(Direction::Seal, algorithm) => {
+            payload::run_sealing(rt.alloc(), algorithm, size, turns)?
+        }
+        Subject::Payload(Direction::Open, algorithm) => {
+            payload::run_opening(rt.alloc(), algorithm, size, turns)?
+        }
         Subject::BsonCheck => {
             let document = bson::document(rt.alloc(), &mut StdinSource::new(rt.stdin()), size)?;
             bson::run(&document, turns) as u32

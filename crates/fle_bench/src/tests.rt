@@ -1,8 +1,9 @@
 use crate::aead::{run_opening, run_sealing};
 use crate::cbc::run;
 use crate::checksum::adler32;
-use crate::hmac;
 use crate::job::{Direction, KeySetup, Way};
+use crate::{hmac, payload};
+use encrypt_schema::Algorithm;
 use std::alloc::AllocError;
 
 // What zlib's adler32 gives.
@@ -38,6 +39,27 @@ fn values_are_sealed_as_elsewhere_and_opened(rt: HostRuntime) -> Result<(), Allo
         assert_eq!(rt; run_sealing(rt.alloc(), setup, 16, 2)?, 0x92e128a0);
     }
     assert_eq!(rt; run_opening(rt.alloc(), 16, 2)?, 0x02b80079);
+    Ok(())
+}
+
+// The checksums of the payloads that Python's hmac and OpenSSL's AES-256-CBC make together, of which
+// the deterministic one is libmongocrypt's too, and of the value.
+#[test]
+fn payloads_are_those_made_elsewhere(rt: HostRuntime) -> Result<(), AllocError> {
+    let rows = [
+        (Algorithm::Deterministic, 0xbc282ee5),
+        (Algorithm::Random, 0x218228eb),
+    ];
+    for (algorithm, checksum) in rows {
+        assert_eq!(rt;
+            payload::run_sealing(rt.alloc(), algorithm, 11, 2)?,
+            checksum
+        );
+        assert_eq!(rt;
+            payload::run_opening(rt.alloc(), algorithm, 11, 2)?,
+            0x019c0043
+        );
+    }
     Ok(())
 }
 

@@ -1,0 +1,2 @@
+pub mod PayloadForm
+pub mod MarkingForm

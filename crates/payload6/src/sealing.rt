@@ -1,0 +1,64 @@
+//! Payloads made from values.
+
+ghost use Rattle.std.specs.Prelude.{◌≡◌, ◌+◌, ◌*◌, ◌/◌, ◌^◌, ◌<◌, length};
+ghost use Rattle.encrypt_schema.specs.declared.policy.Algorithm.{Algorithm};
+ghost use Rattle.fle_aead.specs.Sealed.{derived_iv};
+ghost use Rattle.payload6.specs.Payload.{algorithm_number, head, IsKind};
+ghost use Rattle.payload6.specs.Payload.{IsPayload, IsSealedPayload, IsVector};
+
+use crate::payload::{DETERMINISTIC, HEAD};
+use crypto_hooks::Block256;
+use fle_aead::{DataKey, derive_iv, seal_into, sealed_len};
+
+/// The length of the payload of a value of n bytes, fewer than 2^31.
+pub fn payload_len(n: usize) -> usize
+    requires { n < 2 ^ 31 }
+    ensures { result ≡ 66 + 16 * (n / 16 + 1) }
+{
+    HEAD + sealed_len(n)
+}
+
+/// The initialization vector of a deterministic payload: the one that the key, its id, the original
+/// type and the value's bytes determine.
+pub fn det_iv(key: &DataKey, key_id: [u8; 16], tag: u8, plain: &[u8]) -> [u8; 16]
+    ensures { result ≡ derived_iv key.now (head 1 key_id tag) plain.now }
+{
+    derive_iv(key, &head_of(DETERMINISTIC, key_id, tag), plain)
+}
+
+/// Writes the payload of a value into `out`, which has exactly the length of it: of kind 1
+/// (deterministic, under the vector of `det_iv`) or 2 (random), under the key of this id, of a value
+/// of the BSON type `tag` that has the bytes `plain`.
+pub fn seal_payload_into<B: Block256>(
+    hooks: &B,
+    key: &DataKey,
+    kind: u8,
+    key_id: [u8; 16],
+    tag: u8,
+    iv: [u8; 16],
+    plain: &[u8],
+    out: &mut [u8],
+)
+    requires hooks { B.answers hooks.now }
+    requires kind { IsKind kind }
+    requires room { length out.old ≡ 66 + 16 * (length plain.now / 16 + 1) }
+    ensures sealed { IsSealedPayload kind key_id key.now tag iv plain.now out.new }
+    ensures payload { (algorithm : Algorithm) → kind ≡ algorithm_number algorithm
+        → IsVector algorithm key.now (head kind key_id tag) plain.now iv
+        → IsPayload algorithm key_id key.now tag plain.now out.new }
+{
+    let (front, sealed) = out.split_at_mut(HEAD);
+    let head = head_of(kind, key_id, tag);
+    front.copy_from_slice(&head);
+    seal_into(hooks, key, &head, iv, plain, sealed);
+}
+
+/// The first 18 bytes of a payload.
+fn head_of(kind: u8, key_id: [u8; 16], tag: u8) -> [u8; 18]
+    ensures { result ≡ head kind key_id tag }
+{
+    let mut head = [tag; HEAD];
+    head[0] = kind;
+    head[1..17].copy_from_slice(&key_id);
+    head
+}
