@@ -3,8 +3,8 @@ use Rattle.std.proofs.Common.{◌≡◌, ◌∙◌, ℕ, List, refl, ap}
 use Rattle.std.specs.Prelude.{Bool, true, false, ◌==◌, ◌&&◌, Option, Some, None}
 use Rattle.std.proofs.lemmas.Bool.{eqb-true}
 use Rattle.bson_tree.specs.Tree.{Tree, leaf, node, Items, no_items, item}
-use Rattle.encrypt_schema.specs.Fields.{◌>>=◌, only_if, fields_as, text_of}
-use Rattle.encrypt_schema.specs.Collections.{some_text}
+use Rattle.command_marker.specs.Fields.{◌>>=◌, only_if, fields_as, text_of}
+use Rattle.command_marker.specs.Fields.{some_text}
 use Rattle.command_marker.specs.Insert.{Insert, insert_in, IsInsertOf, are_names, is_text, are_documents}
 
 -- a step that finds something found it behind something

@@ -4,7 +4,9 @@ use Rattle.std.specs.Prelude.{codes}
 use Rattle.bson_tree.specs.Tree.{Tree, Items, leaf, no_items, item}
 use Rattle.bson_tree.specs.Spelling.{framed, value_bytes, items_bytes}
 use Rattle.encrypt_schema.specs.declared.policy.Policy.{Policy}
-use Rattle.command_marker.specs.Marking.{algorithm_number, key_id, binary, marking_fields, marking, marked_value}
+use Rattle.payload6.specs.Payload.{algorithm_number}
+use Rattle.payload6.specs.Marking.{key_id, binary, marking_fields, marking}
+use Rattle.command_marker.specs.Marking.{marked_value}
 
 -- a document has 5 bytes more than its elements
 pub framed_size : (elements : List ℕ) → length (framed elements) ≡ length elements + 5

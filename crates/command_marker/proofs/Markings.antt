@@ -5,7 +5,9 @@ use Rattle.std.specs.Int.{to_le_bytes, w32}
 use Rattle.bson_tree.specs.Tree.{Tree, leaf, no_items, item}
 use Rattle.bson_tree.specs.Spelling.{value_bytes, items_bytes}
 use Rattle.encrypt_schema.specs.declared.policy.Policy.{Policy}
-use Rattle.command_marker.specs.Marking.{algorithm_number, key_id, binary, marking_fields, marked_value}
+use Rattle.payload6.specs.Payload.{algorithm_number}
+use Rattle.payload6.specs.Marking.{key_id, binary, marking_fields}
+use Rattle.command_marker.specs.Marking.{marked_value}
 use Rattle.command_marker.proofs.Lengths.{marking_fields_size}
 
 -- what stands between its lengths

@@ -1,8 +1,8 @@
 -- MongoDB, the command `insert`: the collection, and the documents to be stored
 use Rattle.std.specs.Prelude.{◌≡◌, ℕ, ◌==◌, ◌&&◌, Bool, true, false, List, Option, Some, None, codes}
 use Rattle.bson_tree.specs.Tree.{Tree, Items, node, no_items, item, tag_of}
-use Rattle.encrypt_schema.specs.Fields.{◌>>=◌, only_if, same_name, text_of, fields_as}
-use Rattle.encrypt_schema.specs.Collections.{some_text}
+use Rattle.command_marker.specs.Fields.{◌>>=◌, only_if, same_name, text_of, fields_as}
+use Rattle.command_marker.specs.Fields.{some_text}
 
 pub record Insert : Type 0 where
   pub collection : List ℕ

@@ -1,3 +1,5 @@
+pub mod Fields
+pub mod Rules
 pub mod Insert
 pub mod Marking
 pub mod Marked

@@ -3,9 +3,9 @@ use Rattle.std.specs.Prelude.{ℕ, ◌==◌, ◌&&◌, ◌+◌, Bool, true, not,
 use Rattle.std.specs.List.{list_any}
 use Rattle.bson_tree.specs.Tree.{Tree, Items, node, no_items, item, tag_of, kids_of}
 use Rattle.encrypt_schema.specs.declared.policy.Policy.{Policy}
-use Rattle.encrypt_schema.specs.declared.rows.Row.{Row}
-use Rattle.encrypt_schema.specs.Fields.{raw_of}
-use Rattle.encrypt_schema.specs.Rules.{policy_named}
+use Rattle.encrypt_schema.specs.Row.{Row}
+use Rattle.command_marker.specs.Fields.{raw_of}
+use Rattle.command_marker.specs.Rules.{policy_named, leads_on}
 use Rattle.command_marker.specs.Marking.{marked_value}
 
 -- a binary of subtype 06: a value that was sealed before
@@ -17,9 +17,10 @@ abbrev pub may_stand : Option Policy → Tree → Bool
 may_stand None t = true
 may_stand (Some policy) t = list_any (λ type. type == tag_of t) policy.types && not (is_sealed t)
 
+-- no field leads to a protected one inside it, which isn't built yet
 abbrev pub fields_may_stand : List Row → Items → Bool
 fields_may_stand rows no_items = true
-fields_may_stand rows (item name t is) = may_stand (policy_named name rows) t && fields_may_stand rows is
+fields_may_stand rows (item name t is) = not (leads_on name rows) && may_stand (policy_named name rows) t && fields_may_stand rows is
 
 abbrev pub documents_may_stand : List Row → Items → Bool
 documents_may_stand rows no_items = true

@@ -1,38 +1,9 @@
--- MongoDB Client Side Encryption, BSON binary subtype 6, intent-to-encrypt marking: the value with its policy, for who seals it
-use Rattle.std.specs.Prelude.{ℕ, List, [], ◌∷◌, ◌++◌, length, codes}
-use Rattle.std.specs.Int.{to_le_bytes, w32}
-use Rattle.bson_tree.specs.Tree.{Tree, Items, leaf, no_items, item}
-use Rattle.bson_tree.specs.Spelling.{doc_bytes}
-use Rattle.encrypt_schema.specs.declared.policy.Algorithm.{Algorithm}
-use Rattle.encrypt_schema.specs.declared.policy.Algorithm.TheVariants.{Deterministic, Random}
-use Rattle.encrypt_schema.specs.declared.policy.KeyRef.{KeyRef}
-use Rattle.encrypt_schema.specs.declared.policy.KeyRef.TheVariants.{Id}
+-- MongoDB Client Side Encryption, BSON binary subtype 6: the value that stands for a protected one in a marked command
+use Rattle.std.specs.Prelude.{ℕ}
+use Rattle.bson_tree.specs.Tree.{Tree}
 use Rattle.encrypt_schema.specs.declared.policy.Policy.{Policy}
+use Rattle.payload6.specs.Marking.{binary, marking}
 
--- the algorithm's number
-abbrev pub algorithm_number : Algorithm → ℕ
-algorithm_number Deterministic = 1
-algorithm_number Random = 2
-
--- the 16 bytes of a key id
-abbrev pub key_id : KeyRef → List ℕ
-key_id (Id bytes) = bytes
-
--- a binary of this subtype
-abbrev pub binary : ℕ → List ℕ → Tree
-binary subtype contents = leaf 5 (to_le_bytes w32 (length contents) ++ (subtype ∷ contents))
-
--- the marking's document: the value `v`, the algorithm `a`, the key's id `ki`
-unfoldable pub marking_fields : Policy → Tree → Items
-marking_fields policy t =
-    item (codes "v") t
-    (item (codes "a") (leaf 16 (algorithm_number policy.algorithm ∷ 0 ∷ 0 ∷ 0 ∷ []))
-    (item (codes "ki") (binary 4 (key_id policy.key)) no_items))
-
--- its bytes: 00 and the document
-abbrev pub marking : Policy → Tree → List ℕ
-marking policy t = 0 ∷ doc_bytes (marking_fields policy t)
-
--- the value that stands for it in the command: a binary of subtype 06
+-- a binary of subtype 06 that holds the marking
 unfoldable pub marked_value : Policy → Tree → Tree
 marked_value policy t = binary 6 (marking policy t)

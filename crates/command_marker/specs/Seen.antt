@@ -1,6 +1,6 @@
 -- What the code's own types stand for
 use Rattle.std.specs.Prelude.{List, [], Option, Some, None}
-use Rattle.encrypt_schema.specs.declared.rows.Row.{Row}
+use Rattle.encrypt_schema.specs.Row.{Row}
 use Rattle.command_marker.specs.declared.insert.Insert.{Insert as FoundInsert}
 use Rattle.command_marker.specs.Insert.{Insert}
 use denote.Ref.{Bor}

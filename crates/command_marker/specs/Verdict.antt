@@ -1,9 +1,9 @@
 -- What becomes of a command: its reply, or why there is none
 use Rattle.std.specs.Prelude.{◌≡◌, ℕ, Bool, true, false, not, nat_lt, List, [], ◌∷◌, length, Option, Some, None, Result, Ok, Err, if◌then◌else◌}
 use Rattle.bson_tree.specs.Tree.{Items}
-use Rattle.encrypt_schema.specs.declared.rows.Row.{Row}
-use Rattle.encrypt_schema.specs.Collection.{Collection}
-use Rattle.encrypt_schema.specs.Collections.{info_named}
+use Rattle.encrypt_schema.specs.Row.{Row}
+use Rattle.encrypt_schema.specs.Collection.{Collection, collection_of}
+use Rattle.encrypt_schema.specs.Targets.{is_view}
 use Rattle.command_marker.specs.declared.stop.MarkStop.{MarkStop}
 use Rattle.command_marker.specs.declared.stop.MarkStop.TheVariants as stops
 use Rattle.command_marker.specs.Insert.{Insert, insert_in}
@@ -37,10 +37,13 @@ unfoldable pub judged_under : List Row → Items → Items → Judgement
 judged_under rows documents command =
     if documents_may_stand rows documents then sized (reply_to rows documents command) else not_built
 
+-- an insert into a view isn't built yet
+abbrev pub judged_in : Option Collection → Items → Items → Judgement
+judged_in info documents command = if is_view info then not_built else judged_under (rows_of_info info) documents command
+
 abbrev pub judged_insert : List Collection → Items → Option Insert → Judgement
 judged_insert infos command None = not_built
-judged_insert infos command (Some insert) =
-    judged_under (rows_of_info (info_named insert.collection infos)) insert.documents command
+judged_insert infos command (Some insert) = judged_in (collection_of infos insert.collection) insert.documents command
 
 -- what becomes of a command of this database under these infos
 unfoldable pub judged : List Collection → List ℕ → Items → Judgement

@@ -1,14 +1,16 @@
 //! The protected fields of documents: which they are, and whether their values may stand.
 
-ghost use Rattle.std.specs.Prelude.{◌≡◌, nat_lt, option_copied};
+ghost use Rattle.std.specs.Prelude.{◌≡◌, ◌∷◌, [], nat_lt, option_copied};
+ghost use Rattle.encrypt_schema.specs.Classes.{class};
 ghost use Rattle.bson_tree.specs.Tree.{kids_of};
 ghost use Rattle.bson_tree.specs.View.{tree};
-ghost use Rattle.encrypt_schema.specs.Rules.{policy_named};
+ghost use Rattle.command_marker.specs.Rules.{policy_by, policy_named, leads_on};
 ghost use Rattle.command_marker.specs.Marked.{is_sealed, may_stand, fields_may_stand, documents_may_stand, marks_in, marks_of};
 ghost use Rattle.command_marker.specs.Seen.{rows_or_none};
 
+use crate::values::{BINARY, raw};
 use bson_tree::{Body, Kids, Value};
-use encrypt_schema::{BINARY, Policy, Rows, raw};
+use encrypt_schema::{Class, Policy, Rows};
 
 /// The subtype of sealed values and of markings.
 pub(crate) const SEALED: u8 = 6;
@@ -18,8 +20,43 @@ pub(crate) fn policy_of<'a>(rows: Option<&'a Rows>, name: &[u8]) -> Option<&'a P
     ensures { option_copied result ≡ policy_named name.now (rows_or_none rows.entry) }
 {
     match rows {
-        Some(rows) => rows.policy_of(name),
+        Some(rows) => policy_by(rows, class_of(rows, name)),
         None => None,
+    }
+}
+
+/// How the path of one name stands to the rules.
+fn class_of(rows: &Rows, name: &[u8]) -> Class
+    ensures { result ≡ class rows.now (name.now ∷ []) }
+{
+    rows.class(rows.step(rows.root(), name))
+}
+
+/// The policy of the rule that protects a path of this class.
+fn policy_by(rows: &Rows, class: Class) -> Option<&Policy>
+    ensures { option_copied result ≡ policy_by rows.now class }
+{
+    match class {
+        Class::Protected(i) => rows.policy(i),
+        Class::Below => None,
+        Class::Above => None,
+        Class::Clear => None,
+    }
+}
+
+/// Whether the field of this name leads to a protected one inside it.
+#[tactic(auto, unfolding(encrypt_schema::specs::Classes::class))]
+fn leads_on(rows: Option<&Rows>, name: &[u8]) -> bool
+    ensures { result ≡ leads_on name.now (rows_or_none rows.entry) }
+{
+    match rows {
+        Some(rows) => match class_of(rows, name) {
+            Class::Protected(_) => false,
+            Class::Below => false,
+            Class::Above => true,
+            Class::Clear => false,
+        },
+        None => false,
     }
 }
 
@@ -48,6 +85,9 @@ fn fields_may_stand(rows: Option<&Rows>, fields: &Kids) -> bool
 {
     for i in 0..fields.len() {
         let (name, value) = fields.item(i);
+        if leads_on(rows, name.as_slice()) {
+            return false;
+        }
         if !may_stand(policy_of(rows, name.as_slice()), value) {
             return false;
         }

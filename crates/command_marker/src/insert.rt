@@ -2,13 +2,13 @@
 
 ghost use Rattle.std.specs.Prelude.{◌≡◌, codes, option_copied};
 ghost use Rattle.bson_tree.specs.View.{tree};
-ghost use Rattle.encrypt_schema.specs.Collections.{some_text};
-ghost use Rattle.encrypt_schema.specs.Fields.{same_name, text_of};
+ghost use Rattle.command_marker.specs.Fields.{some_text};
+ghost use Rattle.command_marker.specs.Fields.{same_name, text_of};
 ghost use Rattle.command_marker.specs.Insert.{insert_in, are_documents, are_names, is_text};
 ghost use Rattle.command_marker.specs.Seen.{seen_insert};
 
+use crate::values::{ARRAY, DOCUMENT, fields_as, text};
 use bson_tree::{Kids, Value};
-use encrypt_schema::{ARRAY, DOCUMENT, fields_as, text};
 
 /// What a command inserts, and where.
 #[derive(Clone, Copy)]

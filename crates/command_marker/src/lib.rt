@@ -9,6 +9,7 @@ mod marking;
 mod reply;
 mod sizes;
 mod stop;
+mod values;
 mod writing;
 
 pub use mark::mark_insert;

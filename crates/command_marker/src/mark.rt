@@ -1,8 +1,8 @@
 //! What becomes of a command: its reply, or why there is none.
 
-ghost use Rattle.std.specs.Prelude.{◌≡◌, ◌≤◌, not, nat_lt, length};
+ghost use Rattle.std.specs.Prelude.{◌≡◌, ◌≤◌, not, nat_lt, length, option_copied};
 ghost use Rattle.bson_tree.specs.Spelling.{items_bytes, doc_bytes};
-ghost use Rattle.encrypt_schema.specs.Collections.{info_named};
+ghost use Rattle.encrypt_schema.specs.Targets.{is_view};
 ghost use Rattle.command_marker.specs.Insert.{IsInsertOf};
 ghost use Rattle.command_marker.specs.Marked.{marks_of};
 ghost use Rattle.command_marker.specs.Verdict.{AnswersAs, is_empty, judged, judged_under, rows_of_info};
@@ -14,7 +14,7 @@ use crate::reply::{Flags, write_reply};
 use crate::sizes::command_size;
 use crate::stop::MarkStop;
 use bson_tree::{Doc, Kids};
-use encrypt_schema::{Infos, Rows};
+use encrypt_schema::{Info, Infos, Rows};
 use std::alloc::Global;
 
 /// The most bytes that a reply may have.
@@ -28,7 +28,7 @@ const REPLY: u64 = 85;
 ///
 /// `NotBuilt` exactly where the command isn't an insert with the fields `insert`, `documents` and
 /// `$db`, in this order, of this database, whose protected fields have a type that their rule allows
-/// and hold no sealed value. `TooLong` exactly where the reply would have more than 48,000,000 bytes.
+/// and hold no sealed value, no field of which leads to a protected one inside it, into no view. `TooLong` exactly where the reply would have more than 48,000,000 bytes.
 /// `Memory` where there is none for the reply.
 #[tactic(auto, unfolding(crate::specs::Verdict::judged))]
 pub fn mark_insert(
@@ -42,18 +42,31 @@ pub fn mark_insert(
 {
     match read_insert(db, &command.kids) {
         Some(insert) => {
-            let rows = rows_of(infos, insert.collection);
-            mark_under(alloc, rows, &command.kids, insert.documents)
+            let info = infos.info_of(insert.collection);
+            if is_view(info) {
+                return Err(MarkStop::NotBuilt);
+            }
+            mark_under(alloc, rows_of(info), &command.kids, insert.documents)
         }
         None => Err(MarkStop::NotBuilt),
     }
 }
 
-/// The rules of a collection; `None` where it has no info.
-fn rows_of<'a>(infos: &'a Infos, collection: &[u8]) -> Option<&'a Rows>
-    ensures { rows_or_none result ≡ rows_of_info (info_named collection.now infos.now) }
+/// Whether the collection is a view.
+fn is_view(info: Option<&Info>) -> bool
+    ensures { result ≡ is_view (option_copied info.entry) }
 {
-    match infos.info_of(collection) {
+    match info {
+        Some(info) => info.is_view(),
+        None => false,
+    }
+}
+
+/// The rules of a collection; `None` where it has no info.
+fn rows_of(info: Option<&Info>) -> Option<&Rows>
+    ensures { rows_or_none result ≡ rows_of_info (option_copied info.entry) }
+{
+    match info {
         Some(info) => Some(info.rows()),
         None => None,
     }

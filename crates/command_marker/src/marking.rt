@@ -5,12 +5,15 @@ ghost use Rattle.std.specs.Prelude.{◌≡◌, ◌-◌, ◌<◌, ◌^◌, [], �
 ghost use Rattle.bson_tree.specs.Tree.{leaf, item, no_items};
 ghost use Rattle.bson_tree.specs.Spelling.{value_bytes, items_bytes};
 ghost use Rattle.bson_tree.specs.View.{tree};
-ghost use Rattle.command_marker.specs.Marking.{algorithm_number, key_id, binary, marking_fields, marked_value};
+ghost use Rattle.payload6.specs.Payload.{algorithm_number};
+ghost use Rattle.payload6.specs.Marking.{key_id, binary, marking_fields};
+ghost use Rattle.command_marker.specs.Marking.{marked_value};
 
 use crate::fields::SEALED;
 use crate::frame::{append, put_element, put_name};
+use crate::values::BINARY;
 use bson_tree::{Value, byte_size};
-use encrypt_schema::{Algorithm, BINARY, KeyRef, Policy};
+use encrypt_schema::{Algorithm, KeyRef, Policy};
 use fle_outside::Memory;
 
 /// The type byte of an int.

@@ -10,8 +10,9 @@ ghost use Rattle.command_marker.specs.Seen.{rows_or_none};
 
 use crate::frame::{append, close, open, put_element, put_name};
 use crate::writing::put_documents;
+use crate::values::{ARRAY, DOCUMENT};
 use bson_tree::Kids;
-use encrypt_schema::{ARRAY, DOCUMENT, Rows};
+use encrypt_schema::Rows;
 use fle_outside::Memory;
 use std::alloc::Global;
 

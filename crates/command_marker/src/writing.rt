@@ -11,8 +11,9 @@ ghost use Rattle.command_marker.specs.Seen.{rows_or_none};
 use crate::fields::policy_of;
 use crate::frame::{close, open, put_element, put_name};
 use crate::marking::put_marking;
+use crate::values::BINARY;
 use bson_tree::{Body, Kids, Value};
-use encrypt_schema::{BINARY, Policy, Rows};
+use encrypt_schema::{Policy, Rows};
 use fle_outside::Memory;
 
 /// Appends an element whose value is a marking.

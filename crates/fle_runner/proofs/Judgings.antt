@@ -9,7 +9,7 @@ use Rattle.fle_runner.specs.Outcome.{Outcome, Course, stop, rest_why, judged, ou
 use Rattle.fle_runner.specs.Plan.{Block, Output, Verdict, writes, refused, too_long, size_of}
 use Rattle.fle_runner.specs.Run.{Draws, IsDetermined, EndsIn, HandedPast, SourceLeft, Stopped, Went}
 use Rattle.fle_runner.specs.Streams.{Docs, doc, ends, Rest}
-use Rattle.fle_runner.specs.declared.reason.Reason.{Reason}
+use Rattle.encrypt_schema.specs.declared.reason.Reason.{Reason}
 use Rattle.fle_runner.specs.declared.why.Why.{Why}
 use Rattle.fle_runner.specs.declared.why.Why.TheVariants as whys
 use Rattle.fle_runner.specs.declared.why.Bound.TheVariants as bounds

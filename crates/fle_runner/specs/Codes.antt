@@ -1,7 +1,9 @@
 -- The numbers of statuses, reasons, limits and faults of files.
-use Rattle.std.specs.Prelude.{ℕ}
-use Rattle.fle_runner.specs.declared.reason.Reason.{Reason}
-use Rattle.fle_runner.specs.declared.reason.Reason.TheVariants as reasons
+use Rattle.std.specs.Prelude.{ℕ, ◌+◌}
+use Rattle.encrypt_schema.specs.declared.faults.InfoKind.{InfoKind}
+use Rattle.encrypt_schema.specs.declared.faults.InfoKind.TheVariants as kinds
+use Rattle.encrypt_schema.specs.declared.faults.SchemaFault.{SchemaFault}
+use Rattle.encrypt_schema.specs.declared.faults.SchemaFault.TheVariants as schemas
 use Rattle.fle_runner.specs.declared.status.Status.{Status}
 use Rattle.fle_runner.specs.declared.status.Status.TheVariants as statuses
 use Rattle.fle_runner.specs.declared.why.Why.{Why}
@@ -38,19 +40,36 @@ status_of whys.WriteFault = statuses.WriteFault
 status_of whys.EntropyFault = statuses.EntropyFault
 status_of whys.Memory = statuses.Memory
 
--- the number of a reason of status 1
-abbrev pub reason_code : Reason → ℕ
-reason_code reasons.NotBuilt = 24
-
 -- the number of a limit
 abbrev pub bound_code : Bound → ℕ
 bound_code bounds.Document = 1
 bound_code bounds.Output = 2
 bound_code bounds.Stream = 3
 
+-- the number of a schema's fault among those of schemas
+abbrev pub schema_number : SchemaFault → ℕ
+schema_number schemas.Keyword = 1
+schema_number schemas.Shape = 2
+schema_number schemas.Misplaced = 3
+schema_number schemas.Sibling = 4
+schema_number schemas.NoKey = 5
+schema_number schemas.NoAlgorithm = 6
+schema_number schemas.Algorithm = 7
+schema_number schemas.TypeName = 8
+schema_number schemas.DeterministicType = 9
+schema_number schemas.Name = 10
+schema_number schemas.TooMany = 11
+schema_number schemas.Memory = 12
+
+-- the number of a fault of a document of collection infos
+abbrev pub infos_code : InfoKind → ℕ
+infos_code kinds.Bson = 30
+infos_code kinds.Shape = 31
+infos_code kinds.Twice = 32
+infos_code (kinds.Schema fault) = 40 + schema_number fault
+
 -- the number of a fault of a named file
 abbrev pub setup_code : SetupFault → ℕ
 setup_code setups.Missing = 1
 setup_code setups.TooLong = 2
-setup_code setups.InfosBson = 30
-setup_code setups.InfosNotBuilt = 53
+setup_code (setups.Infos kind) = infos_code kind

@@ -1,7 +1,8 @@
 -- The diagnostic line: `fle: S D R P`, the status, the number of a document or file, the reason, the place.
 use Rattle.std.specs.Prelude.{ℕ, List, [], ◌∷◌, ◌++◌, codes, decimal}
 use Rattle.bson_codec.specs.Fault.{kind_number}
-use Rattle.fle_runner.specs.Codes.{reason_code, bound_code, setup_code}
+use Rattle.encrypt_schema.specs.Reasons.{reason_code}
+use Rattle.fle_runner.specs.Codes.{bound_code, setup_code}
 use Rattle.fle_runner.specs.declared.why.Why.{Why}
 use Rattle.fle_runner.specs.declared.why.Why.TheVariants as whys
 

@@ -5,17 +5,12 @@ use Rattle.encrypt_schema.specs.Collection.{Collection}
 use Rattle.encrypt_schema.specs.Collections.{Faulty, collections}
 use Rattle.encrypt_schema.specs.declared.faults.InfoFault.{InfoFault}
 use Rattle.encrypt_schema.specs.declared.faults.InfoFault.TheVariants as faults
-use Rattle.encrypt_schema.specs.declared.faults.InfoKind.{InfoKind}
-use Rattle.encrypt_schema.specs.declared.faults.InfoKind.TheVariants as kinds
-use Rattle.encrypt_schema.specs.declared.faults.SchemaFault.{SchemaFault}
-use Rattle.encrypt_schema.specs.declared.faults.SchemaFault.TheVariants as schemas
 use Rattle.command_marker.specs.Verdict.{Judgement, replies, not_built, too_long as reply_too_long, judged}
 use Rattle.fle_runner.specs.Plan.{Block, Plan, Verdict, writes, refused, too_long}
 use Rattle.fle_runner.specs.Task.{Task, fails, each, with_file}
-use Rattle.fle_runner.specs.declared.reason.Reason.TheVariants as reasons
+use Rattle.encrypt_schema.specs.declared.reason.Reason.TheVariants as reasons
 use Rattle.fle_runner.specs.declared.why.Why.{Why}
 use Rattle.fle_runner.specs.declared.why.Why.TheVariants as whys
-use Rattle.fle_runner.specs.declared.why.SetupFault.{SetupFault}
 use Rattle.fle_runner.specs.declared.why.SetupFault.TheVariants as setups
 
 -- an output that draws no blocks
@@ -32,24 +27,15 @@ verdict_of reply_too_long = too_long
 abbrev pub mark_verdict : List Collection → List ℕ → Items → Verdict
 mark_verdict infos db command = verdict_of (judged infos db command)
 
--- the fault of a schema of a file of collection infos
-abbrev pub schema_fault : SchemaFault → SetupFault
-schema_fault schemas.NotBuilt = setups.InfosNotBuilt
-
--- the fault of a file of collection infos
-abbrev pub infos_fault : InfoKind → SetupFault
-infos_fault kinds.Bson = setups.InfosBson
-infos_fault (kinds.Schema fault) = schema_fault fault
-
 -- why a run ends whose file of collection infos, the first of the words, is at fault
 abbrev pub infos_why : InfoFault → Why
-infos_why (faults.Bad document kind) = whys.Setup 1 (infos_fault kind) document
+infos_why (faults.Bad document kind) = whys.Setup 1 (setups.Infos kind) document
 infos_why faults.Memory = whys.Memory
 
 -- each command is marked under the infos that the file has, or the file is at fault
 abbrev pub infos_task : List ℕ → Result (List Collection) Faulty → Task
 infos_task db (Ok infos) = each (mark_verdict infos db)
-infos_task db (Err faulty) = fails (whys.Setup 1 (infos_fault faulty.kind) faulty.document)
+infos_task db (Err faulty) = fails (whys.Setup 1 (setups.Infos faulty.kind) faulty.document)
 
 -- the file of collection infos is the first file of the words
 abbrev pub mark_task : List ℕ → Option (List ℕ) → Task

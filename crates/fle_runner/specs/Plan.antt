@@ -1,6 +1,6 @@
 -- What a document or a verb comes to: an output, whose bytes are a function of the random blocks that it draws, or a refusal.
 use Rattle.std.specs.Prelude.{ℕ, ◌+◌, List, [], ◌∷◌, ◌++◌, take, drop}
-use Rattle.fle_runner.specs.declared.reason.Reason.{Reason}
+use Rattle.encrypt_schema.specs.declared.reason.Reason.{Reason}
 
 -- a random block: 16 bytes
 abbrev pub Block : Type 0

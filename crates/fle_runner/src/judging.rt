@@ -12,10 +12,10 @@ ghost use Rattle.fle_runner.specs.Turn.{TurnOf, IsOfStream};
 ghost use Rattle.fle_runner.specs.declared.why.Why.{Why};
 
 use crate::next::{Next, next_document};
-use crate::reason::Reason;
 use crate::turning::{Turn, Verb};
 use crate::why::{Bound, Why};
 use bson_tree::{Doc, Place};
+use encrypt_schema::Reason;
 use fle_outside::{Failed, Sink, Source, write_whole};
 use std::alloc::Global;
 

@@ -18,7 +18,6 @@ mod line;
 mod mark;
 mod next;
 mod program;
-mod reason;
 mod status;
 mod stream;
 #[cfg(test)]

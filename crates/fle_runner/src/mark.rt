@@ -4,19 +4,18 @@ ghost use Rattle.std.specs.Prelude.{◌≡◌, ◌≤◌, List, ℕ, Some, None}
 ghost use Rattle.fle_outside.specs.Counts.{Rose};
 ghost use Rattle.fle_outside.specs.Files.{Files, file_of};
 ghost use Rattle.fle_runner.specs.Did.{Did};
-ghost use Rattle.fle_runner.specs.Mark.{mark_verdict, mark_task, infos_fault, infos_why};
+ghost use Rattle.fle_runner.specs.Mark.{mark_verdict, mark_task, infos_why};
 ghost use Rattle.fle_runner.specs.Plan.{size_of};
 ghost use Rattle.fle_runner.specs.Task.{outcome_of};
 
 use crate::end::End;
 use crate::file::load_file;
 use crate::judging::{Judge, Judged};
-use crate::reason::Reason;
 use crate::stream::judge_stream;
 use crate::why::{SetupFault, Why};
 use bson_tree::{Doc, Place};
 use command_marker::{MarkStop, mark_insert};
-use encrypt_schema::{InfoFault, InfoKind, Infos, SchemaFault};
+use encrypt_schema::{InfoFault, Infos, Reason};
 use fle_outside::{Folder, Sink, Source};
 use std::alloc::Global;
 
@@ -81,17 +80,7 @@ fn why_infos(fault: InfoFault) -> Why
     ensures { result ≡ infos_why fault }
 {
     match fault {
-        InfoFault::Bad { document, kind } => Why::Setup(1, setup_fault(kind), document),
+        InfoFault::Bad { document, kind } => Why::Setup(1, SetupFault::Infos(kind), document),
         InfoFault::Memory => Why::Memory,
-    }
-}
-
-/// The fault of a file of collection infos.
-fn setup_fault(kind: InfoKind) -> SetupFault
-    ensures { result ≡ infos_fault kind }
-{
-    match kind {
-        InfoKind::Bson => SetupFault::InfosBson,
-        InfoKind::Schema(SchemaFault::NotBuilt) => SetupFault::InfosNotBuilt,
     }
 }

@@ -1,12 +1,12 @@
 //! Why a run ends, with all that its diagnostic line says.
 
 ghost use Rattle.std.specs.Prelude.{◌≡◌};
-ghost use Rattle.fle_runner.specs.Codes.{bound_code, setup_code, status_of};
+ghost use Rattle.fle_runner.specs.Codes.{bound_code, infos_code, schema_number, setup_code, status_of};
 
-use crate::reason::Reason;
 use crate::status::Status;
 use bson_codec::BsonFault;
 use bson_tree::Place;
+use encrypt_schema::{InfoKind, Reason, SchemaFault};
 
 /// Why a run ends.
 #[derive(Drop)]
@@ -51,13 +51,11 @@ pub enum Bound {
 #[derive(Clone, Copy, Debug, PartialEq, Eq)]
 pub enum SetupFault {
     /// There is no such file.
-    Missing = 1,
+    Missing,
     /// The file is longer than its limit.
-    TooLong = 2,
-    /// A document of the collection infos is no BSON.
-    InfosBson = 30,
-    /// A collection info has a schema of a form that isn't built yet.
-    InfosNotBuilt = 53,
+    TooLong,
+    /// A document of the collection infos is at fault.
+    Infos(InfoKind),
 }
 
 impl Why {
@@ -94,6 +92,29 @@ impl SetupFault {
     pub fn code(&self) -> u8
         ensures { result ≡ setup_code self.now }
     {
-        *self as u8
+        match *self {
+            SetupFault::Missing => 1,
+            SetupFault::TooLong => 2,
+            SetupFault::Infos(kind) => infos_code(kind),
+        }
     }
+}
+
+/// The number of a fault of a document of collection infos.
+fn infos_code(kind: InfoKind) -> u8
+    ensures { result ≡ infos_code kind }
+{
+    match kind {
+        InfoKind::Bson => 30,
+        InfoKind::Shape => 31,
+        InfoKind::Twice => 32,
+        InfoKind::Schema(fault) => 40 + schema_number(fault),
+    }
+}
+
+/// The number of a schema's fault among those of schemas, from 1.
+fn schema_number(fault: SchemaFault) -> u8
+    ensures { result ≡ schema_number fault }
+{
+    fault as u8
 }

@@ -1,5 +1,5 @@
 use Rattle.std.proofs.Common.{◌≡◌, ◌++◌, ℕ, List, rules, sym, ap, ◌∙◌, length}
-use Rattle.command_marker.specs.Marking.{key_id}
+use Rattle.payload6.specs.Marking.{key_id}
 use Rattle.command_marker.proofs.Markings.{put_parts}
 use Rattle.command_marker.proofs.marking.put_marking.Goals as goal
 

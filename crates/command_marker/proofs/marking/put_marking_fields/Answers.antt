@@ -2,7 +2,7 @@ use Rattle.std.proofs.Common.{List, ℕ, ◌++◌, ◌∙◌, ap}
 use Rattle.std.specs.Prelude.{codes}
 use Rattle.bson_tree.specs.Tree.{item, no_items}
 use Rattle.bson_tree.specs.Spelling.{items_bytes}
-use Rattle.command_marker.specs.Marking.{binary}
+use Rattle.payload6.specs.Marking.{binary}
 use Rattle.command_marker.proofs.Markings.{put_fields}
 use Rattle.command_marker.proofs.marking.put_marking_fields.Goals as goal
 
