@@ -40,7 +40,7 @@ row_3 n x e l = rw e (entry_bytes inv_sub_byte (λ b. slice_index INV_ROUND_TABL
 
 -- a column that the table gives, in the code's order of sums
 pub inv_column-looked_up : (a b c d k : ℕ) (h i j l : ℕ) → h ≡ a / 2 ^ 24 % 256 → i ≡ b / 2 ^ 16 % 256 → j ≡ c / 2 ^ 8 % 256 → l ≡ d / 2 ^ 0 % 256
-    → word_bytes (bit_xor (bit_xor (slice_index INV_ROUND_TABLE (768 + l)) k) (bit_xor (slice_index INV_ROUND_TABLE (512 + j)) (bit_xor (slice_index INV_ROUND_TABLE h) (slice_index INV_ROUND_TABLE (256 + i)))))
+    → word_bytes (bit_xor (bit_xor (bit_xor (bit_xor k (slice_index INV_ROUND_TABLE (768 + l))) (slice_index INV_ROUND_TABLE (512 + j))) (slice_index INV_ROUND_TABLE (256 + i))) (slice_index INV_ROUND_TABLE h))
     ≡ xor_bytes (mixed_column 14 11 13 9 (inv_sub_byte (a / 2 ^ 24 % 256)) (inv_sub_byte (b / 2 ^ 16 % 256)) (inv_sub_byte (c / 2 ^ 8 % 256)) (inv_sub_byte (d % 256))) (word_bytes k)
 inv_column-looked_up a b c d k h i j l eh ei ej el =
     let first : 0 + h ≡ h = omega arith in
