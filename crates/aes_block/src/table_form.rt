@@ -92,10 +92,10 @@ fn column(a: u32, b: u32, c: u32, d: u32, key: u32) -> u32
         (sub_byte (c / 2 ^ 8 % 256)) (sub_byte (d % 256)))
         (word_bytes key) }
 {
-    let p = ROUND_TABLE[byte_at(a, 24)];
-    let q = ROUND_TABLE[256 + byte_at(b, 16)];
-    let r = ROUND_TABLE[512 + byte_at(c, 8)];
     let s = ROUND_TABLE[768 + byte_at(d, 0)];
+    let r = ROUND_TABLE[512 + byte_at(c, 8)];
+    let q = ROUND_TABLE[256 + byte_at(b, 16)];
+    let p = ROUND_TABLE[byte_at(a, 24)];
     (((key ^ s) ^ r) ^ q) ^ p
 }
 
@@ -154,10 +154,10 @@ fn inv_column(a: u32, b: u32, c: u32, d: u32, key: u32) -> u32
         (inv_sub_byte (c / 2 ^ 8 % 256)) (inv_sub_byte (d % 256)))
         (word_bytes key) }
 {
-    let p = INV_ROUND_TABLE[byte_at(a, 24)];
-    let q = INV_ROUND_TABLE[256 + byte_at(b, 16)];
-    let r = INV_ROUND_TABLE[512 + byte_at(c, 8)];
     let s = INV_ROUND_TABLE[768 + byte_at(d, 0)];
+    let r = INV_ROUND_TABLE[512 + byte_at(c, 8)];
+    let q = INV_ROUND_TABLE[256 + byte_at(b, 16)];
+    let p = INV_ROUND_TABLE[byte_at(a, 24)];
     (((key ^ s) ^ r) ^ q) ^ p
 }
 
