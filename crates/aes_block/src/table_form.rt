@@ -3,8 +3,8 @@
 //
 // The rounds are written out: over a loop LLVM gathers the columns into vectors, and a block then
 // takes twice as long. A round looks up the lowest byte's entry first and the highest byte's last, and
-// takes the two highest bytes of a word from the turned word, where they are the lowest: of the forms
-// tried this one leaves the most words in registers.
+// takes the two highest bytes of a word from the turned word, where they are the lowest; an inverse
+// round begins with its last column. Of the forms tried this one leaves the most words in registers.
 
 ghost use Rattle.std.specs.Prelude.{◌≡◌, ℕ, ◌/◌, ◌%◌, ◌^◌, ◌<◌, ◌≤◌, [], ◌∷◌};
 ghost use Rattle.aes_block.specs.Block.{four_words, word_bytes, xor_bytes};
@@ -180,12 +180,11 @@ fn inv_round(s: [u32; 4], w: &[u32; 60], r: usize) -> [u32; 4]
 {
     let [a, b, c, d] = s;
     let [e, f, g, h] = [turned(a), turned(b), turned(c), turned(d)];
-    [
-        inv_column(e, h, c, b, w[4 * r]),
-        inv_column(f, e, d, c, w[4 * r + 1]),
-        inv_column(g, f, a, d, w[4 * r + 2]),
-        inv_column(h, g, b, a, w[4 * r + 3]),
-    ]
+    let fourth = inv_column(h, g, b, a, w[4 * r + 3]);
+    let third = inv_column(g, f, a, d, w[4 * r + 2]);
+    let second = inv_column(f, e, d, c, w[4 * r + 1]);
+    let first = inv_column(e, h, c, b, w[4 * r]);
+    [first, second, third, fourth]
 }
 
 // A column after the last round, which has no InvMixColumns.
