@@ -9,15 +9,16 @@ use Rattle.aes_block.proofs.Xor.{five_sorted, five_turned, five_turned_twice, fi
 use Rattle.aes_block.proofs.WordBytes.{word_bytes-made}
 
 five_words : (p q r s k : ℕ)
-    → word_bytes (bit_xor (bit_xor s k) (bit_xor r (bit_xor p q)))
-    ≡ xor_bytes (xor_bytes (word_bytes s) (word_bytes k)) (xor_bytes (word_bytes r) (xor_bytes (word_bytes p) (word_bytes q)))
+    → word_bytes (bit_xor (bit_xor (bit_xor (bit_xor k s) r) q) p)
+    ≡ xor_bytes (xor_bytes (xor_bytes (xor_bytes (word_bytes k) (word_bytes s)) (word_bytes r)) (word_bytes q)) (word_bytes p)
 five_words p q r s k =
-    word_bytes-xor (bit_xor s k) (bit_xor r (bit_xor p q))
-    ∙ ap (λ x. xor_bytes x (word_bytes (bit_xor r (bit_xor p q)))) (word_bytes-xor s k)
-    ∙ ap (xor_bytes (xor_bytes (word_bytes s) (word_bytes k))) (word_bytes-xor r (bit_xor p q) ∙ ap (xor_bytes (word_bytes r)) (word_bytes-xor p q))
+    word_bytes-xor (bit_xor (bit_xor (bit_xor k s) r) q) p
+    ∙ ap (λ x. xor_bytes x (word_bytes p)) (word_bytes-xor (bit_xor (bit_xor k s) r) q
+    ∙ ap (λ x. xor_bytes x (word_bytes q)) (word_bytes-xor (bit_xor k s) r
+    ∙ ap (λ x. xor_bytes x (word_bytes r)) (word_bytes-xor k s)))
 
 five_replaced : {p q r s p' q' r' s' : List ℕ} (k : List ℕ) → p ≡ p' → q ≡ q' → r ≡ r' → s ≡ s'
-    → xor_bytes (xor_bytes s k) (xor_bytes r (xor_bytes p q)) ≡ xor_bytes (xor_bytes s' k) (xor_bytes r' (xor_bytes p' q'))
+    → xor_bytes (xor_bytes (xor_bytes (xor_bytes k s) r) q) p ≡ xor_bytes (xor_bytes (xor_bytes (xor_bytes k s') r') q') p'
 five_replaced k ep eq er es = cc
 
 -- the entries p, q, r and s hold the products of a, b, c and d by the constants, each in its row
@@ -26,7 +27,7 @@ pub column-sum : (m0 m1 m2 m3 a b c d p q r s k : ℕ)
     → word_bytes q ≡ product b m1 ∷ product b m0 ∷ product b m3 ∷ product b m2 ∷ []
     → word_bytes r ≡ product c m2 ∷ product c m1 ∷ product c m0 ∷ product c m3 ∷ []
     → word_bytes s ≡ product d m3 ∷ product d m2 ∷ product d m1 ∷ product d m0 ∷ []
-    → word_bytes (bit_xor (bit_xor s k) (bit_xor r (bit_xor p q))) ≡ xor_bytes (mixed_column m0 m1 m2 m3 a b c d) (word_bytes k)
+    → word_bytes (bit_xor (bit_xor (bit_xor (bit_xor k s) r) q) p) ≡ xor_bytes (mixed_column m0 m1 m2 m3 a b c d) (word_bytes k)
 column-sum m0 m1 m2 m3 a b c d p q r s k ep eq er es =
     five_words p q r s k
     ∙ five_replaced (word_bytes k) ep eq er es

@@ -38,15 +38,16 @@ row_3_entries = refl
 row_3 : (n x : ℕ) → n ≡ x → x < 256 → word_bytes (slice_index ROUND_TABLE (768 + n)) ≡ product (sub_byte x) 1 ∷ product (sub_byte x) 1 ∷ product (sub_byte x) 3 ∷ product (sub_byte x) 2 ∷ []
 row_3 n x e l = rw e (entry_bytes sub_byte (λ b. slice_index ROUND_TABLE (768 + b)) 1 1 3 2 row_3_entries x l)
 
--- a column that the table gives, in the code's order of sums
-pub column-looked_up : (a b c d k : ℕ) (h i j l : ℕ) → h ≡ a / 2 ^ 24 % 256 → i ≡ b / 2 ^ 16 % 256 → j ≡ c / 2 ^ 8 % 256 → l ≡ d / 2 ^ 0 % 256
-    → word_bytes (bit_xor (bit_xor (slice_index ROUND_TABLE (768 + l)) k) (bit_xor (slice_index ROUND_TABLE (512 + j)) (bit_xor (slice_index ROUND_TABLE h) (slice_index ROUND_TABLE (256 + i)))))
-    ≡ xor_bytes (mixed_column 2 3 1 1 (sub_byte (a / 2 ^ 24 % 256)) (sub_byte (b / 2 ^ 16 % 256)) (sub_byte (c / 2 ^ 8 % 256)) (sub_byte (d % 256))) (word_bytes k)
+-- a column that the table gives, in the code's order of sums; a and b are turned words
+pub column-looked_up : (a b c d k : ℕ) (h i j l : ℕ) → h ≡ a / 2 ^ 0 % 256 → i ≡ b / 2 ^ 8 % 256 → j ≡ c / 2 ^ 8 % 256 → l ≡ d / 2 ^ 0 % 256
+    → word_bytes (bit_xor (bit_xor (bit_xor (bit_xor k (slice_index ROUND_TABLE (768 + l))) (slice_index ROUND_TABLE (512 + j))) (slice_index ROUND_TABLE (256 + i))) (slice_index ROUND_TABLE h))
+    ≡ xor_bytes (mixed_column 2 3 1 1 (sub_byte (a % 256)) (sub_byte (b / 2 ^ 8 % 256)) (sub_byte (c / 2 ^ 8 % 256)) (sub_byte (d % 256))) (word_bytes k)
 column-looked_up a b c d k h i j l eh ei ej el =
     let first : 0 + h ≡ h = omega arith in
+    let high : h ≡ a % 256 = omega (arith, eh) in
     let low : l ≡ d % 256 = omega (arith, el) in
     column-sum 2 3 1 1 _ _ _ _ (slice_index ROUND_TABLE h) (slice_index ROUND_TABLE (256 + i)) (slice_index ROUND_TABLE (512 + j)) (slice_index ROUND_TABLE (768 + l)) k
-    (rw first at (row_0 h (a / 2 ^ 24 % 256) eh (omega arith)))
-    (row_1 i (b / 2 ^ 16 % 256) ei (omega arith))
+    (rw first at (row_0 h (a % 256) high (omega arith)))
+    (row_1 i (b / 2 ^ 8 % 256) ei (omega arith))
     (row_2 j (c / 2 ^ 8 % 256) ej (omega arith))
     (row_3 l (d % 256) low (omega arith))

@@ -14,21 +14,23 @@ sum4-turned p q r s =
     ∙ ap (λ x. bit_xor x p) (sym (xor_assoc q r s))
     ∙ xor_assoc (bit_xor q r) s p
 
--- (s + k) + (r + (p + q)) = ((p + q) + (r + s)) + k
-pub five_sorted : (p q r s k : ℕ) → bit_xor (bit_xor s k) (bit_xor r (bit_xor p q)) ≡ bit_xor (sum4 p q r s) k
+-- (((k + s) + r) + q) + p = ((p + q) + (r + s)) + k
+pub five_sorted : (p q r s k : ℕ) → bit_xor (bit_xor (bit_xor (bit_xor k s) r) q) p ≡ bit_xor (sum4 p q r s) k
 five_sorted p q r s k =
-    xor_comm (bit_xor s k) (bit_xor r (bit_xor p q))
-    ∙ sym (xor_assoc (bit_xor r (bit_xor p q)) s k)
-    ∙ ap (λ x. bit_xor (bit_xor x s) k) (xor_comm r (bit_xor p q))
-    ∙ ap (λ x. bit_xor x k) (xor_assoc (bit_xor p q) r s)
+    xor_assoc (bit_xor (bit_xor k s) r) q p
+    ∙ ap (bit_xor (bit_xor (bit_xor k s) r)) (xor_comm q p)
+    ∙ ap (λ x. bit_xor x (bit_xor p q)) (xor_assoc k s r ∙ ap (bit_xor k) (xor_comm s r))
+    ∙ xor_assoc k (bit_xor r s) (bit_xor p q)
+    ∙ ap (bit_xor k) (xor_comm (bit_xor r s) (bit_xor p q))
+    ∙ xor_comm k (sum4 p q r s)
 
-pub five_turned : (p q r s k : ℕ) → bit_xor (bit_xor s k) (bit_xor r (bit_xor p q)) ≡ bit_xor (sum4 q r s p) k
+pub five_turned : (p q r s k : ℕ) → bit_xor (bit_xor (bit_xor (bit_xor k s) r) q) p ≡ bit_xor (sum4 q r s p) k
 five_turned p q r s k = five_sorted p q r s k ∙ ap (λ x. bit_xor x k) (sum4-turned p q r s)
 
-pub five_turned_twice : (p q r s k : ℕ) → bit_xor (bit_xor s k) (bit_xor r (bit_xor p q)) ≡ bit_xor (sum4 r s p q) k
+pub five_turned_twice : (p q r s k : ℕ) → bit_xor (bit_xor (bit_xor (bit_xor k s) r) q) p ≡ bit_xor (sum4 r s p q) k
 five_turned_twice p q r s k = five_turned p q r s k ∙ ap (λ x. bit_xor x k) (sum4-turned q r s p)
 
-pub five_turned_back : (p q r s k : ℕ) → bit_xor (bit_xor s k) (bit_xor r (bit_xor p q)) ≡ bit_xor (sum4 s p q r) k
+pub five_turned_back : (p q r s k : ℕ) → bit_xor (bit_xor (bit_xor (bit_xor k s) r) q) p ≡ bit_xor (sum4 s p q r) k
 five_turned_back p q r s k = five_turned_twice p q r s k ∙ ap (λ x. bit_xor x k) (sum4-turned r s p q)
 
 byte-xor : (k x y : ℕ) → bit_xor x y / 2 ^ k % 2 ^ 8 ≡ bit_xor (x / 2 ^ k % 2 ^ 8) (y / 2 ^ k % 2 ^ 8)

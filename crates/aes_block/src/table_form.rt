@@ -2,7 +2,9 @@
 // (FIPS 197, 5.1, 5.3 and 5.3.5).
 //
 // The rounds are written out: over a loop LLVM gathers the columns into vectors, and a block then
-// takes twice as long.
+// takes twice as long. A round looks up the lowest byte's entry first and the highest byte's last, and
+// takes the two highest bytes of a word from the turned word, where they are the lowest; an inverse
+// round begins with its last column. Of the forms tried this one leaves the most words in registers.
 
 ghost use Rattle.std.specs.Prelude.{◌≡◌, ℕ, ◌/◌, ◌%◌, ◌^◌, ◌<◌, ◌≤◌, [], ◌∷◌};
 ghost use Rattle.aes_block.specs.Block.{four_words, word_bytes, xor_bytes};
@@ -82,20 +84,29 @@ fn add_key(s: [u32; 4], w: &[u32; 60], r: usize) -> [u32; 4]
     ]
 }
 
-// A column after a round, from the columns that ShiftRows takes its bytes from.
+// The word with its bytes in the other order.
+#[inline(always)]
+fn turned(word: u32) -> u32
+    ensures highest { result % 256 ≡ word / 2 ^ 24 % 256 }
+    ensures second { result / 2 ^ 8 % 256 ≡ word / 2 ^ 16 % 256 }
+{
+    word.swap_bytes()
+}
+
+// A column after a round, from the columns that ShiftRows takes its bytes from, the first two turned.
 #[inline(always)]
 fn column(a: u32, b: u32, c: u32, d: u32, key: u32) -> u32
     ensures { word_bytes result ≡ xor_bytes
         (mixed_column 0x02 0x03 0x01 0x01
-        (sub_byte (a / 2 ^ 24 % 256)) (sub_byte (b / 2 ^ 16 % 256))
+        (sub_byte (a % 256)) (sub_byte (b / 2 ^ 8 % 256))
         (sub_byte (c / 2 ^ 8 % 256)) (sub_byte (d % 256)))
         (word_bytes key) }
 {
-    let p = ROUND_TABLE[byte_at(a, 24)];
-    let q = ROUND_TABLE[256 + byte_at(b, 16)];
-    let r = ROUND_TABLE[512 + byte_at(c, 8)];
     let s = ROUND_TABLE[768 + byte_at(d, 0)];
-    (s ^ key) ^ (r ^ (p ^ q))
+    let r = ROUND_TABLE[512 + byte_at(c, 8)];
+    let q = ROUND_TABLE[256 + byte_at(b, 8)];
+    let p = ROUND_TABLE[byte_at(a, 0)];
+    (((key ^ s) ^ r) ^ q) ^ p
 }
 
 #[inline(always)]
@@ -105,11 +116,12 @@ fn round(s: [u32; 4], w: &[u32; 60], r: usize) -> [u32; 4]
         ≡ add_round_key (mix_columns (shift_rows (sub_bytes (four_words s 0)))) (round_key w.now r) }
 {
     let [a, b, c, d] = s;
+    let [e, f, g, h] = [turned(a), turned(b), turned(c), turned(d)];
     [
-        column(a, b, c, d, w[4 * r]),
-        column(b, c, d, a, w[4 * r + 1]),
-        column(c, d, a, b, w[4 * r + 2]),
-        column(d, a, b, c, w[4 * r + 3]),
+        column(e, f, c, d, w[4 * r]),
+        column(f, g, d, a, w[4 * r + 1]),
+        column(g, h, a, b, w[4 * r + 2]),
+        column(h, e, b, c, w[4 * r + 3]),
     ]
 }
 
@@ -144,20 +156,20 @@ fn last_round(s: [u32; 4], w: &[u32; 60]) -> [u32; 4]
     ]
 }
 
-// A column after a round, from the columns that ShiftRows takes its bytes from.
+// A column after a round, from the columns that InvShiftRows takes its bytes from, the first two turned.
 #[inline(always)]
 fn inv_column(a: u32, b: u32, c: u32, d: u32, key: u32) -> u32
     ensures { word_bytes result ≡ xor_bytes
         (mixed_column 0x0e 0x0b 0x0d 0x09
-        (inv_sub_byte (a / 2 ^ 24 % 256)) (inv_sub_byte (b / 2 ^ 16 % 256))
+        (inv_sub_byte (a % 256)) (inv_sub_byte (b / 2 ^ 8 % 256))
         (inv_sub_byte (c / 2 ^ 8 % 256)) (inv_sub_byte (d % 256)))
         (word_bytes key) }
 {
-    let p = INV_ROUND_TABLE[byte_at(a, 24)];
-    let q = INV_ROUND_TABLE[256 + byte_at(b, 16)];
-    let r = INV_ROUND_TABLE[512 + byte_at(c, 8)];
     let s = INV_ROUND_TABLE[768 + byte_at(d, 0)];
-    (s ^ key) ^ (r ^ (p ^ q))
+    let r = INV_ROUND_TABLE[512 + byte_at(c, 8)];
+    let q = INV_ROUND_TABLE[256 + byte_at(b, 8)];
+    let p = INV_ROUND_TABLE[byte_at(a, 0)];
+    (((key ^ s) ^ r) ^ q) ^ p
 }
 
 #[inline(always)]
@@ -167,12 +179,12 @@ fn inv_round(s: [u32; 4], w: &[u32; 60], r: usize) -> [u32; 4]
         ≡ add_round_key (inv_mix_columns (inv_sub_bytes (inv_shift_rows (four_words s 0)))) (round_key w.now r) }
 {
     let [a, b, c, d] = s;
-    [
-        inv_column(a, d, c, b, w[4 * r]),
-        inv_column(b, a, d, c, w[4 * r + 1]),
-        inv_column(c, b, a, d, w[4 * r + 2]),
-        inv_column(d, c, b, a, w[4 * r + 3]),
-    ]
+    let [e, f, g, h] = [turned(a), turned(b), turned(c), turned(d)];
+    let fourth = inv_column(h, g, b, a, w[4 * r + 3]);
+    let third = inv_column(g, f, a, d, w[4 * r + 2]);
+    let second = inv_column(f, e, d, c, w[4 * r + 1]);
+    let first = inv_column(e, h, c, b, w[4 * r]);
+    [first, second, third, fourth]
 }
 
 // A column after the last round, which has no InvMixColumns.

@@ -6,6 +6,7 @@ use crate::{
 };
 use bson_tree::{Body, Bytes, Doc, Kids, Place, Value, copy_doc, value_at};
 use std::alloc::{AllocError, Global};
+use std::process::Abort;
 use std::test::Fail;
 
 // {insert: "people", documents: [{ssn: "123-45-6789", n: 1}], $db: "hr"}, as a driver writes it.
@@ -51,9 +52,16 @@ fn the_front_document_is_read_whatever_follows(rt: HostRuntime) -> Result<(), Fa
     Ok(())
 }
 
+// Decoding must end in this fault.
+fn expect_fault(rt: &impl Abort, alloc: Global, bytes: &[u8], kind: BsonKind, offset: usize) {
+    assert!(rt; bytes.len() < 100);
+    let fault = BsonFault { kind, offset };
+    assert_eq!(rt; decode(alloc, bytes).err(), Some(CodecFault::Bson(fault)));
+}
+
 #[test]
-fn the_first_fault_has_its_kind_and_offset(rt: HostRuntime) {
-    let cases: [(&[u8], BsonKind, usize); 20] = [
+fn a_fault_of_a_length_or_a_name_has_its_kind_and_offset(rt: HostRuntime) {
+    let cases: [(&[u8], BsonKind, usize); 10] = [
         (b"", BsonKind::Short, 0),
         (b"\x05\x00\x00", BsonKind::Short, 3),
         (b"\x04\x00\x00\x00\x00", BsonKind::Length, 0),
@@ -64,6 +72,15 @@ fn the_first_fault_has_its_kind_and_offset(rt: HostRuntime) {
         (b"\x07\x00\x00\x00\x00\x00\x00", BsonKind::Extra, 5),
         (b"\x08\x00\x00\x00\x20b\x00\x00", BsonKind::Tag, 4),
         (b"\x07\x00\x00\x00\x10a\x00", BsonKind::NoEnd, 6),
+    ];
+    for (bytes, kind, offset) in cases {
+        expect_fault(&rt, rt.alloc(), bytes, kind, offset);
+    }
+}
+
+#[test]
+fn a_fault_of_a_value_has_its_kind_and_offset(rt: HostRuntime) {
+    let cases: [(&[u8], BsonKind, usize); 10] = [
         (
             b"\x0B\x00\x00\x00\x10n\x00\x01\x00\x00\x00",
             BsonKind::Short,
@@ -112,12 +129,7 @@ fn the_first_fault_has_its_kind_and_offset(rt: HostRuntime) {
         ),
     ];
     for (bytes, kind, offset) in cases {
-        assert!(rt; bytes.len() < 100);
-        let fault = BsonFault { kind, offset };
-        assert_eq!(rt;
-            decode(rt.alloc(), bytes).err(),
-            Some(CodecFault::Bson(fault))
-        );
+        expect_fault(&rt, rt.alloc(), bytes, kind, offset);
     }
 }
 

@@ -195,8 +195,7 @@ fn a_stream_may_come_in_any_pieces(rt: HostRuntime) -> Result<(), Fail> {
 }
 
 #[test]
-fn words_and_files_are_judged_first(rt: HostRuntime) -> Result<(), Fail> {
-    let alloc = rt.alloc();
+fn words_of_no_known_form_are_told_before_any_input(rt: HostRuntime) -> Result<(), Fail> {
     let none: [&str; 0] = [];
     let forms: [&[&str]; 5] = [
         &none,
@@ -212,47 +211,42 @@ fn words_and_files_are_judged_first(rt: HostRuntime) -> Result<(), Fail> {
         };
         expect(
             &rt,
-            &look(alloc, run)?,
+            &look(rt.alloc(), run)?,
             Status::Words,
             b"",
             "fle: 2 0 0 -\n",
         );
     }
-    let run = Run {
+    Ok(())
+}
+
+#[test]
+fn a_file_of_infos_that_is_missing_or_wrong_is_told_before_any_input(
+    rt: HostRuntime,
+) -> Result<(), Fail> {
+    let alloc = rt.alloc();
+    let no_bson = joined(alloc, PEOPLE, b"\x01")?;
+    let no_info = joined(alloc, PEOPLE, b"\x05\x00\x00\x00\x00")?;
+    let missing = Run {
         words: &["mark", "hr", "other"],
         ..plain(INSERT)
     };
-    expect(
-        &rt,
-        &look(alloc, run)?,
-        Status::Setup,
-        b"",
-        "fle: 4 1 1 0\n",
-    );
-    let no_bson = joined(alloc, PEOPLE, b"\x01")?;
-    let run = Run {
+    let cut = Run {
         infos: &no_bson,
         ..plain(INSERT)
     };
-    expect(
-        &rt,
-        &look(alloc, run)?,
-        Status::Setup,
-        b"",
-        "fle: 4 1 30 2\n",
-    );
-    let no_info = joined(alloc, PEOPLE, b"\x05\x00\x00\x00\x00")?;
-    let run = Run {
+    let nameless = Run {
         infos: &no_info,
         ..plain(INSERT)
     };
-    expect(
-        &rt,
-        &look(alloc, run)?,
-        Status::Setup,
-        b"",
-        "fle: 4 1 53 2\n",
-    );
+    let cases: [(Run<'_>, &str); 3] = [
+        (missing, "fle: 4 1 1 0\n"),
+        (cut, "fle: 4 1 30 2\n"),
+        (nameless, "fle: 4 1 53 2\n"),
+    ];
+    for (run, line) in cases {
+        expect(&rt, &look(alloc, run)?, Status::Setup, b"", line);
+    }
     Ok(())
 }
 

@@ -5,4 +5,8 @@ use Rattle.aes_block.proofs.table_form.round.Goals as goal
 
 pub returns : goal.returns
 unfolding four_words sub_bytes shift_rows mix_columns round_key add_round_key
-returns c = joined c.column.ensures c.column-2.ensures c.column-3.ensures c.column-4.ensures
+returns c = joined
+    (rw (c.turned.ensures.highest, c.turned-2.ensures.second) at c.column.ensures)
+    (rw (c.turned-2.ensures.highest, c.turned-3.ensures.second) at c.column-2.ensures)
+    (rw (c.turned-3.ensures.highest, c.turned-4.ensures.second) at c.column-3.ensures)
+    (rw (c.turned-4.ensures.highest, c.turned.ensures.second) at c.column-4.ensures)
