@@ -21,6 +21,8 @@ mod program;
 mod status;
 mod stream;
 #[cfg(test)]
+mod schema_tests;
+#[cfg(test)]
 mod tests;
 mod turning;
 mod why;

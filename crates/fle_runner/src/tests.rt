@@ -10,11 +10,11 @@ use std::process::Abort;
 use std::test::Fail;
 
 /// The info of `people`: `ssn` deterministic and a string, `salary` random.
-const PEOPLE: &[u8] =
+pub(crate) const PEOPLE: &[u8] =
     b"\x80\x01\x00\x00\x02name\x00\x07\x00\x00\x00people\x00\x02type\x00\x0b\x00\x00\x00collection\x00\x03options\x00L\x01\x00\x00\x03validator\x00<\x01\x00\x00\x03$jsonSchema\x00*\x01\x00\x00\x02bsonType\x00\x07\x00\x00\x00object\x00\x03properties\x00\x04\x01\x00\x00\x03ssn\x00\x87\x00\x00\x00\x03encrypt\x00y\x00\x00\x00\x04keyId\x00\x1d\x00\x00\x00\x050\x00\x10\x00\x00\x00\x04\x00\x11\x223DUFw\x88\x99\xaa\xbb\xcc\xdd\xee\xff\x00\x02algorithm\x00,\x00\x00\x00AEAD_AES_256_CBC_HMAC_SHA_512-Deterministic\x00\x02bsonType\x00\x07\x00\x00\x00string\x00\x00\x00\x03salary\x00k\x00\x00\x00\x03encrypt\x00]\x00\x00\x00\x04keyId\x00\x1d\x00\x00\x00\x050\x00\x10\x00\x00\x00\x04\x00\x11\x223DUFw\x88\x99\xaa\xbb\xcc\xdd\xee\xff\x00\x02algorithm\x00%\x00\x00\x00AEAD_AES_256_CBC_HMAC_SHA_512-Random\x00\x00\x00\x00\x00\x00\x00\x00";
 
 /// `{insert: "people", documents: [{ssn: "123-45-6789", n: int 1}], $db: "hr"}`.
-const INSERT: &[u8] =
+pub(crate) const INSERT: &[u8] =
     b"X\x00\x00\x00\x02insert\x00\x07\x00\x00\x00people\x00\x04documents\x00)\x00\x00\x00\x030\x00!\x00\x00\x00\x02ssn\x00\x0c\x00\x00\x00123-45-6789\x00\x10n\x00\x01\x00\x00\x00\x00\x00\x02$db\x00\x03\x00\x00\x00hr\x00\x00";
 
 /// Its reply, 214 bytes.
@@ -42,9 +42,9 @@ const NONE: [u64; 0] = [];
 /// A run: its words, its file of collection infos, its input and how many bytes of it one read gives,
 /// and the numbers of the calls that fail.
 #[derive(Clone, Copy)]
-struct Run<'a> {
+pub(crate) struct Run<'a> {
     words: &'a [&'a str],
-    infos: &'a [u8],
+    pub(crate) infos: &'a [u8],
     input: &'a [u8],
     step: usize,
     source: &'a [u64],
@@ -55,14 +55,14 @@ struct Run<'a> {
 
 /// What a run left.
 #[derive(Drop)]
-struct Seen {
+pub(crate) struct Seen {
     status: Status,
     out: Vec<u8>,
     line: Vec<u8>,
 }
 
 /// A run over this input in which nothing fails.
-fn plain(input: &[u8]) -> Run<'_> {
+pub(crate) fn plain(input: &[u8]) -> Run<'_> {
     Run {
         words: &WORDS,
         infos: PEOPLE,
@@ -103,7 +103,7 @@ fn words_of(alloc: Global, words: &[&str]) -> Result<Vec<String>, Fail> {
 }
 
 /// Runs the program.
-fn look(alloc: Global, run: Run<'_>) -> Result<Seen, Fail> {
+pub(crate) fn look(alloc: Global, run: Run<'_>) -> Result<Seen, Fail> {
     let words = words_of(alloc, run.words)?;
     let bytes = Vec::from_slice(alloc, run.input)?;
     let mut input = MemSource::new(bytes, run.step.max(1), Vec::from_slice(alloc, run.source)?);
@@ -119,14 +119,14 @@ fn look(alloc: Global, run: Run<'_>) -> Result<Seen, Fail> {
 }
 
 /// The run must leave this status, this output and this line.
-fn expect(rt: &impl Abort, seen: &Seen, status: Status, out: &[u8], line: &str) {
+pub(crate) fn expect(rt: &impl Abort, seen: &Seen, status: Status, out: &[u8], line: &str) {
     assert!(rt; seen.status == status, "status");
     assert!(rt; seen.out.as_slice() == out, "output");
     assert!(rt; seen.line.as_slice() == line.as_bytes(), "line");
 }
 
 /// Two pieces of a stream, one after the other.
-fn joined(alloc: Global, front: &[u8], back: &[u8]) -> Result<Vec<u8>, Fail> {
+pub(crate) fn joined(alloc: Global, front: &[u8], back: &[u8]) -> Result<Vec<u8>, Fail> {
     let mut bytes = Vec::from_slice(alloc, front)?;
     bytes.extend_from_slice(back)?;
     Ok(bytes)
@@ -226,7 +226,6 @@ fn a_file_of_infos_that_is_missing_or_wrong_is_told_before_any_input(
 ) -> Result<(), Fail> {
     let alloc = rt.alloc();
     let no_bson = joined(alloc, PEOPLE, b"\x01")?;
-    let no_info = joined(alloc, PEOPLE, b"\x05\x00\x00\x00\x00")?;
     let missing = Run {
         words: &["mark", "hr", "other"],
         ..plain(INSERT)
@@ -235,14 +234,9 @@ fn a_file_of_infos_that_is_missing_or_wrong_is_told_before_any_input(
         infos: &no_bson,
         ..plain(INSERT)
     };
-    let nameless = Run {
-        infos: &no_info,
-        ..plain(INSERT)
-    };
-    let cases: [(Run<'_>, &str); 3] = [
+    let cases: [(Run<'_>, &str); 2] = [
         (missing, "fle: 4 1 1 0\n"),
         (cut, "fle: 4 1 30 2\n"),
-        (nameless, "fle: 4 1 53 2\n"),
     ];
     for (run, line) in cases {
         expect(&rt, &look(alloc, run)?, Status::Setup, b"", line);
