@@ -4,6 +4,7 @@
 mod fields;
 mod frame;
 mod insert;
+pub mod laws;
 mod mark;
 mod marking;
 mod reply;

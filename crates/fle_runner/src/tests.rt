@@ -43,14 +43,14 @@ const NONE: [u64; 0] = [];
 /// and the numbers of the calls that fail.
 #[derive(Clone, Copy)]
 pub(crate) struct Run<'a> {
-    words: &'a [&'a str],
+    pub(crate) words: &'a [&'a str],
     pub(crate) infos: &'a [u8],
-    input: &'a [u8],
-    step: usize,
-    source: &'a [u64],
-    folder: &'a [u64],
-    sink: &'a [u64],
-    diag: &'a [u64],
+    pub(crate) input: &'a [u8],
+    pub(crate) step: usize,
+    pub(crate) source: &'a [u64],
+    pub(crate) folder: &'a [u64],
+    pub(crate) sink: &'a [u64],
+    pub(crate) diag: &'a [u64],
 }
 
 /// What a run left.

@@ -1,0 +1,12 @@
+-- A place read from its chain is the one that the descent visits.
+use Rattle.encrypt_schema.proofs.ByPlace.{by_place, stations_by_place, offences_by_place, roles_by_place, verdict_by_place}
+use Rattle.command_marker.proofs.laws.by_place.Goals as goal
+
+pub returns : goal.returns
+returns c = record {
+  visits = by_place;
+  stations = stations_by_place;
+  offences = offences_by_place;
+  roles = roles_by_place;
+  verdict = verdict_by_place;
+}

@@ -1,0 +1,57 @@
+//! What holds of roles, offences and verdicts whatever the rules and the commands (the definitions of
+//! `encrypt_schema`). The functions do nothing; their clauses are the laws.
+
+ghost use Rattle.std.specs.Prelude.{◌≡◌, ℕ, List, Bool, true, false, Some, length, map, flat_map, option_map};
+ghost use Rattle.std.specs.Option.{option_map_or};
+ghost use Rattle.bson_tree.specs.Places.{places};
+ghost use Rattle.bson_tree.specs.Spelling.{doc_bytes};
+ghost use Rattle.bson_tree.specs.Tree.{Items};
+ghost use Rattle.encrypt_schema.specs.Chains.{first_of, is_shown, mark_of, offence_at, refusal_at, sites, station_at, use_of_mark, use_of_site, visit_at};
+ghost use Rattle.encrypt_schema.specs.Collection.{Collection};
+ghost use Rattle.encrypt_schema.specs.Row.{Row};
+ghost use Rattle.encrypt_schema.specs.Skeletons.{AreApart, blank, hole_at, holes, skeleton};
+ghost use Rattle.encrypt_schema.specs.Stations.{has_role};
+ghost use Rattle.encrypt_schema.specs.Targets.{rows_of, verdict};
+ghost use Rattle.encrypt_schema.specs.Visits.{command_visits, content_verdict, first_refusal, offence_of, roles, station_of};
+
+/// The values with a role come in reading order and apart: none twice, none inside another. They are the
+/// holes of the skeleton, and no ancestor of a place with a role has one.
+pub fn holes()
+    ensures apart { (rows : List Row) (c : Items) → AreApart 4 (roles rows c) (length (doc_bytes c)) }
+    ensures skeleton { (rows : List Row) (c : Items) → holes 4 (skeleton rows c) ≡ map hole_at (roles rows c) }
+    ensures outermost { (rows : List Row) (c : Items) (place : List ℕ) → option_map_or has_role (station_at rows c place) false ≡ true → is_shown rows c place ≡ true }
+{}
+
+/// Commands with equal skeletons have equal roles, equal offences at each place that lies below no hole, and
+/// equal verdicts: what is refused, and where, depends on protected values by their types, their lengths and
+/// whether they are binaries of subtype 06 alone.
+pub fn two_worlds()
+    ensures roles { (rows : List Row) (c d : Items) → skeleton rows c ≡ skeleton rows d → roles rows c ≡ roles rows d }
+    ensures shown { (rows : List Row) (c d : Items) → skeleton rows c ≡ skeleton rows d → (place : List ℕ) → is_shown rows c place ≡ is_shown rows d place }
+    ensures offences { (rows : List Row) (c d : Items) → skeleton rows c ≡ skeleton rows d → (place : List ℕ) → is_shown rows c place ≡ true
+        → offence_at rows c place ≡ offence_at rows d place }
+    ensures starts { (rows : List Row) (c d : Items) → skeleton rows c ≡ skeleton rows d → (place : List ℕ) → is_shown rows c place ≡ true
+        → option_map (λ v. v.start) (visit_at rows c place) ≡ option_map (λ v. v.start) (visit_at rows d place) }
+    ensures content { (rows : List Row) (c d : Items) → skeleton rows c ≡ skeleton rows d → content_verdict rows c ≡ content_verdict rows d }
+    ensures rows { (collections : List Collection) (rows : List Row) (c d : Items) → skeleton rows c ≡ skeleton rows d → rows_of collections c ≡ rows_of collections d }
+    ensures verdict { (db : List ℕ) (collections : List Collection) (c d : Items)
+        → skeleton (rows_of collections c) c ≡ skeleton (rows_of collections c) d → verdict db collections c ≡ verdict db collections d }
+{}
+
+/// Commands that are equal but for blanks at their protected values have the same places with the same rules
+/// and roles; and so have commands with equal skeletons.
+pub fn equal_blanks()
+    ensures sites { (rows : List Row) (c d : Items) → blank rows c ≡ blank rows d → sites rows c ≡ sites rows d }
+    ensures blanks { (rows : List Row) (c d : Items) → skeleton rows c ≡ skeleton rows d → blank rows c ≡ blank rows d }
+    ensures marks { (rows : List Row) (c : Items) → map use_of_mark (roles rows c) ≡ map use_of_site (sites rows c) }
+{}
+
+/// The places of a command, each read from the chain of its ancestors, are the places that one descent visits,
+/// in the same order; so are their stations, offences, roles and the first refusal.
+pub fn by_place()
+    ensures visits { (rows : List Row) (c : Items) → map (visit_at rows c) (places c) ≡ map Some (command_visits rows c) }
+    ensures stations { (rows : List Row) (c : Items) → map (station_at rows c) (places c) ≡ map (λ v. Some (station_of rows v)) (command_visits rows c) }
+    ensures offences { (rows : List Row) (c : Items) → map (offence_at rows c) (places c) ≡ map (offence_of rows) (command_visits rows c) }
+    ensures roles { (rows : List Row) (c : Items) → roles rows c ≡ flat_map (mark_of rows c) (places c) }
+    ensures verdict { (rows : List Row) (c : Items) → first_refusal rows (command_visits rows c) ≡ first_of (map (refusal_at rows c) (places c)) }
+{}
