@@ -22,6 +22,7 @@ mod rules;
 mod settings;
 mod shape;
 mod spots;
+mod stored;
 mod types;
 mod values;
 
@@ -34,6 +35,17 @@ pub use marks::{Mark, MarkFault, Marks, Role};
 pub use policy::{Algorithm, KeyRef, Policy, TypeSet};
 pub use reason::Reason;
 pub use rows::Rows;
+pub use stored::type_allowed;
 
 #[cfg(test)]
+mod collections_tests;
+#[cfg(test)]
 mod rows_tests;
+#[cfg(test)]
+mod rules_tests;
+#[cfg(test)]
+mod schema_tests;
+#[cfg(test)]
+mod stored_tests;
+#[cfg(test)]
+mod test_documents;
