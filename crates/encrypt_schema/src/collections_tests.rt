@@ -1,6 +1,6 @@
 //! Files of collection infos, as MongoDB's `listCollections` answers them.
 
-use crate::test_documents::{NO_PROPERTIES, joined, put_document, within};
+use crate::test_documents::{NO_PROPERTIES, NONE, joined, put_document, within};
 use crate::{Algorithm, Class, InfoFault, InfoKind, Infos, KeyRef, Policy, SchemaFault};
 use std::alloc::Global;
 use std::test::Fail;
@@ -52,6 +52,12 @@ fn fault(alloc: Global, file: &[u8]) -> Result<(u32, Option<InfoKind>), Fail> {
     }
 }
 
+/// The same of a file of infos with these elements.
+fn fault_of(alloc: Global, infos: &[&[u8]]) -> Result<(u32, Option<InfoKind>), Fail> {
+    let file = file_of(alloc, infos)?;
+    fault(alloc, &file)
+}
+
 /// Whether the policy has the key and this algorithm, and allows a string, and an int where the flag says so.
 fn is_policy(policy: Option<&Policy>, algorithm: Algorithm, int: bool) -> bool {
     match policy {
@@ -90,28 +96,29 @@ fn a_file_of_no_infos_has_no_collection(rt: HostRuntime) -> Result<(), Fail> {
 
 #[test]
 fn an_info_has_fields_of_one_form(rt: HostRuntime) -> Result<(), Fail> {
-    let cases: [(&[&[u8]], bool); 12] = [
-        (&[], false),
-        (&[NAME], true),
-        (&[b"\x02name\x00\x01\x00\x00\x00\x00"], false),
-        (&[b"\x08name\x00\x01"], false),
-        (&[NAME, NAME], false),
-        (&[NAME, b"\x10type\x00\x01\x00\x00\x00"], false),
-        (&[NAME, OPTIONS_TEXT], false),
-        (&[NAME, VIEW, OPTIONS_TEXT], false),
-        (&[NAME, VIEW, VIEW], false),
+    let cases: [([&[u8]; 3], bool); 12] = [
+        ([NONE, NONE, NONE], false),
+        ([NAME, NONE, NONE], true),
+        ([b"\x02name\x00\x01\x00\x00\x00\x00", NONE, NONE], false),
+        ([b"\x08name\x00\x01", NONE, NONE], false),
+        ([NAME, NAME, NONE], false),
+        ([NAME, b"\x10type\x00\x01\x00\x00\x00", NONE], false),
+        ([NAME, OPTIONS_TEXT, NONE], false),
+        ([NAME, VIEW, OPTIONS_TEXT], false),
+        ([NAME, VIEW, VIEW], false),
         (
-            &[
+            [
                 NAME,
                 b"\x03options\x00\x11\x00\x00\x00\x08validator\x00\x01\x00",
+                NONE,
             ],
             false,
         ),
-        (&[NAME, b"\x03options\x00\x05\x00\x00\x00\x00"], true),
-        (&[NAME, b"\x08info\x00\x01"], true),
+        ([NAME, b"\x03options\x00\x05\x00\x00\x00\x00", NONE], true),
+        ([NAME, b"\x08info\x00\x01", NONE], true),
     ];
     for (parts, good) in cases {
-        let elements = joined(rt.alloc(), parts)?;
+        let elements = joined(rt.alloc(), &parts)?;
         let file = file_of(rt.alloc(), &[&elements])?;
         let expected = if good {
             (0, None)
@@ -127,27 +134,37 @@ fn an_info_has_fields_of_one_form(rt: HostRuntime) -> Result<(), Fail> {
 /// whose form is wrong.
 fn with_bad_schema(alloc: Global, other: &[u8]) -> Result<Vec<u8>, Fail> {
     let path: &[&[u8]] = &[b"options", b"validator", b"$jsonSchema"];
-    let options = within(alloc, path, &[NO_PROPERTIES])?;
-    joined(alloc, &[NAME, other, &options])
+    let mut elements = joined(alloc, &[NAME])?;
+    elements.extend_from_slice(other)?;
+    elements.extend_from_slice(&within(alloc, path, &[NO_PROPERTIES])?)?;
+    Ok(elements)
 }
 
 #[test]
 fn a_form_a_name_and_a_schema_are_judged_in_order(rt: HostRuntime) -> Result<(), Fail> {
     let alloc = rt.alloc();
+    let good = joined(alloc, &[NAME])?;
+    let shapeless = joined(alloc, &[VIEW])?;
     let bad = with_bad_schema(alloc, b"")?;
     let bad_twice = with_bad_schema(alloc, NAME)?;
-    let schema = InfoKind::Schema(SchemaFault::Shape);
-    let cases: [(&[&[u8]], (u32, Option<InfoKind>)); 5] = [
-        (&[&bad], (1, Some(schema))),
-        (&[NAME, &bad], (2, Some(InfoKind::Twice))),
-        (&[NAME, &bad_twice], (2, Some(InfoKind::Shape))),
-        (&[NAME, NAME], (2, Some(InfoKind::Twice))),
-        (&[NAME, b"", &bad], (2, Some(InfoKind::Shape))),
-    ];
-    for (infos, expected) in cases {
-        let file = file_of(alloc, infos)?;
-        assert_eq!(rt; fault(alloc, &file)?, expected);
-    }
+    let schema = Some(InfoKind::Schema(SchemaFault::Shape));
+    assert_eq!(rt; fault_of(alloc, &[&bad])?, (1, schema));
+    assert_eq!(rt;
+        fault_of(alloc, &[&good, &bad])?,
+        (2, Some(InfoKind::Twice))
+    );
+    assert_eq!(rt;
+        fault_of(alloc, &[&good, &bad_twice])?,
+        (2, Some(InfoKind::Shape))
+    );
+    assert_eq!(rt;
+        fault_of(alloc, &[&good, &good])?,
+        (2, Some(InfoKind::Twice))
+    );
+    assert_eq!(rt;
+        fault_of(alloc, &[&good, &shapeless, &bad])?,
+        (2, Some(InfoKind::Shape))
+    );
     Ok(())
 }
 
@@ -155,11 +172,11 @@ fn a_form_a_name_and_a_schema_are_judged_in_order(rt: HostRuntime) -> Result<(),
 fn documents_are_judged_one_after_another(rt: HostRuntime) -> Result<(), Fail> {
     let alloc = rt.alloc();
     assert_eq!(rt; fault(alloc, CUT)?, (1, Some(InfoKind::Bson)));
-    let good = file_of(alloc, &[NAME])?;
-    let file = joined(alloc, &[&good, CUT])?;
+    let mut file = file_of(alloc, &[NAME])?;
+    file.extend_from_slice(CUT)?;
     assert_eq!(rt; fault(alloc, &file)?, (2, Some(InfoKind::Bson)));
-    let shapeless = file_of(alloc, &[b""])?;
-    let file = joined(alloc, &[&shapeless, CUT])?;
+    let mut file = file_of(alloc, &[VIEW])?;
+    file.extend_from_slice(CUT)?;
     assert_eq!(rt; fault(alloc, &file)?, (1, Some(InfoKind::Shape)));
     Ok(())
 }

@@ -1,14 +1,14 @@
 //! The rules that schemas state.
 
 use crate::test_documents::{
-    DETERMINISTIC, INT, KEY_1, KEY_2, RANDOM, fault, joined, rules, within,
+    DETERMINISTIC, INT, KEY_1, KEY_2, NONE, RANDOM, fault, joined, rules, within,
 };
 use crate::{Algorithm, Class, KeyRef, Policy, Rows, SchemaFault};
 use std::alloc::Global;
 use std::test::Fail;
 
 /// `encrypt` in the schema of the field `a`.
-const ENCRYPT_A: &[&[u8]] = &[b"properties", b"a", b"encrypt"];
+const ENCRYPT_A: [&[u8]; 3] = [b"properties", b"a", b"encrypt"];
 
 /// `bsonType: ["int", "int"]`.
 const INT_AND_INT: &[u8] =
@@ -26,18 +26,18 @@ const BOOL: &[u8] = b"\x02bsonType\x00\x05\x00\x00\x00bool\x00";
 #[test]
 fn deterministic_rules_have_one_type(rt: HostRuntime) -> Result<(), Fail> {
     let refused = Some(SchemaFault::DeterministicType);
-    let cases: [(&[&[u8]], Option<SchemaFault>); 8] = [
-        (&[KEY_1, DETERMINISTIC, INT], None),
-        (&[KEY_1, DETERMINISTIC, LIST_OF_INT], None),
-        (&[KEY_1, DETERMINISTIC, INT_AND_INT], refused),
-        (&[KEY_1, DETERMINISTIC, DOUBLE], refused),
-        (&[KEY_1, DETERMINISTIC, BOOL], refused),
-        (&[KEY_1, RANDOM, INT_AND_INT], None),
-        (&[KEY_1, RANDOM, BOOL], None),
-        (&[KEY_1, RANDOM], None),
+    let cases: [([&[u8]; 3], Option<SchemaFault>); 8] = [
+        ([KEY_1, DETERMINISTIC, INT], None),
+        ([KEY_1, DETERMINISTIC, LIST_OF_INT], None),
+        ([KEY_1, DETERMINISTIC, INT_AND_INT], refused),
+        ([KEY_1, DETERMINISTIC, DOUBLE], refused),
+        ([KEY_1, DETERMINISTIC, BOOL], refused),
+        ([KEY_1, RANDOM, INT_AND_INT], None),
+        ([KEY_1, RANDOM, BOOL], None),
+        ([KEY_1, RANDOM, NONE], None),
     ];
     for (parts, expected) in cases {
-        assert_eq!(rt; fault(rt.alloc(), ENCRYPT_A, parts)?, expected);
+        assert_eq!(rt; fault(rt.alloc(), &ENCRYPT_A, &parts)?, expected);
     }
     Ok(())
 }
@@ -91,10 +91,10 @@ fn the_nearest_metadata_counts(rt: HostRuntime) -> Result<(), Fail> {
 #[test]
 fn a_field_of_a_field_is_protected(rt: HostRuntime) -> Result<(), Fail> {
     let alloc = rt.alloc();
-    let object: &[u8] = b"\x02bsonType\x00\x07\x00\x00\x00object\x00";
+    let object = joined(alloc, &[b"\x02bsonType\x00\x07\x00\x00\x00object\x00"])?;
     let metadata = within(alloc, &[b"encryptMetadata"], &[KEY_1, DETERMINISTIC])?;
     let below = within(alloc, &[b"properties", b"b", b"encrypt"], &[INT])?;
-    let a = within(alloc, &[b"properties", b"a"], &[object, &metadata, &below])?;
+    let a = within(alloc, &[b"properties", b"a"], &[&object, &metadata, &below])?;
     let rows = rows_of(alloc, &[&a])?;
     assert_eq!(rt; rows.len(), 1);
     assert_eq!(rt; class_of(&rows, b"a.b"), Class::Protected(0));

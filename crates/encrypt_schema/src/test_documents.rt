@@ -8,6 +8,9 @@ use std::test::Fail;
 /// The longest document that a test makes.
 const LONGEST: usize = 1_000_000;
 
+/// No name, or no elements, where a table has room for more.
+pub(crate) const NONE: &[u8] = b"";
+
 /// `keyId: [K1]`, K1 being the UUID of sixteen bytes `1`.
 pub(crate) const KEY_1: &[u8] =
     b"\x04keyId\x00\x1D\x00\x00\x00\x050\x00\x10\x00\x00\x00\x041111111111111111\x00";
@@ -48,7 +51,10 @@ pub(crate) const NO_KEYWORD: &[u8] = b"\x08foo\x00\x01";
 
 /// Puts a document of these elements behind the bytes.
 pub(crate) fn put_document(out: &mut Vec<u8>, elements: &[u8]) -> Result<(), Fail> {
-    let width = (elements.len() as u32).wrapping_add(5);
+    if elements.len() > LONGEST {
+        return Err("a test's document is too long".into());
+    }
+    let width = elements.len() as u32 + 5;
     out.extend_from_slice(&width.to_le_bytes())?;
     out.extend_from_slice(elements)?;
     out.push(0)?;
@@ -73,13 +79,16 @@ pub(crate) fn joined(alloc: Global, parts: &[&[u8]]) -> Result<Vec<u8>, Fail> {
 }
 
 /// The elements of a document that has, under the first name, a document that has, under the next name, and so
-/// on, a document of these elements.
+/// on, a document of these elements. A name that is empty counts for none.
 pub(crate) fn within(alloc: Global, path: &[&[u8]], parts: &[&[u8]]) -> Result<Vec<u8>, Fail> {
     let mut inner = joined(alloc, parts)?;
     for i in 0..path.len() {
-        let mut outer = Vec::new(alloc);
-        put_within(&mut outer, path[path.len() - 1 - i], &inner)?;
-        inner = outer;
+        let name = path[path.len() - 1 - i];
+        if !name.is_empty() {
+            let mut outer = Vec::new(alloc);
+            put_within(&mut outer, name, &inner)?;
+            inner = outer;
+        }
     }
     Ok(inner)
 }
