@@ -53,5 +53,5 @@ next_flagged seen number form name t here left whole f step keyword within clear
       before = number ∷ f.before;
       long = length-set seen number true ∙ f.long;
       flagged = λ n less. flag_at seen number n (number == n) (has_number n f.before) refl inside (f.flagged n less);
-      read = sym (ap (are_keywords f.before) step ∙ keywords_on number f.before form name t left keyword new fit) ∙ f.read
+      read = sym (ap (are_keywords f.before) step ∙ keywords_on number f.before form name t left keyword new fit) ∙ f.read;
     }

@@ -225,11 +225,7 @@ fn state(alloc: Global, name: &[u8], view: bool, rows: Rows) -> Result<Info, Inf
 }
 
 /// The rules of an info: those of its schema; none of a view.
-fn rules_of(
-    alloc: Global,
-    view: bool,
-    schema: Option<RawDoc<'_>>,
-) -> Result<Rows, SchemaFault>
+fn rules_of(alloc: Global, view: bool, schema: Option<RawDoc<'_>>) -> Result<Rows, SchemaFault>
     ensures { Gives (λ r. r) result (rules_by view (document_seen schema.entry)) }
 {
     if view {

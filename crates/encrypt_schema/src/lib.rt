@@ -1,5 +1,19 @@
 //! Which fields of which collections are protected, and how: collection infos and their JSON schemas
-//! with the keyword `encrypt` of the MongoDB Client Side Encryption specification.
+//! with the keywords `encrypt` and `encryptMetadata` of the MongoDB Client Side Encryption specification.
+//!
+//! `Infos::load` reads a file of infos, and `Rows::read` one schema; each takes memory, and tells the first
+//! fault of what is refused. `info_of` finds a collection, `walk` and `step` go down a path with a cursor,
+//! `class` says how the path stands to the rules, `policy` what a rule says, and `type_allowed` whether a value
+//! may be stored under it; none of these takes memory.
+//!
+//! ```text
+//! let infos = Infos::load(alloc, &file)?;
+//! let rows = infos.info_of(b"people")?.rows();
+//! if let Class::Protected(i) = rows.class(rows.walk(b"a.b").at) { .. rows.policy(i) .. }
+//! ```
+//!
+//! It doesn't judge documents against a schema, and doesn't judge commands: which of their values are protected
+//! and why they are refused is defined in specs/, and read by the crates above.
 #![tactic(auto)]
 
 mod class;
@@ -22,6 +36,7 @@ mod rules;
 mod settings;
 mod shape;
 mod spots;
+mod stored;
 mod types;
 mod values;
 
@@ -34,6 +49,17 @@ pub use marks::{Mark, MarkFault, Marks, Role};
 pub use policy::{Algorithm, KeyRef, Policy, TypeSet};
 pub use reason::Reason;
 pub use rows::Rows;
+pub use stored::type_allowed;
 
 #[cfg(test)]
+mod collections_tests;
+#[cfg(test)]
 mod rows_tests;
+#[cfg(test)]
+mod rules_tests;
+#[cfg(test)]
+mod schema_tests;
+#[cfg(test)]
+mod stored_tests;
+#[cfg(test)]
+mod test_documents;

@@ -65,7 +65,9 @@ impl Marks {
     pub fn new(alloc: Global) -> Marks
         ensures empty { result ≡ [] }
     {
-        Marks { marks: Vec::new(alloc) }
+        Marks {
+            marks: Vec::new(alloc),
+        }
     }
 
     /// Adds a mark behind the others. `Memory`, with the marks as before, for want of memory alone.

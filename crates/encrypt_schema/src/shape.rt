@@ -8,7 +8,9 @@ ghost use Rattle.encrypt_schema.specs.Values.{is_document, is_array_of};
 use crate::distinct::are_distinct;
 use crate::keyword::Form;
 use crate::names::is_named;
-use crate::values::{are_documents, are_strings, is_array, is_bool, is_document, is_string, only_element, uuid_of};
+use crate::values::{
+    are_documents, are_strings, is_array, is_bool, is_document, is_string, only_element, uuid_of,
+};
 use bson_codec::{RawDoc, RawItem};
 use fle_outside::Memory;
 use std::alloc::Global;

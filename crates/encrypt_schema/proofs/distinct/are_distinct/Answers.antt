@@ -11,5 +11,5 @@ loop-item-preserved c =
     record {
       before = c.in-Some.item.name ∷ c.loop-item.invariant.before;
       known = rw (sym c.name.ensures.name) (next_known _ _ _ _ c.in-Ok-true.ensures.updates known);
-      read = read_on c.loop-item.names c.in-Some.item.name _ _ _ _ _ c.in-Some.ensures.steps.0 new known c.loop-item.invariant.read
+      read = read_on c.loop-item.names c.in-Some.item.name _ _ _ _ _ c.in-Some.ensures.steps.0 new known c.loop-item.invariant.read;
     }
