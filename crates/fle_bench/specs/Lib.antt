@@ -3,3 +3,4 @@ pub mod Message
 pub mod Payload
 pub mod Value
 pub mod Words
+pub mod Protected

@@ -5,7 +5,7 @@ use Rattle.fle_bench.specs.declared.job.Direction.TheVariants.{Seal, Open}
 use Rattle.fle_bench.specs.declared.job.Way.TheVariants.{Tables, Closures, Boxes}
 use Rattle.fle_bench.specs.declared.job.KeySetup.TheVariants.{Kept, Fresh}
 use Rattle.fle_bench.specs.declared.job.Subject.{Subject}
-use Rattle.fle_bench.specs.declared.job.Subject.TheVariants.{Cbc, Hmac, AeadSeal, AeadOpen, Payload, BsonCheck}
+use Rattle.fle_bench.specs.declared.job.Subject.TheVariants.{Cbc, Hmac, AeadSeal, AeadOpen, Payload, BsonCheck, RuleNames}
 
 -- the word for a subject
 abbrev pub word_of : Subject → List ℕ
@@ -25,3 +25,4 @@ word_of (Payload Seal Random) = codes "payload-seal-random"
 word_of (Payload Open Deterministic) = codes "payload-open-deterministic"
 word_of (Payload Open Random) = codes "payload-open-random"
 word_of BsonCheck = codes "bson-check"
+word_of RuleNames = codes "rule-names"

@@ -51,6 +51,8 @@ pub enum Subject {
     Payload(Direction, Algorithm),
     /// The check of a BSON document that stands on standard input.
     BsonCheck,
+    /// The look-up of a document's names among the rules of a schema, which both stand on standard input.
+    RuleNames,
 }
 
 /// The subject that a word names.
@@ -79,6 +81,7 @@ pub fn subject_of(word: &str) -> Option<Subject>
         }
         "payload-open-random" => Some(Subject::Payload(Direction::Open, Algorithm::Random)),
         "bson-check" => Some(Subject::BsonCheck),
+        "rule-names" => Some(Subject::RuleNames),
         _ => None,
     }
 }

@@ -5,8 +5,8 @@
 //! ```
 //!
 //! The words are what is run, the number of bytes, and how many times. It writes one line, with the Adler-32 checksum of
-//! the last answer, or, for the check of a document, 1 where it is right. It reads no clock: the same words and the same
-//! input always give the same line.
+//! the last answer; or, for the check of a document, 1 where it is right; or, for the names of a document among rules, how
+//! many are those of rules. It reads no clock: the same words and the same input always give the same line.
 #![tactic(auto)]
 
 mod aead;
@@ -17,6 +17,7 @@ mod hmac;
 mod input;
 mod job;
 mod payload;
+mod rules;
 
 use crate::job::{Direction, MOST_BYTES, Subject, subject_of};
 use fle_outside::StdinSource;
@@ -50,6 +51,10 @@ fn main(rt: HostRuntime) -> anyhow::Result<()> {
         Subject::BsonCheck => {
             let document = bson::document(rt.alloc(), &mut StdinSource::new(rt.stdin()), size)?;
             bson::run(&document, turns) as u32
+        }
+        Subject::RuleNames => {
+            let bytes = bson::document(rt.alloc(), &mut StdinSource::new(rt.stdin()), size)?;
+            rules::run(rt.alloc(), &bytes, turns)
         }
     };
     println!(rt; "{word} {size} {turns} {checksum:08x}")?;
