@@ -23,12 +23,22 @@ const ENCRYPT_DOT: [&[u8]; 3] = [b"properties", b"a.b", b"encrypt"];
 const TYPE: &[u8] = b"\x02type\x00\x07\x00\x00\x00string\x00";
 
 #[test]
-fn each_fault_in_its_smallest_schema(rt: HostRuntime) -> Result<(), Fail> {
-    let cases: [([&[u8]; 3], [&[u8]; 3], SchemaFault); 10] = [
+fn the_faults_of_a_schema_in_the_smallest_ones(rt: HostRuntime) -> Result<(), Fail> {
+    let cases: [([&[u8]; 3], [&[u8]; 3], SchemaFault); 4] = [
         (ROOT, [NO_KEYWORD, NONE, NONE], SchemaFault::Keyword),
         (ROOT, [NO_PROPERTIES, NONE, NONE], SchemaFault::Shape),
         (ROOT, [ENCRYPT, NONE, NONE], SchemaFault::Misplaced),
         (A, [ENCRYPT, TYPE, NONE], SchemaFault::Sibling),
+    ];
+    for (path, parts, expected) in cases {
+        assert_eq!(rt; fault(rt.alloc(), &path, &parts)?, Some(expected));
+    }
+    Ok(())
+}
+
+#[test]
+fn the_faults_of_a_rule_in_the_smallest_schemas(rt: HostRuntime) -> Result<(), Fail> {
+    let cases: [([&[u8]; 3], [&[u8]; 3], SchemaFault); 6] = [
         (ENCRYPT_A, [RANDOM, NONE, NONE], SchemaFault::NoKey),
         (ENCRYPT_A, [KEY_1, NONE, NONE], SchemaFault::NoAlgorithm),
         (
@@ -166,13 +176,24 @@ const METADATA: &[u8] = b"\x03encryptMetadata\x00\x05\x00\x00\x00\x00";
 
 #[test]
 fn rules_stand_below_properties_alone(rt: HostRuntime) -> Result<(), Fail> {
-    let cases: [([&[u8]; 3], [&[u8]; 3]); 11] = [
+    let cases: [([&[u8]; 3], [&[u8]; 3]); 6] = [
         (ROOT, [ENCRYPT, NONE, NONE]),
         ([NONE, NONE, b"items"], [ENCRYPT, NONE, NONE]),
         (A, [ITEMS_ENCRYPT, NONE, NONE]),
         ([NONE, b"patternProperties", b"a"], [ENCRYPT, NONE, NONE]),
         ([NONE, NONE, b"additionalProperties"], [ENCRYPT, NONE, NONE]),
         ([NONE, NONE, b"additionalItems"], [ENCRYPT, NONE, NONE]),
+    ];
+    for (path, parts) in cases {
+        let expected = Some(SchemaFault::Misplaced);
+        assert_eq!(rt; fault(rt.alloc(), &path, &parts)?, expected);
+    }
+    Ok(())
+}
+
+#[test]
+fn no_rules_stand_below_dependencies_not_and_items(rt: HostRuntime) -> Result<(), Fail> {
+    let cases: [([&[u8]; 3], [&[u8]; 3]); 5] = [
         ([NONE, b"dependencies", b"a"], [ENCRYPT, NONE, NONE]),
         ([NONE, NONE, b"not"], [ENCRYPT, NONE, NONE]),
         (
@@ -210,11 +231,22 @@ const FIELD_A: &[u8] = b"\x03a\x00\x05\x00\x00\x00\x00";
 
 #[test]
 fn keywords_stand_once_and_have_their_forms(rt: HostRuntime) -> Result<(), Fail> {
-    let cases: [([&[u8]; 3], [&[u8]; 3]); 12] = [
+    let cases: [([&[u8]; 3], [&[u8]; 3]); 5] = [
         (ROOT, [TYPE, TYPE, NONE]),
         ([NONE, NONE, b"properties"], [FIELD_A, FIELD_A, NONE]),
         ([NONE, NONE, b"allOf"], [FIELD_A, NONE, NONE]),
         (ROOT, [ITEMS_BOOL, NONE, NONE]),
+        ([NONE, b"not", b"properties"], [NO_KEYWORD, NONE, NONE]),
+    ];
+    for (path, parts) in cases {
+        assert_eq!(rt; fault(rt.alloc(), &path, &parts)?, Some(SchemaFault::Shape));
+    }
+    Ok(())
+}
+
+#[test]
+fn settings_stand_once_and_have_their_forms(rt: HostRuntime) -> Result<(), Fail> {
+    let cases: [([&[u8]; 3], [&[u8]; 3]); 7] = [
         (ENCRYPT_A, [KEY_1, KEY_1, NONE]),
         (ENCRYPT_A, [KEY_NAMED, NONE, NONE]),
         (ENCRYPT_A, [KEY_OF_SUBTYPE_3, NONE, NONE]),
@@ -222,7 +254,6 @@ fn keywords_stand_once_and_have_their_forms(rt: HostRuntime) -> Result<(), Fail>
         (ENCRYPT_A, [NO_TYPES, NONE, NONE]),
         (ENCRYPT_A, [TYPE, NONE, NONE]),
         ([NONE, NONE, b"encryptMetadata"], [INT, NONE, NONE]),
-        ([NONE, b"not", b"properties"], [NO_KEYWORD, NONE, NONE]),
     ];
     for (path, parts) in cases {
         assert_eq!(rt; fault(rt.alloc(), &path, &parts)?, Some(SchemaFault::Shape));
