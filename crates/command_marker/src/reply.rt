@@ -9,8 +9,8 @@ ghost use Rattle.command_marker.specs.Reply.{flag, one, reply_fields, reply};
 ghost use Rattle.command_marker.specs.Seen.{rows_or_none};
 
 use crate::frame::{append, close, open, put_element, put_name};
-use crate::writing::put_documents;
 use crate::values::{ARRAY, DOCUMENT};
+use crate::writing::put_documents;
 use bson_tree::Kids;
 use encrypt_schema::Rows;
 use fle_outside::Memory;

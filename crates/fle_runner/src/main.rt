@@ -18,10 +18,10 @@ mod line;
 mod mark;
 mod next;
 mod program;
-mod status;
-mod stream;
 #[cfg(test)]
 mod schema_tests;
+mod status;
+mod stream;
 #[cfg(test)]
 mod tests;
 mod turning;

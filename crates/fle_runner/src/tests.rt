@@ -234,10 +234,7 @@ fn a_file_of_infos_that_is_missing_or_wrong_is_told_before_any_input(
         infos: &no_bson,
         ..plain(INSERT)
     };
-    let cases: [(Run<'_>, &str); 2] = [
-        (missing, "fle: 4 1 1 0\n"),
-        (cut, "fle: 4 1 30 2\n"),
-    ];
+    let cases: [(Run<'_>, &str); 2] = [(missing, "fle: 4 1 1 0\n"), (cut, "fle: 4 1 30 2\n")];
     for (run, line) in cases {
         expect(&rt, &look(alloc, run)?, Status::Setup, b"", line);
     }
