@@ -1,5 +1,4 @@
 -- MongoDB Client Side Encryption, BSON binary subtype 6: the value that stands for a protected one in a marked command
-use Rattle.std.specs.Prelude.{ℕ}
 use Rattle.bson_tree.specs.Tree.{Tree}
 use Rattle.encrypt_schema.specs.declared.policy.Policy.{Policy}
 use Rattle.payload6.specs.Marking.{binary, marking}

@@ -5,7 +5,7 @@ use Rattle.encrypt_schema.specs.declared.faults.SchemaFault.{SchemaFault}
 use Rattle.encrypt_schema.specs.declared.faults.SchemaFault.TheVariants as faults
 use Rattle.encrypt_schema.specs.Row.{Row}
 use Rattle.encrypt_schema.specs.Rules.{◌>>=◌, Context}
-use Rattle.encrypt_schema.specs.Schemas.{Event, rules, row, one_more, with_row, run, Part, nothing, events, events_in, part_of, Fails, Gives}
+use Rattle.encrypt_schema.specs.Schemas.{Event, rules, row, with_row, run, Part, nothing, events, events_in, part_of, Fails}
 
 -- what is judged first is judged before what follows
 run_rules : (before : List Row) (r : Result Context SchemaFault) (es fs : List Event)

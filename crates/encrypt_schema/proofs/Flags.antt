@@ -1,10 +1,9 @@
 -- Flags of the keywords before an element.
-use Rattle.std.proofs.Common.{◌≡◌, ◌≢◌, ◌∙◌, ℕ, zero, suc, ◌<◌, ◌==◌, ◌||◌, ◌&&◌, Bool, true, false, not, List, [], ◌∷◌, length, get_or, slice_set, Some, refl, sym, ap, arith}
+use Rattle.std.proofs.Common.{◌≡◌, ◌∙◌, ℕ, zero, suc, ◌<◌, ◌==◌, ◌||◌, ◌&&◌, Bool, true, false, not, List, [], ◌∷◌, length, get_or, slice_set, Some, refl, sym, ap}
 use Rattle.std.proofs.lemmas.List.{get_or-set_other, length-set}
 use Rattle.std.proofs.lemmas.Bool.{false≢true}
 use Rattle.std.proofs.lemmas.Bool.Decides.{Decides-eqb}
 use Rattle.std.proofs.lemmas.Grind.{get_or-set_at}
-use Rattle.std.specs.List.{list_all, list_any}
 use Rattle.bson_tree.specs.Tree.{Tree, Items, item}
 use Rattle.encrypt_schema.specs.declared.keyword.Form.{Form}
 use Rattle.encrypt_schema.specs.Keywords.{keyword_at}

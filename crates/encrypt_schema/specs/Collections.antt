@@ -1,6 +1,6 @@
 -- MongoDB listCollections: collection infos, one document each, and the rules of their schemas
-use Rattle.std.specs.Prelude.{◌≡◌, ◌≤◌, ℕ, zero, suc, ◌+◌, ◌++◌, Bool, true, false, not, List, [], ◌∷◌, length, drop, Option, Some, None, is_some, Result, Ok, Err, codes, if◌then◌else◌}
-use Rattle.bson_tree.specs.Tree.{Tree, Items, kids_of}
+use Rattle.std.specs.Prelude.{◌≡◌, ◌≤◌, ℕ, zero, suc, ◌+◌, ◌++◌, Bool, true, false, List, [], ◌∷◌, length, drop, Option, Some, None, is_some, Result, Ok, Err, codes, if◌then◌else◌}
+use Rattle.bson_tree.specs.Tree.{Items, kids_of}
 use Rattle.bson_codec.specs.declared.fault.BsonFault.{BsonFault}
 use Rattle.bson_codec.specs.Reading.{front_document}
 use Rattle.encrypt_schema.specs.declared.faults.InfoFault.{InfoFault}
@@ -8,7 +8,6 @@ use Rattle.encrypt_schema.specs.declared.faults.InfoFault.TheVariants as info_fa
 use Rattle.encrypt_schema.specs.declared.faults.InfoKind.{InfoKind}
 use Rattle.encrypt_schema.specs.declared.faults.InfoKind.TheVariants.{Bson, Shape, Twice, Schema}
 use Rattle.encrypt_schema.specs.declared.faults.SchemaFault.{SchemaFault}
-use Rattle.encrypt_schema.specs.declared.faults.SchemaFault.TheVariants as schema_faults
 use Rattle.encrypt_schema.specs.Collection.{Collection, collection_of}
 use Rattle.encrypt_schema.specs.Names.{named}
 use Rattle.encrypt_schema.specs.Row.{Row}

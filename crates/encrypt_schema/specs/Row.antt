@@ -1,5 +1,5 @@
 -- MongoDB Client Side Encryption: the rules of a schema
-use Rattle.std.specs.Prelude.{ℕ, List, [], map}
+use Rattle.std.specs.Prelude.{ℕ, List, map}
 use Rattle.encrypt_schema.specs.declared.policy.Policy.{Policy}
 
 -- a rule: the path of the field that it protects, as the names that lead to it, and its policy.

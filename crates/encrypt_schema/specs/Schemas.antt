@@ -1,5 +1,5 @@
 -- MongoDB Client Side Encryption: the rules of a schema with all its subschemas, or the first rule that it breaks
-use Rattle.std.specs.Prelude.{◌≡◌, ℕ, ◌==◌, Bool, true, false, nat_lt, List, [], ◌∷◌, ◌++◌, length, codes, Option, Some, None, Result, Ok, Err, if◌then◌else◌}
+use Rattle.std.specs.Prelude.{◌≡◌, ℕ, ◌==◌, nat_lt, List, [], ◌∷◌, ◌++◌, length, codes, Option, Some, None, Result, Ok, Err, if◌then◌else◌}
 use Rattle.bson_tree.specs.Tree.{Tree, Items, leaf, node, no_items, item, tag_of}
 use Rattle.encrypt_schema.specs.declared.context.Position.{Position}
 use Rattle.encrypt_schema.specs.declared.context.Position.TheVariants as positions

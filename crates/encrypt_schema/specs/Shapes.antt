@@ -1,5 +1,5 @@
 -- MongoDB, JSON schema and Client Side Encryption: the forms of the keywords' values
-use Rattle.std.specs.Prelude.{ℕ, Bool, true, false, ◌&&◌, ◌||◌, List, codes, is_some, option_and_then, Option, Some, None, if◌then◌else◌}
+use Rattle.std.specs.Prelude.{ℕ, Bool, true, false, ◌&&◌, ◌||◌, List, codes, is_some, option_and_then, Option, None, if◌then◌else◌}
 use Rattle.bson_tree.specs.Tree.{Tree, Items, no_items, item, kids_of}
 use Rattle.encrypt_schema.specs.declared.keyword.Form.{Form}
 use Rattle.encrypt_schema.specs.declared.keyword.Form.TheVariants as forms

@@ -1,5 +1,4 @@
-use Rattle.std.proofs.Common.{rules, ◌≡◌, IfOk, ℕ, ◌+◌, ◌-◌, ◌*◌, ◌<◌, ◌≤◌, length, ◌/◌, ◌%◌, Bool, true, false, nat_eq, nat_lt, List, [], ◌∷◌, ◌++◌, slice_index_or, slice_set, bit_and, bit_or, Fits, w8, w32, w64, Bor, MutBor, sym, not, ◌∙◌}
-use Rattle.encrypt_schema.specs.Values.{are_distinct}
+use Rattle.std.proofs.Common.{◌≡◌, true, ◌∷◌, sym, not, ◌∙◌}
 use Rattle.encrypt_schema.proofs.Sets.{has, next_known, read_on}
 use Rattle.encrypt_schema.proofs.distinct.are_distinct.Goals as goal
 

@@ -1,4 +1,3 @@
-use Rattle.std.proofs.Common.{◌≡◌}
 use Rattle.encrypt_schema.proofs.distinct.are_distinct.Given as goal
 use Rattle.encrypt_schema.proofs.Sets.{Known}
 

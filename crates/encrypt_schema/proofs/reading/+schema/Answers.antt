@@ -1,4 +1,4 @@
-use Rattle.std.proofs.Common.{◌≡◌, ◌∙◌, ap, arith}
+use Rattle.std.proofs.Common.{◌∙◌, ap, arith}
 use Rattle.bson_tree.specs.Tree.{items_size}
 use Rattle.encrypt_schema.specs.Schemas.{run}
 use Rattle.encrypt_schema.proofs.Events.{nothing_in, goes_on, ends}

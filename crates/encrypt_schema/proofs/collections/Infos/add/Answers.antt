@@ -1,4 +1,4 @@
-use Rattle.std.proofs.Common.{◌≡◌, ◌∙◌, sym, None, length, rules}
+use Rattle.std.proofs.Common.{◌≡◌, sym, None, length, rules}
 use Rattle.encrypt_schema.specs.Collection.{collection_of}
 use Rattle.encrypt_schema.proofs.Numbered.{number_added}
 use Rattle.encrypt_schema.proofs.collections.Infos.add.Goals as goal

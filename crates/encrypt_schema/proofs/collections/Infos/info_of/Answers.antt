@@ -1,4 +1,4 @@
-use Rattle.std.proofs.Common.{◌≡◌, ◌∙◌, sym}
+use Rattle.std.proofs.Common.{◌∙◌, sym}
 use Rattle.encrypt_schema.proofs.Numbered.{found_at, found_none}
 use Rattle.encrypt_schema.proofs.collections.Infos.info_of.Goals as goal
 
