@@ -154,7 +154,7 @@ const MARKING: &[u8] =
 fn a_string_is_marked(rt: HostRuntime) -> Result<(), Fail> {
     let infos = Infos::load(rt.alloc(), PEOPLE)?;
     let info = infos.info_of(b"people").ok_or("no info")?;
-    let policy = info.rows().policy_of(b"ssn").ok_or("no policy")?;
+    let policy = info.rows().policy(0).ok_or("no policy")?;
     let command = check_bson(INSERT)?;
     let (_, documents) = command.child_holding(50).ok_or("no documents")?;
     let array = documents.child().ok_or("no array")?;
