@@ -1,9 +1,9 @@
 -- The number of a collection by its name, in a list that grows.
-use Rattle.std.proofs.Common.{◌≡◌, ◌∙◌, ℕ, zero, suc, ◌+◌, Bool, true, false, cond, List, [], ◌∷◌, ◌++◌, length, Option, Some, None, Vec, Global, BTreeMap, bytes_eq, nat_cmp, refl, sym, ap, subst, arith, length-append}
+use Rattle.std.proofs.Common.{◌≡◌, ◌∙◌, ℕ, zero, suc, ◌+◌, Bool, true, false, cond, List, [], ◌∷◌, ◌++◌, length, Option, Some, None, Vec, Global, HashMap, bytes_eq, refl, sym, ap, subst, arith, length-append}
 use Rattle.std.proofs.lemmas.Bool.{false≢true}
 use Rattle.std.proofs.lemmas.List.{append_assoc}
-use Rattle.std.specs.BTreeMap.{UpdatesBy}
-use Rattle.std.specs.Cmp.Lexicographic.{slice_cmp, bytes_decides}
+use Rattle.std.specs.HashMap.{UpdatesBy}
+use Rattle.std.specs.Cmp.Lexicographic.{bytes_decides}
 use Rattle.std.specs.Prelude.{slice_get, is_some}
 use Rattle.encrypt_schema.specs.Names.{named}
 use Rattle.encrypt_schema.specs.Collection.{Collection, collection_of, place_from}
@@ -42,8 +42,8 @@ at_test false None n h = refl
 at_test false (Some m) n h = refl
 
 -- the numbers by name, with one more collection of a new name
-pub number_added : (cs : List Collection) (c : Collection) (old new : BTreeMap (Vec ℕ Global) ℕ) (number : ℕ)
-    → UpdatesBy (λ x y. slice_cmp nat_cmp x.items y.items) (λ k. slice_cmp nat_cmp c.name k.items) old new (Some number)
+pub number_added : {S : Type 0} (cs : List Collection) (c : Collection) (old new : HashMap (Vec ℕ Global) ℕ S) (number : ℕ)
+    → UpdatesBy (λ x y. bytes_eq x.items y.items) (λ k. bytes_eq c.name k.items) old new (Some number)
     → ((name : List ℕ) → numbered old name ≡ place_from 0 name cs) → collection_of cs c.name ≡ None → number ≡ length cs
     → (name : List ℕ) → numbered new name ≡ place_from 0 name (cs ++ c ∷ [])
 unfolding named

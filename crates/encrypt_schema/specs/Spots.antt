@@ -1,8 +1,6 @@
 -- The tree of names in memory, spot by spot, and the rules that end in it
-use Rattle.std.specs.Prelude.{◌≡◌, ◌<◌, ◌≤◌, ◌+◌, ◌*◌, ℕ, List, [], ◌∷◌, ◌++◌, map, length, get_or, Option, None, Vec}
-use Rattle.std.specs.Cmp.Lexicographic.{slice_cmp}
-use Rattle.std.specs.Ordering.{nat_cmp}
-use Rattle.std.specs.BTreeMap.{BTreeMap, get_by}
+use Rattle.std.specs.Prelude.{◌≡◌, ◌<◌, ◌≤◌, ◌+◌, ◌*◌, ℕ, List, [], ◌∷◌, ◌++◌, map, length, get_or, Option, None, Vec, bytes_eq}
+use Rattle.std.specs.HashMap.{HashMap, get_by}
 use Rattle.std.specs.Global.{Global}
 use Rattle.encrypt_schema.specs.declared.spots.Spot.{Spot}
 use Rattle.encrypt_schema.specs.declared.rows.Rule.{Rule}
@@ -10,9 +8,9 @@ use Rattle.encrypt_schema.specs.Row.{Row, paths}
 use Rattle.encrypt_schema.specs.Fronts.{fronts}
 use Rattle.encrypt_schema.specs.Trees.{IsTree, HasRules}
 
--- the number that a map has for a name
-abbrev pub numbered : BTreeMap (Vec ℕ Global) ℕ → List ℕ → Option ℕ
-numbered below name = get_by (λ k. slice_cmp nat_cmp name k.items) below
+-- the number that a map has for a name, whatever hashes its keys
+abbrev pub numbered : {S : Type 0} → HashMap (Vec ℕ Global) ℕ S → List ℕ → Option ℕ
+numbered below name = get_by (λ k. bytes_eq name k.items) below
 
 -- the number of the spot to which a name leads from a spot
 abbrev pub child_at : List Spot → ℕ → List ℕ → Option ℕ

@@ -15,7 +15,7 @@ use crate::rows::Rows;
 use bson_codec::{RawDoc, first_doc};
 use bson_tree::Bytes;
 use std::alloc::Global;
-use std::collections::BTreeMap;
+use std::collections::HashMap;
 use std::marker::Model;
 
 /// A collection: its name, whether it is a view, and the rules of its schema.
@@ -61,7 +61,7 @@ impl Info {
 #[derive(Drop)]
 pub struct Infos {
     infos: Vec<Info>,
-    numbers: BTreeMap<Vec<u8>, u32>,
+    numbers: HashMap<Vec<u8>, u32>,
 }
 
 impl Model for Infos {
@@ -96,7 +96,7 @@ impl Infos {
         Ok(infos)
     }
 
-    /// The info of the collection with this name, found by one look-up; `None` exactly where there is none.
+    /// The info of the collection with this name, found by the name's hash; `None` exactly where there is none.
     pub fn info_of(&self, name: &[u8]) -> Option<&Info>
         ensures named { option_copied result ≡ collection_of self.now name.now }
     {
@@ -112,13 +112,13 @@ impl Infos {
     {
         Infos {
             infos: Vec::new(alloc),
-            numbers: BTreeMap::new(alloc),
+            numbers: HashMap::new(alloc),
         }
     }
 }
 
 /// The number of the info with this name.
-fn number_of(numbers: &BTreeMap<Vec<u8>, u32>, name: &[u8]) -> Option<u32>
+fn number_of(numbers: &HashMap<Vec<u8>, u32>, name: &[u8]) -> Option<u32>
     ensures number { result ≡ numbered numbers.now name.now }
 {
     numbers.get(name).copied()

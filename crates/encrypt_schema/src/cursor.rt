@@ -43,7 +43,7 @@ impl Rows {
         }
     }
 
-    /// The cursor of a path with one name more. It takes one look-up, and no memory.
+    /// The cursor of a path with one name more. It takes one look-up by the name's hash, and no memory.
     pub fn step(&self, at: Cursor, name: &[u8]) -> Cursor
         requires cursor { (path : List (List ℕ)) × Stands self.now at path }
         ensures steps { (path : List (List ℕ)) → Stands self.now at path → Stands self.now result (path ++ name.now ∷ []) }

@@ -82,7 +82,7 @@ fn is_behind(position: bool, first: bool, before: Class, after: Class) -> bool
 }
 
 impl Rows {
-    /// Where a dotted path leads. It takes one look-up a component, and no memory.
+    /// Where a dotted path leads. It takes one look-up by hash a component, and no memory.
     pub fn walk(&self, dotted: &[u8]) -> Walk
         ensures at { Stands self.now result.at (split dotted.now) }
         ensures positional { result.positional ≡ positional self.now (split dotted.now) }

@@ -1,4 +1,4 @@
-//! The names that lead to rules, as a tree in which a step is one look-up.
+//! The names that lead to rules, as a tree in which a step is one look-up by the hash of a name.
 
 ghost use Rattle.std.specs.Prelude.{◌≡◌, ◌<◌, ◌≤◌, ◌+◌, ◌^◌, ◌==◌, ◌&&◌, ◌++◌, ◌∷◌, [], ℕ, List, length};
 ghost use Rattle.std.specs.Prelude.{true, bytes_eq, get_or, Some, None, if◌then◌else◌, OnOk, IfOk, is_ok};
@@ -11,7 +11,7 @@ ghost use Rattle.encrypt_schema.specs.Spots.{numbered, child_at, rule_at, spot_p
 use bson_tree::Bytes;
 use fle_outside::Memory;
 use std::alloc::Global;
-use std::collections::BTreeMap;
+use std::collections::HashMap;
 
 /// A place in the tree of names.
 #[derive(Drop)]
@@ -22,8 +22,8 @@ pub(crate) struct Spot {
     name: Bytes,
     /// The number of the first rule whose path ends here.
     rule: Option<u32>,
-    /// The numbers of the spots to which names lead from here.
-    below: BTreeMap<Vec<u8>, u32>,
+    /// The numbers of the spots to which names lead from here, found by the names' hashes.
+    below: HashMap<Vec<u8>, u32>,
 }
 
 /// The number of the spot to which a name leads from spot `at`.
@@ -54,7 +54,7 @@ pub(crate) fn root_spot(alloc: Global) -> Result<Vec<Spot>, Memory>
         parent: 0,
         name,
         rule: None,
-        below: BTreeMap::new(alloc),
+        below: HashMap::new(alloc),
     };
     let mut spots = Vec::new(alloc);
     match spots.push(root) {
@@ -86,7 +86,7 @@ fn push_spot(alloc: Global, spots: &mut Vec<Spot>, at: u32, name: &[u8]) -> Resu
         parent: at,
         name,
         rule: None,
-        below: BTreeMap::new(alloc),
+        below: HashMap::new(alloc),
     };
     if spots.push(spot).is_err() {
         return Err(Memory);

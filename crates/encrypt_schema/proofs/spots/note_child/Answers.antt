@@ -1,7 +1,6 @@
 -- The spot that was written leads on by one name more.
-use Rattle.std.proofs.Common.{◌≡◌, ℕ, List, cond, Some, bytes_eq, refl, subst, nat_cmp, rules}
-use Rattle.std.specs.Cmp.Lexicographic.{slice_cmp}
-use Rattle.std.specs.BTreeMap.{UpdatesBy}
+use Rattle.std.proofs.Common.{◌≡◌, ℕ, List, cond, Some, bytes_eq, refl, subst, rules}
+use Rattle.std.specs.HashMap.{UpdatesBy}
 use Rattle.encrypt_schema.specs.Spots.{numbered}
 use Rattle.encrypt_schema.proofs.Maps.{updates_names}
 use Rattle.encrypt_schema.proofs.Written.{kept_paths, kept_rules, written_child}
@@ -12,7 +11,7 @@ returns-clause-paths c = kept_paths c.args.spots.now.items c.args.at c.index_mut
 
 pub returns-clause-children : goal.returns-clause-children
 returns-clause-children c =
-    let updated : UpdatesBy (λ x y. slice_cmp nat_cmp x.items y.items) (λ k. slice_cmp nat_cmp c.in_ok-key.key.items k.items) c.index_mut.result.now.below c.insert.new.self (Some c.args.n) = search rules in
+    let updated : UpdatesBy (λ x y. bytes_eq x.items y.items) (λ k. bytes_eq c.in_ok-key.key.items k.items) c.index_mut.result.now.below c.insert.new.self (Some c.args.n) = search rules in
     let made : (q : List ℕ) → numbered c.insert.new.self q ≡ cond (bytes_eq c.args.name.now q) (Some c.args.n) (numbered c.index_mut.result.now.below q) =
     subst
     (λ (bs : List ℕ). (q : List ℕ) → numbered c.insert.new.self q ≡ cond (bytes_eq bs q) (Some c.args.n) (numbered c.index_mut.result.now.below q))
