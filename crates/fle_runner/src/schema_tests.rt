@@ -16,6 +16,10 @@ const DOUBLE: &[u8] =
 const VIEW: &[u8] =
     b".\x00\x00\x00\x02name\x00\x02\x00\x00\x00v\x00\x02type\x00\x05\x00\x00\x00view\x00\x03options\x00\x05\x00\x00\x00\x00\x00";
 
+/// The info of `notes`, which has no schema.
+const NOTES: &[u8] =
+    b"8\x00\x00\x00\x02name\x00\x06\x00\x00\x00notes\x00\x02type\x00\x0b\x00\x00\x00collection\x00\x03options\x00\x05\x00\x00\x00\x00\x00";
+
 /// `{insert: "staff", documents: [{a: {b: int 1}}], $db: "hr"}`.
 const NESTED: &[u8] =
     b"J\x00\x00\x00\x02insert\x00\x06\x00\x00\x00staff\x00\x04documents\x00\x1c\x00\x00\x00\x030\x00\x14\x00\x00\x00\x03a\x00\x0c\x00\x00\x00\x10b\x00\x01\x00\x00\x00\x00\x00\x00\x02$db\x00\x03\x00\x00\x00hr\x00\x00";
@@ -36,7 +40,7 @@ const BESIDE_REPLY: &[u8] =
 fn the_first_faulty_info_is_told_with_its_fault(rt: HostRuntime) -> Result<(), Fail> {
     let alloc = rt.alloc();
     let nameless = joined(alloc, PEOPLE, b"\x05\x00\x00\x00\x00")?;
-    let twice = joined(alloc, PEOPLE, PEOPLE)?;
+    let twice = joined(alloc, NOTES, NOTES)?;
     let double = joined(alloc, STAFF, DOUBLE)?;
     let cases: [(&[u8], &str); 4] = [
         (&nameless, "fle: 4 1 31 2\n"),
