@@ -1,5 +1,5 @@
 -- Documents, their elements and lists of elements as they stand in bytes that were checked.
-use Rattle.std.specs.Prelude.{◌≡◌, ◌-◌, ℕ, Bool, ◌||◌, ◌==◌, List, [], Result, Ok, Err, refl, if◌then◌else◌, ◌+◌, ◌&&◌, nat_lt, length, Option, Some, None}
+use Rattle.std.specs.Prelude.{◌≡◌, ◌-◌, ℕ, Bool, true, false, ◌||◌, ◌==◌, List, [], Result, Ok, Err, refl, if◌then◌else◌, ◌+◌, ◌&&◌, nat_lt, length, Option, Some, None}
 use Rattle.std.specs.Coded.{Coded, code_by, coded×, coded_ℕ}
 use Rattle.bson_tree.specs.Tree.{Tree, Items, leaf, node, no_items, item, tag_of}
 use Rattle.bson_tree.specs.Spelling.{value_bytes, items_bytes, doc_bytes}
@@ -91,9 +91,14 @@ pub record SpellsWithin (levels tag : ℕ) (bs : List ℕ) : Type 0 where
   pub type : tag_of tree ≡ tag
   pub parts : bs ≡ value_bytes tree
 
+-- a document or an array
+abbrev pub has_inside : Tree → Bool
+has_inside (leaf tag bytes) = false
+has_inside (node tag is) = true
+
 -- the value of the element begins at `at` or, being a document or an array, holds it
 abbrev pub holds : ℕ → Elem → Bool
-holds at e = e.start == at || (is_inner (tag_of e.tree) && (nat_lt e.start at && nat_lt at (e.start + length (value_bytes e.tree))))
+holds at e = e.start == at || (has_inside e.tree && (nat_lt e.start at && nat_lt at (e.start + length (value_bytes e.tree))))
 
 -- the first element that holds `at`, and its number, among elements from number i on that begin at `start`
 abbrev pub holding : ℕ → ℕ → ℕ → Items → Option (ℕ × Elem)

@@ -102,13 +102,13 @@ impl<'a> RawItem<'a> {
     }
 }
 
-/// Whether the element's value begins at `at` or, being 03 or 04, holds it.
+/// Whether the element's value begins at `at` or, being a document or an array, holds it.
 pub(crate) fn holds_offset(item: &RawItem<'_>, at: usize) -> bool
     ensures holds { result ≡ holds at item.now }
 {
     let start = item.start();
-    let inner = has_document(item.tag());
-    start == at || (inner && start < at && at < start + item.value().len())
+    let has_inside = item.child().is_some();
+    start == at || (has_inside && start < at && at < start + item.value().len())
 }
 
 // Whether values of this type hold a document: embedded document and array.

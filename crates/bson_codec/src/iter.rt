@@ -42,8 +42,8 @@ impl<'a> RawDoc<'a> {
         }
     }
 
-    /// The element whose value begins at `at` or, being 03 or 04, holds it, and its number from 0; `None`
-    /// exactly where there is none.
+    /// The element whose value begins at `at` or, being a document or an array, holds it, and its number from 0;
+    /// `None` exactly where there is none.
     pub fn child_holding(&self, at: usize) -> Option<(u32, RawItem<'a>)>
         ensures found { option_map (λ x. (x.0, x.1)) result ≡ holding at 0 (self.now.start + 4) self.now.tree }
     {

@@ -24,21 +24,18 @@ abbrev mutual
 abbrev pub filled : (List ℕ → Option Tree) → Items → Items
 filled f is = filled_from f 0 is
 
--- what is put at the value that begins at `at`: f's value there, else what stands there
-abbrev pub put_at : (ℕ → Option Tree) → ℕ → Tree → Tree
-put_at f at t = unwrap_or (f at) t
-
--- the same by offsets: a value that begins at `at`, with f's values at the offsets of f inside it
+-- the same by offsets: a value that begins at `at`, with f's value, type byte included, in place of each value for
+-- which f has one. f knows the offset at which a value begins, and the value
 abbrev mutual
-  pub fill_tree : (ℕ → Option Tree) → ℕ → Tree → Tree
-  fill_tree f at (leaf tag bytes) = leaf tag bytes
-  fill_tree f at (node tag is) = node tag (fill_items f (at + 4) is)
+  pub fill_tree : (ℕ → Tree → Option Tree) → ℕ → Tree → Tree
+  fill_tree f at (leaf tag bytes) = unwrap_or (f at (leaf tag bytes)) (leaf tag bytes)
+  fill_tree f at (node tag is) = unwrap_or (f at (node tag is)) (node tag (fill_items f (at + 4) is))
 
-  -- elements that begin at `at`, with f's value at each offset of f where a value begins
-  pub fill_items : (ℕ → Option Tree) → ℕ → Items → Items
+  -- the same for elements that begin at `at`
+  pub fill_items : (ℕ → Tree → Option Tree) → ℕ → Items → Items
   fill_items f at no_items = no_items
   fill_items f at (item name t is) =
       item
       name
-      (put_at f (at + (2 + length name)) (fill_tree f (at + (2 + length name)) t))
+      (fill_tree f (at + (2 + length name)) t)
       (fill_items f (at + (2 + length name) + length (value_bytes t)) is)
