@@ -39,3 +39,8 @@ pub mod Sites
 pub mod EqualPlaces
 pub mod Parts
 pub mod Unmarked
+pub mod Elements
+pub mod PolicyAt
+pub mod Plans
+pub mod Taken
+pub mod Ruled

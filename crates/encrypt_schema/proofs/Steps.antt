@@ -13,7 +13,7 @@ use Rattle.encrypt_schema.specs.Row.{Row, paths}
 use Rattle.encrypt_schema.specs.Classes.{number_of, covers, leads, class_by, class}
 use Rattle.encrypt_schema.specs.Fronts.{fronts}
 use Rattle.encrypt_schema.specs.Spots.{child_at, rule_at, spot_paths, rows_of, IsGrid}
-use Rattle.encrypt_schema.specs.Cursors.{StandsAt, Stands, path_at, path_of}
+use Rattle.encrypt_schema.specs.Cursors.{StandsAt, Stands, path_at, path_of, StandsForPath}
 use Rattle.encrypt_schema.specs.Places.{landed}
 use Rattle.encrypt_schema.proofs.Paths.{nil_prefix, among, found_is, not_among, some_among, covers_push, leads_front, among_leads}
 use Rattle.encrypt_schema.proofs.Numbers.{number_there, number_below}
@@ -149,3 +149,13 @@ protected_inside rows path i e = subst (λ (n : ℕ). i < n) (length-map rows (�
 -- and the path is that rule's
 pub protected_path : (rows : List Row) (path : List (List ℕ)) (i : ℕ) → class rows path ≡ classes.Protected i → get_or (paths rows) i [] ≡ path
 protected_path rows path i e = number_there path (paths rows) i (protected_number rows path i e)
+
+-- a place that stands for the empty path stands for it alone
+pub root_at : (rows : List Row) (at : Place) → StandsAt rows at [] → path_at rows at ≡ []
+root_at rows (places.Front i covered) s = number_there [] (fronts rows) i s.0
+root_at rows places.Below s = refl
+root_at rows places.Clear s = refl
+
+-- a cursor of class Above stands for its one path
+pub above_stands : (rows : List Row) (at : Cursor) (path : List (List ℕ)) → Stands rows at path → class rows path ≡ classes.Above → StandsForPath rows at
+above_stands rows at path s e = subst (Stands rows at) (above_path rows at path s e) s

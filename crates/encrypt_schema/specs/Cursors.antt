@@ -25,3 +25,7 @@ path_at rows places.Clear = []
 -- the one path for which a cursor on a front stands
 abbrev pub path_of : List Row → Cursor → List (List ℕ)
 path_of rows at = path_at rows at.place
+
+-- the cursor stands for this one path
+abbrev pub StandsForPath : List Row → Cursor → Type 0
+StandsForPath rows at = Stands rows at (path_of rows at)

@@ -27,3 +27,4 @@ pub mod Visits
 pub mod Targets
 pub mod Skeletons
 pub mod Chains
+pub mod Walking

@@ -2,7 +2,7 @@
 
 ghost use Rattle.std.specs.Prelude.{◌≡◌, ◌<◌, ◌++◌, ◌∷◌, [], ℕ, List, length, true, IfSome};
 ghost use Rattle.encrypt_schema.specs.Classes.{class, class_by};
-ghost use Rattle.encrypt_schema.specs.Cursors.{Stands};
+ghost use Rattle.encrypt_schema.specs.Cursors.{Stands, path_of};
 ghost use Rattle.encrypt_schema.specs.Places.{landed};
 ghost use Rattle.encrypt_schema.specs.Spots.{child_at, rule_at};
 
@@ -31,6 +31,7 @@ impl Rows {
     /// The cursor of the empty path, with which a document begins.
     pub fn root(&self) -> Cursor
         ensures root { Stands self.now result [] }
+        ensures path { path_of self.now result ≡ [] }
     {
         if self.rules.is_empty() {
             return Cursor {

@@ -39,6 +39,7 @@ mod spots;
 mod stored;
 mod types;
 mod values;
+mod walking;
 
 pub use class::Class;
 pub use collections::{Info, Infos};
@@ -46,10 +47,12 @@ pub use cursor::Cursor;
 pub use dotted::{Walk, is_dollar, is_position};
 pub use faults::{InfoFault, InfoKind, SchemaFault};
 pub use marks::{Mark, MarkFault, Marks, Role};
+pub use names::is_named;
 pub use policy::{Algorithm, KeyRef, Policy, TypeSet};
 pub use reason::Reason;
 pub use rows::Rows;
-pub use stored::type_allowed;
+pub use stored::{type_allowed, type_allowed_under};
+pub use walking::{Place, Table, has_name, mark_elements, stands_before};
 
 #[cfg(test)]
 mod collections_tests;

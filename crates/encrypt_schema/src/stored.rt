@@ -1,11 +1,12 @@
 //! Whether a value may be stored under a rule.
 
 ghost use Rattle.std.specs.Prelude.{◌≡◌};
-ghost use Rattle.encrypt_schema.specs.Offences.{is_never_allowed, least, stored_under};
+ghost use Rattle.encrypt_schema.specs.Offences.{is_never_allowed, least, stored, stored_under};
 ghost use Rattle.encrypt_schema.specs.Visits.{entry, holds_payload, is_payload};
 
 use crate::policy::Policy;
 use crate::reason::Reason;
+use crate::rows::Rows;
 use bson_codec::RawItem;
 
 /// The type byte of a binary.
@@ -28,6 +29,16 @@ pub fn type_allowed(policy: &Policy, item: &RawItem<'_>) -> Option<Reason>
         return Some(Reason::AlreadyEncrypted);
     }
     None
+}
+
+/// The same under the rule of this number, counted from 0; past the last rule no type is allowed.
+pub fn type_allowed_under(rows: &Rows, i: u32, item: &RawItem<'_>) -> Option<Reason>
+    ensures reason { result ≡ least (stored rows.now i (entry item.now.name item.now.tree)) }
+{
+    match rows.policy(i) {
+        Some(policy) => type_allowed(policy, item),
+        None => Some(Reason::TypeNotAllowed),
+    }
 }
 
 /// Whether no policy allows the type: undefined, null, maxKey, minKey.
