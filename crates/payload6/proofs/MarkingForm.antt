@@ -41,18 +41,18 @@ parts : List ℕ → ℕ → List ℕ
 parts fields n = 0 ∷ (to_le_bytes w32 n ++ (fields ++ 0 ∷ []))
 
 -- a marking is 00, its length, its fields, and 00
-pub put_parts : (policy : Policy) (t : Tree) (n : ℕ) (a b c whole : List ℕ) → length (key_id policy.key) ≡ 16
+pub put_parts : (policy : Policy) (t : Tree) (n : ℕ) (o a b c whole : List ℕ) → length (key_id policy.key) ≡ 16
     → n ≡ length (value_bytes t) + 40
-    → a ≡ 0 ∷ []
+    → a ≡ o ++ 0 ∷ []
     → b ≡ a ++ to_le_bytes w32 n
     → c ≡ b ++ items_bytes (marking_fields policy t)
     → whole ≡ c ++ 0 ∷ []
-    → whole ≡ marking policy t
+    → whole ≡ o ++ marking policy t
 unfolding parts
-put_parts policy t n a b c whole id is ea eb ec ew =
+put_parts policy t n o a b c whole id is ea eb ec ew =
     let fields = items_bytes (marking_fields policy t) in
     let size : n ≡ length fields + 5 = omega (arith, is, fields_size policy t id) in
-    rw (ew, ec, eb, ea) (simp append_assoc) ∙ ap (parts fields) size
+    rw (ew, ec, eb, ea) (simp append_assoc) ∙ ap (λ (k : ℕ). o ++ parts fields k) size
 
 -- the fields of a marking, one by one
 pub put_fields : (policy : Policy) (t : Tree) (o a b whole : List ℕ)

@@ -3,7 +3,8 @@
 //!
 //! [`seal_payload_into`] writes the payload of a value, [`parts`] takes one apart and
 //! [`open_payload_into`] gives the value back. [`det_iv`] is the initialization vector of a
-//! deterministic payload. [`marking`] is what a command holds in the place of a value to be sealed.
+//! deterministic payload. [`marking`] is what a command holds in the place of a value to be sealed, and [`put_marking`]
+//! appends it.
 //!
 //! ```rust
 //! let iv = det_iv(&key, key_id, tag, plain);
@@ -15,7 +16,7 @@
 //! It holds no keys, draws no vector, and doesn't ask how the vector of a payload was made.
 #![tactic(auto)]
 
-pub use markings::marking;
+pub use markings::{marking, put_marking};
 pub use opening::{PayloadFault, open_payload_into};
 pub use payload::{DETERMINISTIC, PartsFault, Payload, RANDOM, parts};
 pub use sealing::{det_iv, payload_len, seal_payload_into};

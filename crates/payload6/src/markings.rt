@@ -34,14 +34,23 @@ pub fn marking(alloc: Global, item: &RawItem<'_>, policy: &Policy) -> Result<Byt
     requires { length (value_bytes item.now.tree) ≤ longest }
     ensures spelled { IfOk result (λ bytes. bytes ≡ marking policy.now item.now.tree) }
 {
+    let mut out = with_room(alloc, 1 + DOCUMENT + item.value().len())?;
+    put_marking(&mut out, item, policy)?;
+    Ok(Bytes::from_vec(out))
+}
+
+/// Appends the marking of an element's value, of any length. `Memory` where there is none for it, with a part of
+/// the marking appended; it takes none where `out` has room.
+pub fn put_marking(out: &mut Vec<u8>, item: &RawItem<'_>, policy: &Policy) -> Result<(), Memory>
+    ensures appended { OnOk result (out.new.items ≡ out.old.items ++ marking policy.now item.now.tree) }
+{
     let id = id_of(policy);
     let size = item.value().len() + DOCUMENT;
-    let mut out = with_room(alloc, 1 + size)?;
-    append(&mut out, &[0])?;
-    append(&mut out, &(size as u32).to_le_bytes())?;
-    put_fields(&mut out, item, policy, &id)?;
-    append(&mut out, &[0])?;
-    Ok(Bytes::from_vec(out))
+    append(out, &[0])?;
+    append(out, &(size as u32).to_le_bytes())?;
+    put_fields(out, item, policy, &id)?;
+    append(out, &[0])?;
+    Ok(())
 }
 
 /// Appends the fields of a marking's document.
