@@ -1,14 +1,12 @@
 -- A column made of four table entries and a key's word.
-use Rattle.std.proofs.Common.{◌≡◌, ℕ, List, [], ◌∷◌, ◌<◌, ap, ◌∙◌}
+use Rattle.std.proofs.Common.{◌≡◌, ℕ, List, [], ◌∷◌, ap, ◌∙◌}
 use Rattle.std.specs.Prelude.{bit_xor}
-use Rattle.std.specs.Int.{w32, from_be_bytes}
 use Rattle.aes_block.specs.Block.{word_bytes, xor_bytes}
 use Rattle.aes_block.specs.Field.{product}
 use Rattle.aes_block.specs.Steps.{mixed_column}
 use Rattle.aes_block.proofs.Xor.{five_sorted, five_turned, five_turned_twice, five_turned_back, four_equal, word_bytes-xor}
-use Rattle.aes_block.proofs.WordBytes.{word_bytes-made}
 
-five_words : (p q r s k : ℕ)
+pub five_words : (p q r s k : ℕ)
     → word_bytes (bit_xor (bit_xor (bit_xor (bit_xor k s) r) q) p)
     ≡ xor_bytes (xor_bytes (xor_bytes (xor_bytes (word_bytes k) (word_bytes s)) (word_bytes r)) (word_bytes q)) (word_bytes p)
 five_words p q r s k =
@@ -17,7 +15,7 @@ five_words p q r s k =
     ∙ ap (λ x. xor_bytes x (word_bytes q)) (word_bytes-xor (bit_xor k s) r
     ∙ ap (λ x. xor_bytes x (word_bytes r)) (word_bytes-xor k s)))
 
-five_replaced : {p q r s p' q' r' s' : List ℕ} (k : List ℕ) → p ≡ p' → q ≡ q' → r ≡ r' → s ≡ s'
+pub five_replaced : {p q r s p' q' r' s' : List ℕ} (k : List ℕ) → p ≡ p' → q ≡ q' → r ≡ r' → s ≡ s'
     → xor_bytes (xor_bytes (xor_bytes (xor_bytes k s) r) q) p ≡ xor_bytes (xor_bytes (xor_bytes (xor_bytes k s') r') q') p'
 five_replaced k ep eq er es = cc
 
@@ -36,9 +34,3 @@ column-sum m0 m1 m2 m3 a b c d p q r s k ep eq er es =
     (five_turned (product a m3) (product b m0) (product c m1) (product d m2) _)
     (five_turned_twice (product a m2) (product b m3) (product c m0) (product d m1) _)
     (five_turned_back (product a m1) (product b m2) (product c m3) (product d m0) _)
-
--- four bytes and a key's word
-pub bytes-sum : (a b c d w k : ℕ) → a < 256 → b < 256 → c < 256 → d < 256 → w ≡ from_be_bytes w32 (a ∷ b ∷ c ∷ d ∷ [])
-    → word_bytes (bit_xor w k) ≡ xor_bytes (a ∷ b ∷ c ∷ d ∷ []) (word_bytes k)
-bytes-sum a b c d w k la lb lc ld e =
-    word_bytes-xor w k ∙ ap (λ x. xor_bytes x (word_bytes k)) (word_bytes-made a b c d la lb lc ld w e)

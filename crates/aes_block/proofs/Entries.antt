@@ -1,8 +1,7 @@
 -- A list of 16 as its entries, and the steps on it entry by entry.
-use Rattle.std.proofs.Common.{◌≡◌, ℕ, List, [], ◌∷◌, ◌++◌, length, get_or, arith, refl, ap, ◌∙◌}
+use Rattle.std.proofs.Common.{◌≡◌, ℕ, List, [], ◌∷◌, length, arith, refl, ap, ◌∙◌}
 use Rattle.std.specs.Prelude.{bit_xor}
 use Rattle.aes_block.specs.Substitution.{sub_byte, inv_sub_byte}
-use Rattle.aes_block.specs.Block.{word_bytes}
 use Rattle.aes_block.specs.Steps.{cell, state, sub_bytes, inv_sub_bytes, add_round_key}
 
 -- a list of 16 is the state of its cells
@@ -45,9 +44,3 @@ pub state_equal :
     → a0 ∷ a1 ∷ a2 ∷ a3 ∷ a4 ∷ a5 ∷ a6 ∷ a7 ∷ a8 ∷ a9 ∷ a10 ∷ a11 ∷ a12 ∷ a13 ∷ a14 ∷ a15 ∷ []
     ≡ b0 ∷ b1 ∷ b2 ∷ b3 ∷ b4 ∷ b5 ∷ b6 ∷ b7 ∷ b8 ∷ b9 ∷ b10 ∷ b11 ∷ b12 ∷ b13 ∷ b14 ∷ b15 ∷ []
 state_equal e0 e1 e2 e3 e4 e5 e6 e7 e8 e9 e10 e11 e12 e13 e14 e15 = cc
-
--- the bytes of four words, from the lists of four that were made of each
-pub four_words_bytes : (x y z t : ℕ) {p q r s : List ℕ} → p ≡ word_bytes x → q ≡ word_bytes y → r ≡ word_bytes z → s ≡ word_bytes t
-    → get_or p 0 0 ∷ get_or p 1 0 ∷ get_or p 2 0 ∷ get_or p 3 0 ∷ get_or q 0 0 ∷ get_or q 1 0 ∷ get_or q 2 0 ∷ get_or q 3 0 ∷ get_or r 0 0 ∷ get_or r 1 0 ∷ get_or r 2 0 ∷ get_or r 3 0 ∷ get_or s 0 0 ∷ get_or s 1 0 ∷ get_or s 2 0 ∷ get_or s 3 0 ∷ []
-    ≡ word_bytes x ++ (word_bytes y ++ (word_bytes z ++ word_bytes t))
-four_words_bytes x y z t e f g h = rw (e, f, g, h) refl

@@ -8,6 +8,7 @@ pub mod Rounds
 pub mod Xor
 pub mod Entry
 pub mod Columns
+pub mod LastTables
 pub mod RoundTable
 pub mod InvRoundTable
 pub mod Linear

@@ -16,6 +16,7 @@
 
 mod expansion;
 mod inverse;
+mod last_tables;
 pub mod laws;
 mod plain_form;
 mod sbox;

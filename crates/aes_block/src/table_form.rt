@@ -1,10 +1,11 @@
-// Cipher and InvCipher a column at a time, by look-up in tables that join SubBytes with MixColumns
-// (FIPS 197, 5.1, 5.3 and 5.3.5).
+// Cipher and InvCipher a column at a time, by look-up in tables that join SubBytes with MixColumns, and
+// in the last round in tables of SubBytes alone (FIPS 197, 5.1, 5.3 and 5.3.5).
 //
 // The rounds are written out: over a loop LLVM gathers the columns into vectors, and a block then
 // takes twice as long. A round looks up the lowest byte's entry first and the highest byte's last, and
 // takes the two highest bytes of a word from the turned word, where they are the lowest; an inverse
-// round begins with its last column. Of the forms tried this one leaves the most words in registers.
+// round begins with its last column. Of the forms tried this one leaves the most words in registers. The
+// last round has the form of the others, so that its columns too come as words out of a table.
 
 ghost use Rattle.std.specs.Prelude.{◌≡◌, ℕ, ◌/◌, ◌%◌, ◌^◌, ◌<◌, ◌≤◌, [], ◌∷◌};
 ghost use Rattle.aes_block.specs.Block.{four_words, word_bytes, xor_bytes};
@@ -12,12 +13,13 @@ ghost use Rattle.aes_block.specs.Cipher.{cipher, inv_cipher};
 ghost use Rattle.aes_block.specs.Steps.{add_round_key, inv_mix_columns, inv_shift_rows, inv_sub_bytes, mix_columns, mixed_column, round_key, shift_rows, sub_bytes};
 ghost use Rattle.aes_block.specs.Substitution.{inv_sub_byte, sub_byte};
 
+use crate::last_tables::{INV_LAST_TABLE, LAST_TABLE};
 use crate::schedule::Schedule;
-use crate::steps::{inv_sub_byte, sub_byte};
 use crate::tables::{INV_ROUND_TABLE, ROUND_TABLE};
 use crate::words::{bytes_of, words_of};
 
 /// Encrypts a block: Cipher of FIPS 197, 5.1.
+#[inline(never)]
 pub fn cipher_tables(schedule: &Schedule, block: [u8; 16]) -> [u8; 16]
     ensures { result ≡ cipher schedule.now block }
 {
@@ -40,6 +42,7 @@ pub fn cipher_tables(schedule: &Schedule, block: [u8; 16]) -> [u8; 16]
 }
 
 /// Decrypts a block: InvCipher of FIPS 197, 5.3, in the order of the equivalent inverse cipher, 5.3.5.
+#[inline(never)]
 pub fn inv_cipher_tables(schedule: &Schedule, block: [u8; 16]) -> [u8; 16]
     ensures { result ≡ inv_cipher schedule.now block }
 {
@@ -125,21 +128,19 @@ fn round(s: [u32; 4], w: &[u32; 60], r: usize) -> [u32; 4]
     ]
 }
 
-// A column after the last round, which has no MixColumns.
+// A column after the last round, which has no MixColumns, from the same columns, the first two turned.
 #[inline(always)]
 fn last_column(a: u32, b: u32, c: u32, d: u32, key: u32) -> u32
     ensures { word_bytes result ≡ xor_bytes
-        (sub_byte (a / 2 ^ 24 % 256) ∷ sub_byte (b / 2 ^ 16 % 256)
+        (sub_byte (a % 256) ∷ sub_byte (b / 2 ^ 8 % 256)
         ∷ sub_byte (c / 2 ^ 8 % 256) ∷ sub_byte (d % 256) ∷ [])
         (word_bytes key) }
 {
-    let column = [
-        sub_byte(byte_at(a, 24) as u8),
-        sub_byte(byte_at(b, 16) as u8),
-        sub_byte(byte_at(c, 8) as u8),
-        sub_byte(byte_at(d, 0) as u8),
-    ];
-    u32::from_be_bytes(column) ^ key
+    let s = LAST_TABLE[768 + byte_at(d, 0)];
+    let r = LAST_TABLE[512 + byte_at(c, 8)];
+    let q = LAST_TABLE[256 + byte_at(b, 8)];
+    let p = LAST_TABLE[byte_at(a, 0)];
+    (((key ^ s) ^ r) ^ q) ^ p
 }
 
 #[inline(always)]
@@ -148,11 +149,12 @@ fn last_round(s: [u32; 4], w: &[u32; 60]) -> [u32; 4]
         ≡ add_round_key (shift_rows (sub_bytes (four_words s 0))) (round_key w.now 14) }
 {
     let [a, b, c, d] = s;
+    let [e, f, g, h] = [turned(a), turned(b), turned(c), turned(d)];
     [
-        last_column(a, b, c, d, w[56]),
-        last_column(b, c, d, a, w[57]),
-        last_column(c, d, a, b, w[58]),
-        last_column(d, a, b, c, w[59]),
+        last_column(e, f, c, d, w[56]),
+        last_column(f, g, d, a, w[57]),
+        last_column(g, h, a, b, w[58]),
+        last_column(h, e, b, c, w[59]),
     ]
 }
 
@@ -187,21 +189,19 @@ fn inv_round(s: [u32; 4], w: &[u32; 60], r: usize) -> [u32; 4]
     [first, second, third, fourth]
 }
 
-// A column after the last round, which has no InvMixColumns.
+// A column after the last round, which has no InvMixColumns, from the same columns, the first two turned.
 #[inline(always)]
 fn inv_last_column(a: u32, b: u32, c: u32, d: u32, key: u32) -> u32
     ensures { word_bytes result ≡ xor_bytes
-        (inv_sub_byte (a / 2 ^ 24 % 256) ∷ inv_sub_byte (b / 2 ^ 16 % 256)
+        (inv_sub_byte (a % 256) ∷ inv_sub_byte (b / 2 ^ 8 % 256)
         ∷ inv_sub_byte (c / 2 ^ 8 % 256) ∷ inv_sub_byte (d % 256) ∷ [])
         (word_bytes key) }
 {
-    let column = [
-        inv_sub_byte(byte_at(a, 24) as u8),
-        inv_sub_byte(byte_at(b, 16) as u8),
-        inv_sub_byte(byte_at(c, 8) as u8),
-        inv_sub_byte(byte_at(d, 0) as u8),
-    ];
-    u32::from_be_bytes(column) ^ key
+    let s = INV_LAST_TABLE[768 + byte_at(d, 0)];
+    let r = INV_LAST_TABLE[512 + byte_at(c, 8)];
+    let q = INV_LAST_TABLE[256 + byte_at(b, 8)];
+    let p = INV_LAST_TABLE[byte_at(a, 0)];
+    (((key ^ s) ^ r) ^ q) ^ p
 }
 
 #[inline(always)]
@@ -210,10 +210,10 @@ fn inv_last_round(s: [u32; 4], w: &[u32; 60]) -> [u32; 4]
         ≡ add_round_key (inv_sub_bytes (inv_shift_rows (four_words s 0))) (round_key w.now 14) }
 {
     let [a, b, c, d] = s;
-    [
-        inv_last_column(a, d, c, b, w[56]),
-        inv_last_column(b, a, d, c, w[57]),
-        inv_last_column(c, b, a, d, w[58]),
-        inv_last_column(d, c, b, a, w[59]),
-    ]
+    let [e, f, g, h] = [turned(a), turned(b), turned(c), turned(d)];
+    let fourth = inv_last_column(h, g, b, a, w[59]);
+    let third = inv_last_column(g, f, a, d, w[58]);
+    let second = inv_last_column(f, e, d, c, w[57]);
+    let first = inv_last_column(e, h, c, b, w[56]);
+    [first, second, third, fourth]
 }

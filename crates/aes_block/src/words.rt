@@ -15,15 +15,16 @@ pub(crate) fn words_of(s: [u8; 16]) -> [u32; 4]
     ]
 }
 
+// Each word goes into the block as a whole: from single bytes LLVM makes a store of each.
 #[inline(always)]
 pub(crate) fn bytes_of(s: [u32; 4]) -> [u8; 16]
     ensures { result ≡ four_words s 0 }
 {
-    let [a0, a1, a2, a3] = s[0].to_be_bytes();
-    let [b0, b1, b2, b3] = s[1].to_be_bytes();
-    let [c0, c1, c2, c3] = s[2].to_be_bytes();
-    let [d0, d1, d2, d3] = s[3].to_be_bytes();
-    [
-        a0, a1, a2, a3, b0, b1, b2, b3, c0, c1, c2, c3, d0, d1, d2, d3,
-    ]
+    let [a, b, c, d] = s;
+    let mut block = [0; 16];
+    block[0..4].copy_from_slice(&a.to_be_bytes());
+    block[4..8].copy_from_slice(&b.to_be_bytes());
+    block[8..12].copy_from_slice(&c.to_be_bytes());
+    block[12..16].copy_from_slice(&d.to_be_bytes());
+    block
 }

@@ -5,4 +5,8 @@ use Rattle.aes_block.proofs.table_form.inv_last_round.Goals as goal
 
 pub returns : goal.returns
 unfolding four_words inv_sub_bytes inv_shift_rows round_key add_round_key
-returns c = joined c.inv_last_column.ensures c.inv_last_column-2.ensures c.inv_last_column-3.ensures c.inv_last_column-4.ensures
+returns c = joined
+    (rw (c.turned.ensures.highest, c.turned-4.ensures.second) at c.inv_last_column-first.ensures)
+    (rw (c.turned-2.ensures.highest, c.turned.ensures.second) at c.inv_last_column-second.ensures)
+    (rw (c.turned-3.ensures.highest, c.turned-2.ensures.second) at c.inv_last_column-third.ensures)
+    (rw (c.turned-4.ensures.highest, c.turned-3.ensures.second) at c.inv_last_column-fourth.ensures)
