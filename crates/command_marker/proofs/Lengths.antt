@@ -7,6 +7,7 @@ use Rattle.encrypt_schema.specs.declared.policy.Policy.{Policy}
 use Rattle.payload6.specs.Payload.{algorithm_number}
 use Rattle.payload6.specs.Marking.{key_id, binary, marking_fields, marking}
 use Rattle.command_marker.specs.Marking.{marked_value}
+use Rattle.command_marker.specs.Written.{growth}
 
 -- a document has 5 bytes more than its elements
 pub framed_size : (elements : List ℕ) → length (framed elements) ≡ length elements + 5
@@ -22,32 +23,29 @@ element_size name t is =
 binary_size : (subtype : ℕ) (contents : List ℕ) → length (value_bytes (binary subtype contents)) ≡ length contents + 5
 binary_size subtype contents = omega arith
 
--- the fields of a marking have 35 bytes more than the value, where the key's id has 16
-pub marking_fields_size : (policy : Policy) (t : Tree) → length (key_id policy.key) ≡ 16
-    → length (items_bytes (marking_fields policy t)) ≡ length (value_bytes t) + 35
+-- the fields of a marking have 19 bytes more than the value and the key's id
+fields_size : (policy : Policy) (t : Tree)
+    → length (items_bytes (marking_fields policy t)) ≡ length (value_bytes t) + 19 + length (key_id policy.key)
 unfolding marking_fields
-marking_fields_size policy t id =
+fields_size policy t =
     let ki = binary 4 (key_id policy.key) in
     let a = leaf 16 (algorithm_number policy.algorithm ∷ 0 ∷ 0 ∷ 0 ∷ []) in
     let last = item (codes "ki") ki no_items in
     let rest = item (codes "a") a last in
     omega (
       arith,
-      id,
       element_size (codes "v") t rest,
       element_size (codes "a") a last,
       element_size (codes "ki") ki no_items,
       binary_size 4 (key_id policy.key),
     )
 
--- a marking, as it stands in a command, has 46 bytes more than its value
-pub marking_size : (policy : Policy) (t : Tree) → length (key_id policy.key) ≡ 16
-    → length (value_bytes (marked_value policy t)) ≡ length (value_bytes t) + 46
+-- the contents of a marking's binary
+pub contents_size : (policy : Policy) (t : Tree) → length (marking policy t) + 5 ≡ length (value_bytes t) + growth policy
+contents_size policy t = omega (arith, fields_size policy t, framed_size (items_bytes (marking_fields policy t)))
+
+-- a marking, as it stands in a command, has more bytes than its value
+pub marking_size : (policy : Policy) (t : Tree)
+    → length (value_bytes (marked_value policy t)) ≡ length (value_bytes t) + growth policy
 unfolding marked_value
-marking_size policy t id =
-    omega (
-      arith,
-      marking_fields_size policy t id,
-      binary_size 6 (marking policy t),
-      framed_size (items_bytes (marking_fields policy t)),
-    )
+marking_size policy t = omega (arith, contents_size policy t, binary_size 6 (marking policy t))

@@ -1,6 +1,11 @@
-pub mod Ends
 pub mod Lengths
 pub mod Frames
 pub mod Markings
+pub mod Splices
+pub mod Elements
+pub mod Planned
+pub mod Steps
 pub mod Replies
-pub mod Inserts
+pub mod Targets
+pub mod FieldReasons
+pub mod MarkedPlaces

@@ -1,8 +1,8 @@
-pub mod Fields
-pub mod Rules
-pub mod Insert
 pub mod Marking
 pub mod Marked
 pub mod Reply
-pub mod Verdict
-pub mod Seen
+pub mod Commands
+pub mod Splices
+pub mod Written
+pub mod Steps
+pub mod MarkedPlaces

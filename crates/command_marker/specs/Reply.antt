@@ -1,7 +1,13 @@
 -- The reply of a marking service: two flags, the command with its markings, and `ok`
-use Rattle.std.specs.Prelude.{ℕ, Bool, List, [], ◌∷◌, codes, if◌then◌else◌}
+use Rattle.std.specs.Prelude.{◌≡◌, ℕ, ◌<◌, ◌≤◌, Bool, false, nat_lt, List, [], ◌∷◌, codes, length, Result, Ok, Err, Vec, if◌then◌else◌}
+use Rattle.std.specs.Global.{Global}
 use Rattle.bson_tree.specs.Tree.{Tree, Items, leaf, node, no_items, item}
 use Rattle.bson_tree.specs.Spelling.{doc_bytes}
+use Rattle.encrypt_schema.specs.Row.{Row}
+use Rattle.encrypt_schema.specs.Visits.{roles}
+use Rattle.command_marker.specs.declared.stop.ReplyFault.{ReplyFault}
+use Rattle.command_marker.specs.declared.stop.ReplyFault.TheVariants as faults
+use Rattle.command_marker.specs.Marked.{marked}
 
 abbrev pub flag : Bool → Tree
 flag set = leaf 8 ((if set then 1 else 0) ∷ [])
@@ -20,3 +26,21 @@ reply_fields marked ruled command =
 
 abbrev pub reply : Bool → Bool → Items → List ℕ
 reply marked ruled command = doc_bytes (reply_fields marked ruled command)
+
+-- the reply to a command under these rules: whether a value is marked, whether there are rules, the marked command
+unfoldable pub reply_to : List Row → Items → List ℕ
+reply_to rows c = reply (nat_lt 0 (length (roles rows c))) (nat_lt 0 (length rows)) (marked rows c)
+
+-- the reply to a command that no rule concerns
+unfoldable pub reply_clear_to : Items → List ℕ
+reply_clear_to c = reply false false c
+
+-- the most bytes that a reply may have
+abbrev pub reply_limit : ℕ
+reply_limit = 48000000
+
+-- these are the bytes of the reply, or it has too many; want of memory may come at any time
+abbrev pub RepliesAs : List ℕ → Result (Vec ℕ Global) ReplyFault → Type 0
+RepliesAs bytes (Ok reply) = (reply.items ≡ bytes) × (length bytes ≤ reply_limit)
+RepliesAs bytes (Err faults.TooLong) = reply_limit < length bytes
+RepliesAs bytes (Err faults.Memory) = Unit {0}

@@ -2,12 +2,8 @@
 
 ghost use Rattle.std.specs.Prelude.{◌≡◌, ◌+◌, ◌<◌, ◌≤◌, ◌^◌, ◌∷◌, [], ◌++◌, ℕ, List, length, take, drop, OnOk};
 ghost use Rattle.std.specs.Int.{to_le_bytes, w32};
-ghost use Rattle.bson_tree.specs.Tree.{item, no_items};
-ghost use Rattle.bson_tree.specs.Spelling.{framed, value_bytes, items_bytes};
-ghost use Rattle.bson_tree.specs.View.{tree};
+ghost use Rattle.bson_tree.specs.Spelling.{framed};
 
-use bson_codec::put_value;
-use bson_tree::Value;
 use fle_outside::Memory;
 
 /// Appends the bytes.
@@ -30,16 +26,6 @@ pub(crate) fn put_name(out: &mut Vec<u8>, tag: u8, name: &[u8]) -> Result<(), Me
     Ok(())
 }
 
-/// Appends an element.
-pub(crate) fn put_element(out: &mut Vec<u8>, name: &[u8], value: &Value) -> Result<(), Memory>
-    requires { length (value_bytes (tree value.now)) < 2 ^ 31 }
-    ensures element { OnOk result (out.new.items ≡ out.old.items ++ items_bytes (item name.now (tree value.now) no_items)) }
-{
-    put_name(out, value.tag, name)?;
-    put_value(out, value)?;
-    Ok(())
-}
-
 /// Begins a document at the end of `out`: four bytes for its length.
 pub(crate) fn open(out: &mut Vec<u8>) -> Result<(), Memory>
     ensures opened { OnOk result (out.new.items ≡ out.old.items ++ (0 ∷ (0 ∷ (0 ∷ (0 ∷ []))))) }
@@ -48,7 +34,6 @@ pub(crate) fn open(out: &mut Vec<u8>) -> Result<(), Memory>
 }
 
 /// Ends the document that begins at `at`: its last 00, and its length.
-
 pub(crate) fn close(out: &mut Vec<u8>, at: usize) -> Result<(), Memory>
     requires begun { at + 4 ≤ length out.old.items }
     requires small { length out.old.items < 2 ^ 31 }

@@ -3,6 +3,7 @@
 
 ghost use Rattle.std.specs.Prelude.{◌≡◌, ℕ, List, Bool, true, false, Some, length, map, flat_map, option_map};
 ghost use Rattle.std.specs.Option.{option_map_or};
+ghost use Rattle.bson_tree.specs.Filled.{filled};
 ghost use Rattle.bson_tree.specs.Places.{places};
 ghost use Rattle.bson_tree.specs.Spelling.{doc_bytes};
 ghost use Rattle.bson_tree.specs.Tree.{Items};
@@ -13,6 +14,8 @@ ghost use Rattle.encrypt_schema.specs.Skeletons.{AreApart, blank, hole_at, holes
 ghost use Rattle.encrypt_schema.specs.Stations.{has_role};
 ghost use Rattle.encrypt_schema.specs.Targets.{rows_of, verdict};
 ghost use Rattle.encrypt_schema.specs.Visits.{command_visits, content_verdict, first_refusal, offence_of, roles, station_of};
+ghost use Rattle.command_marker.specs.Marked.{marked};
+ghost use Rattle.command_marker.specs.MarkedPlaces.{marking_of};
 
 /// The values with a role come in reading order and apart: none twice, none inside another. They are the
 /// holes of the skeleton, and no ancestor of a place with a role has one.
@@ -47,11 +50,13 @@ pub fn equal_blanks()
 {}
 
 /// The places of a command, each read from the chain of its ancestors, are the places that one descent visits,
-/// in the same order; so are their stations, offences, roles and the first refusal.
+/// in the same order; so are their stations, offences, roles and the first refusal. The marked command is the command
+/// with the marking of its value at each place with a role.
 pub fn by_place()
     ensures visits { (rows : List Row) (c : Items) → map (visit_at rows c) (places c) ≡ map Some (command_visits rows c) }
     ensures stations { (rows : List Row) (c : Items) → map (station_at rows c) (places c) ≡ map (λ v. Some (station_of rows v)) (command_visits rows c) }
     ensures offences { (rows : List Row) (c : Items) → map (offence_at rows c) (places c) ≡ map (offence_of rows) (command_visits rows c) }
     ensures roles { (rows : List Row) (c : Items) → roles rows c ≡ flat_map (mark_of rows c) (places c) }
+    ensures marked { (rows : List Row) (c : Items) → marked rows c ≡ filled (marking_of rows c) c }
     ensures verdict { (rows : List Row) (c : Items) → first_refusal rows (command_visits rows c) ≡ first_of (map (refusal_at rows c) (places c)) }
 {}

@@ -1,20 +1,26 @@
 //! A marking service: which values of a command are protected, and the command with their markings.
 #![tactic(auto)]
 
-mod fields;
+mod contents;
+mod destination;
 mod frame;
-mod insert;
 pub mod laws;
-mod mark;
-mod marking;
-mod reply;
+mod marked;
+mod names;
+mod replying;
 mod sizes;
+mod splicing;
 mod stop;
+mod targeting;
 mod values;
-mod writing;
 
-pub use mark::mark_insert;
-pub use stop::MarkStop;
+pub use destination::Target;
+pub use marked::{Marked, mark_command};
+pub use replying::{reply, reply_clear};
+pub use stop::ReplyFault;
+pub use targeting::target;
 
+#[cfg(test)]
+mod command_tests;
 #[cfg(test)]
 mod tests;

@@ -1,101 +1,84 @@
-//! How many bytes a marked command has.
+//! How many bytes a reply has, known before the first of them is written.
 
-ghost use Rattle.std.specs.Prelude.{◌≡◌, ◌+◌, ◌*◌, ◌<◌, ◌≤◌, ◌^◌, length, option_copied};
-ghost use Rattle.bson_tree.specs.Tree.{kids_of};
-ghost use Rattle.bson_tree.specs.Spelling.{value_bytes, items_bytes};
-ghost use Rattle.bson_tree.specs.View.{tree};
-ghost use Rattle.command_marker.specs.Insert.{IsInsertOf};
-ghost use Rattle.command_marker.specs.Marked.{marked_by, marked_fields, marked_documents, with_documents};
-ghost use Rattle.command_marker.specs.Marking.{marked_value};
-ghost use Rattle.command_marker.specs.Seen.{rows_or_none};
+ghost use Rattle.std.specs.Prelude.{◌≡◌, ◌+◌, ◌*◌, ◌<◌, ◌≤◌, ◌^◌, length, drop, MatchResult};
+ghost use Rattle.bson_tree.specs.Spelling.{doc_bytes};
+ghost use Rattle.command_marker.specs.Reply.{reply_limit};
+ghost use Rattle.command_marker.specs.Splices.{added};
+ghost use Rattle.command_marker.specs.Written.{AreRuled, SizesAs, growth_by};
 
-use crate::fields::policy_of;
-use crate::marking::key_bytes;
-use bson_tree::{Body, Kids, Value, byte_size};
-use encrypt_schema::{Policy, Rows};
+use crate::splicing::{growth_of, next_mark, policy_of};
+use crate::stop::ReplyFault;
+use bson_codec::RawDoc;
+use encrypt_schema::{Marks, Rows};
 
-/// How many bytes a value's marking, with its length and its subtype, has more than the value.
-const GROWTH: u64 = 46;
+/// The most bytes that a reply may have.
+const REPLY_LIMIT: usize = 48_000_000;
 
-/// The number of bytes of a value's marking, as it stands in a command.
-#[tactic(auto, using(crate::proofs::Lengths::marking_size))]
-fn marking_size(policy: &Policy, value: &Value) -> u64
-    requires { length (value_bytes (tree value.now)) < 2 ^ 31 }
-    ensures size { result ≡ length (value_bytes (marked_value policy.now (tree value.now))) }
-    ensures growth { result ≡ length (value_bytes (tree value.now)) + 46 }
+/// How many bytes a reply has more than its command.
+const AROUND_COMMAND: usize = 80;
+
+/// How many bytes the marking of this number adds to a command; none behind the last one.
+fn growth_at(rows: &Rows, marks: &Marks, i: usize) -> usize
+    requires ruled { AreRuled rows.now marks.now }
+    ensures growth { added (growth_by rows.now) (drop i marks.now) ≡ result + added (growth_by rows.now) (drop (i + 1) marks.now) }
+    ensures most { result ≤ 46 }
 {
-    let _id = key_bytes(policy);
-    byte_size(value) + GROWTH
-}
-
-/// The number of bytes of a field's value, or of its marking where the field has this rule.
-fn value_size(policy: Option<&Policy>, value: &Value) -> u64
-    requires { length (value_bytes (tree value.now)) < 2 ^ 31 }
-    ensures size { result ≡ length (value_bytes (marked_by (option_copied policy.entry) (tree value.now))) }
-    ensures growth { result ≤ length (value_bytes (tree value.now)) + 46 }
-{
-    match policy {
-        None => byte_size(value),
-        Some(policy) => marking_size(policy, value),
+    match next_mark(rows, marks, i) {
+        Some(mark) => growth_of(policy_of(rows, &mark)),
+        None => 0,
     }
 }
 
-/// The number of bytes of a document's fields once they are marked.
-#[tactic(auto, using(crate::proofs::Ends::after_all, crate::proofs::Lengths::element_size))]
-fn fields_size(rows: Option<&Rows>, fields: &Kids) -> u64
-    requires { length (items_bytes fields.now) < 2 ^ 31 }
-    ensures size { result ≡ length (items_bytes (marked_fields (rows_or_none rows.entry) fields.now)) }
-    ensures growth { result ≤ 48 * length (items_bytes fields.now) }
+/// How many bytes the markings add to a command.
+fn growth(rows: &Rows, marks: &Marks) -> usize
+    requires ruled { AreRuled rows.now marks.now }
+    requires few { length marks.now < 2 ^ 32 }
+    ensures growth { result ≡ added (growth_by rows.now) marks.now }
+    ensures most { result ≤ 46 * length marks.now }
 {
     let mut sum = 0;
-    for i in 0..fields.len() {
-        let (name, value) = fields.item(i);
-        sum += 2
-            + name.as_slice().len() as u64
-            + value_size(policy_of(rows, name.as_slice()), value);
+    for i in 0..marks.len() {
+        sum += growth_at(rows, marks, i);
     }
     sum
 }
 
-/// The number of bytes of a document once its fields are marked.
-#[tactic(auto, using(crate::proofs::Lengths::framed_size))]
-fn document_size(rows: Option<&Rows>, document: &Value) -> u64
-    requires { length (value_bytes (tree document.now)) < 2 ^ 31 }
-    ensures size { result ≡ length (items_bytes (marked_fields (rows_or_none rows.entry) (kids_of (tree document.now)))) + 5 }
-    ensures growth { result ≤ 48 * length (value_bytes (tree document.now)) + 5 }
+/// The number of bytes of the reply to a command of so many bytes.
+fn size_around(command: usize) -> Result<u32, ReplyFault>
+    requires { command < 2 ^ 62 }
+    ensures size { SizesAs (command + 80) result }
 {
-    match &document.body {
-        Body::Raw(_) => 5,
-        Body::Kids(fields) => fields_size(rows, fields) + 5,
+    let size = command + AROUND_COMMAND;
+    if size > REPLY_LIMIT {
+        return Err(ReplyFault::TooLong);
     }
+    Ok(size as u32)
 }
 
-/// The number of bytes of an array's elements, documents, once their fields are marked.
-#[tactic(auto, using(crate::proofs::Ends::after_all, crate::proofs::Lengths::element_size, crate::proofs::Lengths::framed_size))]
-pub(crate) fn documents_size(rows: Option<&Rows>, documents: &Kids) -> u64
-    requires { length (items_bytes documents.now) < 2 ^ 31 }
-    ensures size { result ≡ length (items_bytes (marked_documents (rows_or_none rows.entry) documents.now)) }
-    ensures growth { result ≤ 48 * length (items_bytes documents.now) }
+/// The number of bytes of the reply to a command that stands in it as it is.
+pub(crate) fn clear_size(command: &RawDoc<'_>) -> Result<u32, ReplyFault>
+    ensures size { SizesAs (length (doc_bytes command.now.tree) + 80) result }
 {
-    let mut sum = 0;
-    for i in 0..documents.len() {
-        let (name, document) = documents.item(i);
-        sum += 2 + name.as_slice().len() as u64 + document_size(rows, document);
+    let bytes = command.bytes().len();
+    if bytes > REPLY_LIMIT {
+        return Err(ReplyFault::TooLong);
     }
-    sum
+    size_around(bytes)
 }
 
-/// The number of bytes of an insert's fields, once its documents are marked.
-#[tactic(auto, using(crate::proofs::Lengths::element_size, crate::proofs::Lengths::framed_size))]
-pub(crate) fn command_size(rows: Option<&Rows>, command: &Kids, documents: &Kids) -> u64
-    requires parts { IsInsertOf command.now documents.now }
-    requires source { length (items_bytes command.now) < 2 ^ 31 }
-    ensures size { result ≡ length (items_bytes (with_documents (marked_documents (rows_or_none rows.entry) documents.now) command.now)) }
-    ensures growth { result ≤ 48 * length (items_bytes command.now) }
+/// The number of bytes of the reply to a command with these marks.
+pub(crate) fn marked_size(
+    rows: &Rows,
+    marks: &Marks,
+    command: &RawDoc<'_>,
+) -> Result<u32, ReplyFault>
+    requires ruled { AreRuled rows.now marks.now }
+    requires few { length marks.now ≤ length (doc_bytes command.now.tree) }
+    ensures size { SizesAs (length (doc_bytes command.now.tree) + added (growth_by rows.now) marks.now + 80) result }
 {
-    let (first, target) = command.item(0);
-    let (second, _) = command.item(1);
-    let (third, database) = command.item(2);
-    let names = first.as_slice().len() + second.as_slice().len() + third.as_slice().len();
-    names as u64 + 11 + byte_size(target) + documents_size(rows, documents) + byte_size(database)
+    let bytes = command.bytes().len();
+    if bytes > REPLY_LIMIT {
+        return Err(ReplyFault::TooLong);
+    }
+    size_around(bytes + growth(rows, marks))
 }

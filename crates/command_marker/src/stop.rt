@@ -4,22 +4,20 @@ use fle_outside::Memory;
 
 /// Why a command gets no reply.
 #[derive(Clone, Copy, Debug, PartialEq, Eq)]
-pub enum MarkStop {
-    /// The command is of a form that isn't read yet.
-    NotBuilt,
+pub enum ReplyFault {
     /// The reply would have more than 48,000,000 bytes.
     TooLong,
     /// There was no memory for the reply. It may come at any time.
     Memory,
 }
 
-impl From<Memory> for MarkStop {
-    ghost use Rattle.command_marker.specs.declared.stop.MarkStop.TheVariants as stops;
+impl From<Memory> for ReplyFault {
+    ghost use Rattle.command_marker.specs.declared.stop.ReplyFault.TheVariants as faults;
     ghost use Rattle.std.specs.Prelude.{◌≡◌};
 
-    ghost from_gives = { λ _ e. e ≡ stops.Memory };
+    ghost from_gives = { λ _ e. e ≡ faults.Memory };
 
-    fn from(_memory: Memory) -> MarkStop {
-        MarkStop::Memory
+    fn from(_memory: Memory) -> ReplyFault {
+        ReplyFault::Memory
     }
 }

@@ -1,13 +1,15 @@
-//! The reply to an insert, byte for byte.
+//! Replies, byte for byte. The expected bytes were made from the layout of commands and markings, outside this
+//! code.
 
-use crate::{MarkStop, mark_insert};
-use bson_codec::decode;
-use encrypt_schema::Infos;
+use crate::command_tests::{NESTED, PEOPLE, STAFF};
+use crate::{Target, mark_command, reply, reply_clear, target};
+use bson_codec::check_bson;
+use encrypt_schema::Rows;
+use std::alloc::Global;
 use std::test::Fail;
 
-/// The info of `people`: `ssn` deterministic and a string, `salary` random.
-const PEOPLE: &[u8] =
-    b"\x80\x01\x00\x00\x02name\x00\x07\x00\x00\x00people\x00\x02type\x00\x0b\x00\x00\x00collection\x00\x03options\x00L\x01\x00\x00\x03validator\x00<\x01\x00\x00\x03$jsonSchema\x00*\x01\x00\x00\x02bsonType\x00\x07\x00\x00\x00object\x00\x03properties\x00\x04\x01\x00\x00\x03ssn\x00\x87\x00\x00\x00\x03encrypt\x00y\x00\x00\x00\x04keyId\x00\x1d\x00\x00\x00\x050\x00\x10\x00\x00\x00\x04\x00\x11\x223DUFw\x88\x99\xaa\xbb\xcc\xdd\xee\xff\x00\x02algorithm\x00,\x00\x00\x00AEAD_AES_256_CBC_HMAC_SHA_512-Deterministic\x00\x02bsonType\x00\x07\x00\x00\x00string\x00\x00\x00\x03salary\x00k\x00\x00\x00\x03encrypt\x00]\x00\x00\x00\x04keyId\x00\x1d\x00\x00\x00\x050\x00\x10\x00\x00\x00\x04\x00\x11\x223DUFw\x88\x99\xaa\xbb\xcc\xdd\xee\xff\x00\x02algorithm\x00%\x00\x00\x00AEAD_AES_256_CBC_HMAC_SHA_512-Random\x00\x00\x00\x00\x00\x00\x00\x00";
+/// A schema without rules.
+const NO_RULES: &[u8] = b"\x05\x00\x00\x00\x00";
 
 /// `{insert: "people", documents: [{ssn: "123-45-6789", n: int 1}], $db: "hr"}`.
 const INSERT: &[u8] =
@@ -17,50 +19,78 @@ const INSERT: &[u8] =
 const REPLY: &[u8] =
     b"\xd6\x00\x00\x00\x08hasEncryptionPlaceholders\x00\x01\x08schemaRequiresEncryption\x00\x01\x03result\x00\x86\x00\x00\x00\x02insert\x00\x07\x00\x00\x00people\x00\x04documents\x00W\x00\x00\x00\x030\x00O\x00\x00\x00\x05ssn\x009\x00\x00\x00\x06\x008\x00\x00\x00\x02v\x00\x0c\x00\x00\x00123-45-6789\x00\x10a\x00\x01\x00\x00\x00\x05ki\x00\x10\x00\x00\x00\x04\x00\x11\x223DUFw\x88\x99\xaa\xbb\xcc\xdd\xee\xff\x00\x10n\x00\x01\x00\x00\x00\x00\x00\x02$db\x00\x03\x00\x00\x00hr\x00\x00\x01ok\x00\x00\x00\x00\x00\x00\x00\xf0?\x00";
 
+/// The reply to `NESTED`, 200 bytes.
+const NESTED_REPLY: &[u8] =
+    b"\xc8\x00\x00\x00\x08hasEncryptionPlaceholders\x00\x01\x08schemaRequiresEncryption\x00\x01\x03result\x00x\x00\x00\x00\x02insert\x00\x06\x00\x00\x00staff\x00\x04documents\x00J\x00\x00\x00\x030\x00B\x00\x00\x00\x03a\x00:\x00\x00\x00\x05b\x00-\x00\x00\x00\x06\x00,\x00\x00\x00\x10v\x00\x01\x00\x00\x00\x10a\x00\x01\x00\x00\x00\x05ki\x00\x10\x00\x00\x00\x04\x00\x11\x223DUFw\x88\x99\xaa\xbb\xcc\xdd\xee\xff\x00\x00\x00\x00\x02$db\x00\x03\x00\x00\x00hr\x00\x00\x01ok\x00\x00\x00\x00\x00\x00\x00\xf0?\x00";
+
+/// `{insert: "people", documents: [{ssn: "x", salary: 7, ssn: "yz", n: 1}], $db: "hr"}`.
+const EQUAL_NAMES: &[u8] =
+    b"f\x00\x00\x00\x02insert\x00\x07\x00\x00\x00people\x00\x04documents\x007\x00\x00\x00\x030\x00/\x00\x00\x00\x02ssn\x00\x02\x00\x00\x00x\x00\x10salary\x00\x07\x00\x00\x00\x02ssn\x00\x03\x00\x00\x00yz\x00\x10n\x00\x01\x00\x00\x00\x00\x00\x02$db\x00\x03\x00\x00\x00hr\x00\x00";
+
+/// Its reply, 320 bytes: three markings, one of them under the random algorithm.
+const EQUAL_NAMES_REPLY: &[u8] =
+    b"@\x01\x00\x00\x08hasEncryptionPlaceholders\x00\x01\x08schemaRequiresEncryption\x00\x01\x03result\x00\xf0\x00\x00\x00\x02insert\x00\x07\x00\x00\x00people\x00\x04documents\x00\xc1\x00\x00\x00\x030\x00\xb9\x00\x00\x00\x05ssn\x00/\x00\x00\x00\x06\x00.\x00\x00\x00\x02v\x00\x02\x00\x00\x00x\x00\x10a\x00\x01\x00\x00\x00\x05ki\x00\x10\x00\x00\x00\x04\x00\x11\x223DUFw\x88\x99\xaa\xbb\xcc\xdd\xee\xff\x00\x05salary\x00-\x00\x00\x00\x06\x00,\x00\x00\x00\x10v\x00\x07\x00\x00\x00\x10a\x00\x02\x00\x00\x00\x05ki\x00\x10\x00\x00\x00\x04\x00\x11\x223DUFw\x88\x99\xaa\xbb\xcc\xdd\xee\xff\x00\x05ssn\x000\x00\x00\x00\x06\x00/\x00\x00\x00\x02v\x00\x03\x00\x00\x00yz\x00\x10a\x00\x01\x00\x00\x00\x05ki\x00\x10\x00\x00\x00\x04\x00\x11\x223DUFw\x88\x99\xaa\xbb\xcc\xdd\xee\xff\x00\x10n\x00\x01\x00\x00\x00\x00\x00\x02$db\x00\x03\x00\x00\x00hr\x00\x00\x01ok\x00\x00\x00\x00\x00\x00\x00\xf0?\x00";
+
 /// `{insert: "notes", documents: [{p: int 1}], $db: "hr"}`.
 const NOTES: &[u8] =
     b"B\x00\x00\x00\x02insert\x00\x06\x00\x00\x00notes\x00\x04documents\x00\x14\x00\x00\x00\x030\x00\x0c\x00\x00\x00\x10p\x00\x01\x00\x00\x00\x00\x00\x02$db\x00\x03\x00\x00\x00hr\x00\x00";
 
-/// Its reply, 146 bytes: no info, so no flag and nothing marked.
+/// Its reply, 146 bytes: no rule, so no flag and nothing marked.
 const NOTES_REPLY: &[u8] =
     b"\x92\x00\x00\x00\x08hasEncryptionPlaceholders\x00\x00\x08schemaRequiresEncryption\x00\x00\x03result\x00B\x00\x00\x00\x02insert\x00\x06\x00\x00\x00notes\x00\x04documents\x00\x14\x00\x00\x00\x030\x00\x0c\x00\x00\x00\x10p\x00\x01\x00\x00\x00\x00\x00\x02$db\x00\x03\x00\x00\x00hr\x00\x00\x01ok\x00\x00\x00\x00\x00\x00\x00\xf0?\x00";
 
-/// What a command of the database `hr` becomes.
-fn marked(rt: &HostRuntime, command: &[u8]) -> Result<Result<Vec<u8>, MarkStop>, Fail> {
-    let infos = Infos::load(rt.alloc(), PEOPLE)?;
-    if command.len() > 1000 {
-        return Ok(Err(MarkStop::TooLong));
+/// The reply to an insert of the database `hr` under a schema.
+fn reply_under(alloc: Global, schema: &[u8], command: &[u8]) -> Result<Vec<u8>, Fail> {
+    if schema.len() > 1000 || command.len() > 1000 {
+        return Err("a test's document is too long".into());
     }
-    let document = decode(rt.alloc(), command)?;
-    Ok(mark_insert(rt.alloc(), &infos, b"hr", &document))
+    let rows = Rows::read(alloc, &check_bson(schema)?)?;
+    let command = check_bson(command)?;
+    match target(b"hr", &command) {
+        Ok(Target::Collection(_)) => match mark_command(alloc, &rows, command) {
+            Ok(marked) => match reply(alloc, &marked) {
+                Ok(bytes) => Ok(bytes),
+                Err(_) => Err("no reply".into()),
+            },
+            Err(_) => Err("its contents are refused".into()),
+        },
+        _ => Err("it is no insert".into()),
+    }
 }
 
 #[test]
 fn a_protected_field_is_marked(rt: HostRuntime) -> Result<(), Fail> {
-    match marked(&rt, INSERT)? {
-        Ok(reply) => assert!(rt; reply.as_slice() == REPLY),
-        Err(_) => assert!(rt; false),
-    }
+    let bytes = reply_under(rt.alloc(), PEOPLE, INSERT)?;
+    assert!(rt; bytes.as_slice() == REPLY);
     Ok(())
 }
 
 #[test]
-fn a_collection_without_an_info_is_unchanged(rt: HostRuntime) -> Result<(), Fail> {
-    match marked(&rt, NOTES)? {
-        Ok(reply) => assert!(rt; reply.as_slice() == NOTES_REPLY),
-        Err(_) => assert!(rt; false),
-    }
+fn a_nested_protected_field_is_marked(rt: HostRuntime) -> Result<(), Fail> {
+    let bytes = reply_under(rt.alloc(), STAFF, NESTED)?;
+    assert!(rt; bytes.as_slice() == NESTED_REPLY);
     Ok(())
 }
 
 #[test]
-fn another_command_is_not_built(rt: HostRuntime) -> Result<(), Fail> {
-    // {ping: int 1, $db: "admin"}
-    let ping =
-        b"\x1e\x00\x00\x00\x10ping\x00\x01\x00\x00\x00\x02$db\x00\x06\x00\x00\x00admin\x00\x00";
-    match marked(&rt, ping)? {
-        Ok(_) => assert!(rt; false),
-        Err(stop) => assert!(rt; stop == MarkStop::NotBuilt),
+fn both_fields_of_one_name_are_marked(rt: HostRuntime) -> Result<(), Fail> {
+    let bytes = reply_under(rt.alloc(), PEOPLE, EQUAL_NAMES)?;
+    assert!(rt; bytes.as_slice() == EQUAL_NAMES_REPLY);
+    Ok(())
+}
+
+#[test]
+fn without_rules_nothing_is_marked(rt: HostRuntime) -> Result<(), Fail> {
+    let bytes = reply_under(rt.alloc(), NO_RULES, NOTES)?;
+    assert!(rt; bytes.as_slice() == NOTES_REPLY);
+    Ok(())
+}
+
+#[test]
+fn a_clear_reply_holds_the_command(rt: HostRuntime) -> Result<(), Fail> {
+    match reply_clear(rt.alloc(), &check_bson(NOTES)?) {
+        Ok(bytes) => assert!(rt; bytes.as_slice() == NOTES_REPLY),
+        Err(_) => assert!(rt; false),
     }
     Ok(())
 }

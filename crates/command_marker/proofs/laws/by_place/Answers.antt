@@ -1,5 +1,6 @@
--- A place read from its chain is the one that the descent visits.
+-- A place read from its chain is the one that the descent visits, and the marked command has its marking there.
 use Rattle.encrypt_schema.proofs.ByPlace.{by_place, stations_by_place, offences_by_place, roles_by_place, verdict_by_place}
+use Rattle.command_marker.proofs.MarkedPlaces.{marked_filled}
 use Rattle.command_marker.proofs.laws.by_place.Goals as goal
 
 pub returns : goal.returns
@@ -8,5 +9,6 @@ returns c = record {
   stations = stations_by_place;
   offences = offences_by_place;
   roles = roles_by_place;
+  marked = marked_filled;
   verdict = verdict_by_place;
 }

@@ -1,0 +1,22 @@
+-- MongoDB Client Side Encryption, marked commands, by places: which marking stands at a place
+use Rattle.std.specs.Prelude.{ℕ, List, Option, Some, None, option_map, option_and_then}
+use Rattle.bson_tree.specs.Tree.{Tree, Items}
+use Rattle.bson_tree.specs.Places.{value_at}
+use Rattle.encrypt_schema.specs.Chains.{station_at}
+use Rattle.encrypt_schema.specs.Policies.{policy_at}
+use Rattle.encrypt_schema.specs.Row.{Row}
+use Rattle.encrypt_schema.specs.Stations.{Station, Store, Compare}
+use Rattle.command_marker.specs.Marking.{marked_value}
+
+-- the number of the rule under which a place of this station is protected; none where it isn't
+abbrev pub rule_of : Station → Option ℕ
+rule_of (Store i) = Some i
+rule_of (Compare i) = Some i
+rule_of _ = None
+
+-- the marking of the value at a place of a command, under the rule that protects it; none where none does
+abbrev pub marking_of : List Row → Items → List ℕ → Option Tree
+marking_of rows c place =
+    option_and_then
+    (λ i. option_map (marked_value (policy_at i rows)) (value_at place c))
+    (option_and_then rule_of (station_at rows c place))

@@ -1,0 +1,176 @@
+//! Which values of inserts are marked, and where commands are refused.
+
+use crate::{Target, mark_command, target};
+use bson_codec::check_bson;
+use encrypt_schema::{Mark, MarkFault, Reason, Role, Rows};
+use std::alloc::Global;
+use std::test::Fail;
+
+/// The schema of `staff`: `a.b` deterministic and an int.
+pub(crate) const STAFF: &[u8] =
+    b"\xe1\x00\x00\x00\x03properties\x00\xd0\x00\x00\x00\x03a\x00\xc8\x00\x00\x00\x02bsonType\x00\x07\x00\x00\x00object\x00\x03encryptMetadata\x00d\x00\x00\x00\x04keyId\x00\x1d\x00\x00\x00\x050\x00\x10\x00\x00\x00\x04\x00\x11\x223DUFw\x88\x99\xaa\xbb\xcc\xdd\xee\xff\x00\x02algorithm\x00,\x00\x00\x00AEAD_AES_256_CBC_HMAC_SHA_512-Deterministic\x00\x00\x03properties\x00-\x00\x00\x00\x03b\x00%\x00\x00\x00\x03encrypt\x00\x17\x00\x00\x00\x02bsonType\x00\x04\x00\x00\x00int\x00\x00\x00\x00\x00\x00\x00";
+
+/// The schema of `people`: `ssn` deterministic and a string, `salary` random.
+pub(crate) const PEOPLE: &[u8] =
+    b"*\x01\x00\x00\x02bsonType\x00\x07\x00\x00\x00object\x00\x03properties\x00\x04\x01\x00\x00\x03ssn\x00\x87\x00\x00\x00\x03encrypt\x00y\x00\x00\x00\x04keyId\x00\x1d\x00\x00\x00\x050\x00\x10\x00\x00\x00\x04\x00\x11\x223DUFw\x88\x99\xaa\xbb\xcc\xdd\xee\xff\x00\x02algorithm\x00,\x00\x00\x00AEAD_AES_256_CBC_HMAC_SHA_512-Deterministic\x00\x02bsonType\x00\x07\x00\x00\x00string\x00\x00\x00\x03salary\x00k\x00\x00\x00\x03encrypt\x00]\x00\x00\x00\x04keyId\x00\x1d\x00\x00\x00\x050\x00\x10\x00\x00\x00\x04\x00\x11\x223DUFw\x88\x99\xaa\xbb\xcc\xdd\xee\xff\x00\x02algorithm\x00%\x00\x00\x00AEAD_AES_256_CBC_HMAC_SHA_512-Random\x00\x00\x00\x00\x00";
+
+/// `{insert: "staff", documents: [{a: {b: 1}}], $db: "hr"}`.
+pub(crate) const NESTED: &[u8] =
+    b"J\x00\x00\x00\x02insert\x00\x06\x00\x00\x00staff\x00\x04documents\x00\x1c\x00\x00\x00\x030\x00\x14\x00\x00\x00\x03a\x00\x0c\x00\x00\x00\x10b\x00\x01\x00\x00\x00\x00\x00\x00\x02$db\x00\x03\x00\x00\x00hr\x00\x00";
+
+/// `{insert: "staff", documents: [{a: 5}], $db: "hr"}`.
+const NUMBER: &[u8] =
+    b"B\x00\x00\x00\x02insert\x00\x06\x00\x00\x00staff\x00\x04documents\x00\x14\x00\x00\x00\x030\x00\x0c\x00\x00\x00\x10a\x00\x05\x00\x00\x00\x00\x00\x02$db\x00\x03\x00\x00\x00hr\x00\x00";
+
+/// `{insert: "people", documents: [{ssn: "x", n: 1, salary: 7}], $db: "hr"}`.
+const TWO: &[u8] =
+    b"Z\x00\x00\x00\x02insert\x00\x07\x00\x00\x00people\x00\x04documents\x00+\x00\x00\x00\x030\x00#\x00\x00\x00\x02ssn\x00\x02\x00\x00\x00x\x00\x10n\x00\x01\x00\x00\x00\x10salary\x00\x07\x00\x00\x00\x00\x00\x02$db\x00\x03\x00\x00\x00hr\x00\x00";
+
+/// `{insert: "staff", documents: [{a: [{b: 1}]}], $db: "hr"}`.
+const ARRAY: &[u8] =
+    b"R\x00\x00\x00\x02insert\x00\x06\x00\x00\x00staff\x00\x04documents\x00$\x00\x00\x00\x030\x00\x1c\x00\x00\x00\x04a\x00\x14\x00\x00\x00\x030\x00\x0c\x00\x00\x00\x10b\x00\x01\x00\x00\x00\x00\x00\x00\x00\x02$db\x00\x03\x00\x00\x00hr\x00\x00";
+
+/// `{insert: "people", documents: [{ssn: null}], $db: "hr"}`.
+const NULL: &[u8] =
+    b"A\x00\x00\x00\x02insert\x00\x07\x00\x00\x00people\x00\x04documents\x00\x12\x00\x00\x00\x030\x00\x0a\x00\x00\x00\x0assn\x00\x00\x00\x02$db\x00\x03\x00\x00\x00hr\x00\x00";
+
+/// `{insert: "people", documents: [{salary: an empty binary of subtype 06}], $db: "hr"}`.
+const SEALED: &[u8] =
+    b"I\x00\x00\x00\x02insert\x00\x07\x00\x00\x00people\x00\x04documents\x00\x1a\x00\x00\x00\x030\x00\x12\x00\x00\x00\x05salary\x00\x00\x00\x00\x00\x06\x00\x00\x02$db\x00\x03\x00\x00\x00hr\x00\x00";
+
+/// `{insert: "people", $db: "hr"}`.
+const NO_DOCUMENTS: &[u8] =
+    b"$\x00\x00\x00\x02insert\x00\x07\x00\x00\x00people\x00\x02$db\x00\x03\x00\x00\x00hr\x00\x00";
+
+/// `{insert: "people", documents: [], documents: [], $db: "hr"}`.
+const TWICE: &[u8] =
+    b"D\x00\x00\x00\x02insert\x00\x07\x00\x00\x00people\x00\x04documents\x00\x05\x00\x00\x00\x00\x04documents\x00\x05\x00\x00\x00\x00\x02$db\x00\x03\x00\x00\x00hr\x00\x00";
+
+/// `{insert: "people", documents: [1], $db: "hr"}`.
+const NO_DOCUMENT: &[u8] =
+    b";\x00\x00\x00\x02insert\x00\x07\x00\x00\x00people\x00\x04documents\x00\x0c\x00\x00\x00\x100\x00\x01\x00\x00\x00\x00\x02$db\x00\x03\x00\x00\x00hr\x00\x00";
+
+/// `{insert: "people", documents: [], $db: "x"}`.
+const OTHER_DB: &[u8] =
+    b"3\x00\x00\x00\x02insert\x00\x07\x00\x00\x00people\x00\x04documents\x00\x05\x00\x00\x00\x00\x02$db\x00\x02\x00\x00\x00x\x00\x00";
+
+/// `{ping: 1, $db: "admin"}`.
+const PING: &[u8] =
+    b"\x1e\x00\x00\x00\x10ping\x00\x01\x00\x00\x00\x02$db\x00\x06\x00\x00\x00admin\x00\x00";
+
+/// `{aggregate: "people", $db: "hr"}`.
+const AGGREGATE: &[u8] =
+    b"'\x00\x00\x00\x02aggregate\x00\x07\x00\x00\x00people\x00\x02$db\x00\x03\x00\x00\x00hr\x00\x00";
+
+/// `{insert: "", $db: "hr"}`.
+const NO_NAME: &[u8] =
+    b"\x1e\x00\x00\x00\x02insert\x00\x01\x00\x00\x00\x00\x02$db\x00\x03\x00\x00\x00hr\x00\x00";
+
+/// `{insert: "people", insert: "people", $db: "hr"}`.
+const AGAIN: &[u8] =
+    b"7\x00\x00\x00\x02insert\x00\x07\x00\x00\x00people\x00\x02insert\x00\x07\x00\x00\x00people\x00\x02$db\x00\x03\x00\x00\x00hr\x00\x00";
+
+/// `{insert: "people", $db: "hr", $db: "hr"}`.
+const TWO_DBS: &[u8] =
+    b"0\x00\x00\x00\x02insert\x00\x07\x00\x00\x00people\x00\x02$db\x00\x03\x00\x00\x00hr\x00\x02$db\x00\x03\x00\x00\x00hr\x00\x00";
+
+/// What becomes of a command.
+#[derive(Clone, Copy, Debug, PartialEq, Eq)]
+enum Outcome {
+    /// This many values are marked; the last of them.
+    Marked(usize, Option<Mark>),
+    /// It is refused for this reason at this offset.
+    Refused(Reason, u32),
+    /// It passes.
+    Passed,
+}
+
+fn refusal(fault: MarkFault) -> Result<Outcome, Fail> {
+    match fault {
+        MarkFault::Refused { reason, at } => Ok(Outcome::Refused(reason, at)),
+        MarkFault::Memory => Err("no memory".into()),
+    }
+}
+
+/// What becomes of a command of the database `hr` under a schema.
+fn what_becomes(alloc: Global, schema: &[u8], command: &[u8]) -> Result<Outcome, Fail> {
+    if schema.len() > 1000 || command.len() > 1000 {
+        return Err("a test's document is too long".into());
+    }
+    let rows = Rows::read(alloc, &check_bson(schema)?)?;
+    let command = check_bson(command)?;
+    match target(b"hr", &command) {
+        Ok(Target::Pass) => Ok(Outcome::Passed),
+        Ok(Target::Collection(_)) => match mark_command(alloc, &rows, command) {
+            Ok(marked) => {
+                let count = marked.marks().len();
+                Ok(Outcome::Marked(count, marked.marks().get(count.saturating_sub(1))))
+            }
+            Err(fault) => refusal(fault),
+        },
+        Err(fault) => refusal(fault),
+    }
+}
+
+/// One mark of a stored value.
+fn stored(start: u32, end: u32, tag: u8, policy: u32) -> Option<Mark> {
+    Some(Mark {
+        start,
+        end,
+        tag,
+        policy,
+        role: Role::Store,
+    })
+}
+
+#[test]
+fn protected_values_are_marked(rt: HostRuntime) -> Result<(), Fail> {
+    let cases: [(&[u8], &[u8], Outcome); 3] = [
+        (STAFF, NESTED, Outcome::Marked(1, stored(54, 58, 0x10, 0))),
+        (STAFF, NUMBER, Outcome::Marked(0, None)),
+        (PEOPLE, TWO, Outcome::Marked(2, stored(71, 75, 0x10, 1))),
+    ];
+    for (schema, command, expected) in cases {
+        assert_eq!(rt; what_becomes(rt.alloc(), schema, command)?, expected);
+    }
+    Ok(())
+}
+
+#[test]
+fn contents_are_refused_where_they_stand(rt: HostRuntime) -> Result<(), Fail> {
+    let cases: [(&[u8], &[u8], Reason, u32); 6] = [
+        (STAFF, ARRAY, Reason::ArrayOnPath, 47),
+        (PEOPLE, NULL, Reason::TypeNotAllowed, 50),
+        (PEOPLE, SEALED, Reason::AlreadyEncrypted, 53),
+        (PEOPLE, NO_DOCUMENTS, Reason::BadField, 0),
+        (PEOPLE, TWICE, Reason::BadField, 50),
+        (PEOPLE, NO_DOCUMENT, Reason::BadField, 41),
+    ];
+    for (schema, command, reason, at) in cases {
+        assert_eq!(rt;
+            what_becomes(rt.alloc(), schema, command)?,
+            Outcome::Refused(reason, at)
+        );
+    }
+    Ok(())
+}
+
+#[test]
+fn fields_are_refused_before_contents(rt: HostRuntime) -> Result<(), Fail> {
+    let cases: [(&[u8], Reason, u32); 7] = [
+        (OTHER_DB, Reason::WrongDb, 44),
+        (PING, Reason::NotBuilt, 0),
+        (AGGREGATE, Reason::NotACommand, 15),
+        (b"\x05\x00\x00\x00\x00", Reason::NotACommand, 0),
+        (NO_NAME, Reason::BadField, 12),
+        (AGAIN, Reason::BadField, 31),
+        (TWO_DBS, Reason::BadField, 40),
+    ];
+    for (command, reason, at) in cases {
+        assert_eq!(rt;
+            what_becomes(rt.alloc(), PEOPLE, command)?,
+            Outcome::Refused(reason, at)
+        );
+    }
+    Ok(())
+}

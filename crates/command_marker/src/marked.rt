@@ -1,0 +1,102 @@
+//! Commands with the marks of their protected values.
+
+ghost use Rattle.std.specs.Prelude.{◌≡◌, codes, true};
+ghost use Rattle.encrypt_schema.specs.Visits.{roles};
+ghost use Rattle.command_marker.specs.Commands.{MarksAs, TellsMarks, is_command};
+
+use crate::contents::mark_contents;
+use bson_codec::RawDoc;
+use encrypt_schema::{MarkFault, Marks, Rows};
+use std::alloc::Global;
+use std::marker::Model;
+
+/// A command under the rules of its collection, with the marks of its protected values.
+#[derive(Drop)]
+pub struct Marked<'a> {
+    marks: Marks,
+    command: RawDoc<'a>,
+    rows: &'a Rows,
+}
+
+impl<'a> Model for Marked<'a> {
+    ghost use Rattle.std.specs.Prelude.{◌≡◌};
+    ghost use Rattle.encrypt_schema.specs.Visits.{roles};
+    ghost use Rattle.command_marker.specs.Commands.{Command};
+
+    ghost Value = { Command };
+
+    ghost use Rattle.std.specs.Prelude.{List, refl};
+    ghost use Rattle.std.specs.Coded.{code_by, coded×};
+    ghost use Rattle.bson_codec.specs.Raw.{At, coded_at};
+    ghost use Rattle.encrypt_schema.specs.Row.{Row};
+    ghost use Rattle.encrypt_schema.specs.contracts.rows.Rows as rules;
+
+    ghost coded = { code_by (List Row × At) (coded× rules.the_row.coded coded_at) (λ m. (m.rows, m.command)) (λ p. record { rows = p.0; command = p.1 }) (λ _. refl) };
+
+    ghost view = { λ m. record { rows = m.rows.now; command = m.command } };
+
+    ghost invariant = { λ m. (m.marks ≡ roles m.rows.now m.command.tree) × (m.command.start ≡ 0) };
+}
+
+impl<'a> Marked<'a> {
+    /// The marks of the protected values, in reading order.
+    pub fn marks(&self) -> &Marks
+        ensures marks { result.now ≡ roles self.now.rows self.now.command.tree }
+    {
+        &self.marks
+    }
+
+    /// The command, with offsets from 0.
+    pub fn command(&self) -> RawDoc<'a>
+        ensures command { result ≡ self.now.command }
+        ensures whole { result.start ≡ 0 }
+    {
+        self.command.again()
+    }
+
+    /// The rules.
+    pub fn rows(&self) -> &'a Rows
+        ensures rows { result.now ≡ self.now.rows }
+    {
+        self.rows
+    }
+}
+
+/// Marks the protected values of an insert under the rules of its collection; else the first place that is
+/// refused, by the contents of the command. Without rules nothing is marked and nothing is refused.
+///
+/// The command is an insert, as `target` tells, with offsets from 0. `Memory` may come at any time.
+pub fn mark_command<'a>(
+    alloc: Global,
+    rows: &'a Rows,
+    command: RawDoc<'a>,
+) -> Result<Marked<'a>, MarkFault>
+    requires insert { is_command (codes "insert") command.tree ≡ true }
+    requires whole { command.start ≡ 0 }
+    ensures marks { MarksAs rows.now command.entry result }
+{
+    match marks_of(alloc, rows, &command) {
+        Ok(marks) => Ok(Marked {
+            marks,
+            command,
+            rows,
+        }),
+        Err(fault) => Err(fault),
+    }
+}
+
+/// The marks of the protected values of an insert.
+fn marks_of(alloc: Global, rows: &Rows, command: &RawDoc<'_>) -> Result<Marks, MarkFault>
+    requires insert { is_command (codes "insert") command.now.tree ≡ true }
+    requires whole { command.now.start ≡ 0 }
+    ensures marks { TellsMarks rows.now command.now.tree result }
+{
+    let mut marks = Marks::new(alloc);
+    if rows.len() == 0 {
+        return Ok(marks);
+    }
+    match mark_contents(&mut marks, rows, command) {
+        Ok(()) => Ok(marks),
+        Err(fault) => Err(fault),
+    }
+}

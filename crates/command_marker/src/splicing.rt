@@ -1,0 +1,198 @@
+//! A command with the markings of its protected values, written from its bytes: what isn't marked is copied as it
+//! stands.
+
+ghost use Rattle.std.specs.Prelude.{◌≡◌, ◌+◌, ◌<◌, ◌≤◌, ◌^◌, ◌++◌, [], ◌∷◌, length, drop, IfOk, IfSome, MatchOption, OnOk};
+ghost use Rattle.bson_tree.specs.Spelling.{doc_bytes, items_bytes};
+ghost use Rattle.bson_tree.specs.Tree.{item as element, no_items};
+ghost use Rattle.encrypt_schema.specs.Policies.{policy_at};
+ghost use Rattle.payload6.specs.Marking.{key_id};
+ghost use Rattle.command_marker.specs.Marking.{marked_value};
+ghost use Rattle.command_marker.specs.Splices.{left, left_in, spliced, spliced_in};
+ghost use Rattle.command_marker.specs.Steps.{StepsAs};
+ghost use Rattle.command_marker.specs.Written.{AreRuled, growth, marked_by};
+
+use crate::frame::{append, close, open, put_name};
+use crate::values::BINARY;
+use bson_codec::{RawDoc, RawItem};
+use encrypt_schema::{KeyRef, Mark, Marks, Policy, Rows};
+use fle_outside::Memory;
+use payload6::put_marking;
+
+/// The subtype of a marking in a binary.
+const PAYLOAD: u8 = 6;
+
+/// How many bytes a marking, as it stands in a command, has more than its value and its key's id.
+const AROUND_MARKING: usize = 30;
+
+/// How many bytes stand in a binary before its contents.
+const BINARY_HEAD: usize = 5;
+
+/// What becomes of an element.
+enum Step<'a> {
+    /// It stays as it is.
+    Keep,
+    /// The marking under this mark's policy takes the place of its value.
+    Put(Mark),
+    /// A mark stands inside its document.
+    Open(RawDoc<'a>),
+}
+
+/// The mark of this number, counted from 0.
+pub(crate) fn next_mark(rows: &Rows, marks: &Marks, next: usize) -> Option<Mark>
+    requires ruled { AreRuled rows.now marks.now }
+    ensures first { MatchOption result (drop next marks.now ≡ []) (λ m. drop next marks.now ≡ m ∷ drop (next + 1) marks.now) }
+    ensures inside { IfSome result (λ m. next < length marks.now) }
+    ensures ruled { IfSome result (λ m. m.policy < length rows.now) }
+{
+    marks.get(next)
+}
+
+/// The policy of a mark's rule.
+pub(crate) fn policy_of<'a>(rows: &'a Rows, mark: &Mark) -> &'a Policy
+    requires ruled { mark.now.policy < length rows.now }
+    ensures policy { result.now ≡ policy_at mark.now.policy rows.now }
+{
+    match rows.policy(mark.policy) {
+        Some(policy) => policy,
+        None => unreachable!(),
+    }
+}
+
+/// The bytes of a key's id.
+fn key_id_of(policy: &Policy) -> [u8; 16]
+    ensures id { result ≡ key_id policy.now.key }
+{
+    let KeyRef::Id(id) = policy.key;
+    id
+}
+
+/// How many bytes a marking, as it stands in a command, has more than its value.
+pub(crate) fn growth_of(policy: &Policy) -> usize
+    ensures growth { result ≡ growth policy.now }
+    ensures most { result ≤ 46 }
+{
+    let id = key_id_of(policy);
+    AROUND_MARKING + id.len()
+}
+
+/// What becomes of an element, where the mark of this number is the next one.
+fn step_of<'a>(rows: &Rows, marks: &Marks, next: usize, item: &RawItem<'a>) -> Step<'a>
+    requires ruled { AreRuled rows.now marks.now }
+    ensures step { StepsAs rows.now marks.now next item.now result }
+{
+    let mark = match next_mark(rows, marks, next) {
+        Some(mark) => mark,
+        None => return Step::Keep,
+    };
+    let first = mark.start as usize;
+    if first == item.start() {
+        return Step::Put(mark);
+    }
+    let end = item.start() + item.value().len();
+    match item.child() {
+        Some(document) => if first < end {
+            Step::Open(document)
+        } else {
+            Step::Keep
+        },
+        None => Step::Keep,
+    }
+}
+
+/// Appends an element as it stands.
+fn put_raw(out: &mut Vec<u8>, item: &RawItem<'_>) -> Result<(), Memory>
+    ensures element { OnOk result (out.new.items ≡ out.old.items ++ items_bytes (element item.now.name item.now.tree no_items)) }
+{
+    put_name(out, item.tag(), item.name())?;
+    append(out, item.value())?;
+    Ok(())
+}
+
+/// Appends an element with the marking under this policy in the place of its value.
+fn put_marked(out: &mut Vec<u8>, policy: &Policy, item: &RawItem<'_>) -> Result<(), Memory>
+    ensures element { OnOk result (out.new.items ≡ out.old.items ++ items_bytes (element item.now.name (marked_value policy.now item.now.tree) no_items)) }
+{
+    let size = item.value().len() + growth_of(policy) - BINARY_HEAD;
+    put_name(out, BINARY, item.name())?;
+    append(out, &(size as u32).to_le_bytes())?;
+    append(out, &[PAYLOAD])?;
+    put_marking(out, item, policy)?;
+    Ok(())
+}
+
+/// Appends an element, marked from the mark of this number on. It gives the number of the first mark behind it.
+#[cycle(splice)]
+fn put_item(
+    out: &mut Vec<u8>,
+    rows: &Rows,
+    marks: &Marks,
+    next: usize,
+    item: &RawItem<'_>,
+) -> Result<usize, Memory>
+    requires ruled { AreRuled rows.now marks.now }
+    requires few { length marks.now < 2 ^ 31 }
+    requires room { length out.old.items + length (items_bytes (element item.now.name (spliced_in (marked_by rows.now) item.now.start (drop next marks.now) item.now.tree) no_items)) < 2 ^ 31 }
+    ensures element { OnOk result (out.new.items ≡ out.old.items ++ items_bytes (element item.now.name (spliced_in (marked_by rows.now) item.now.start (drop next marks.now) item.now.tree) no_items)) }
+    ensures left { IfOk result (λ n. drop n marks.now ≡ left_in item.now.start (drop next marks.now) item.now.tree) }
+{
+    match step_of(rows, marks, next, item) {
+        Step::Keep => {
+            put_raw(out, item)?;
+            Ok(next)
+        }
+        Step::Put(mark) => {
+            put_marked(out, policy_of(rows, &mark), item)?;
+            Ok(next + 1)
+        }
+        Step::Open(document) => {
+            put_name(out, item.tag(), item.name())?;
+            let behind = put_document(out, rows, marks, next, &document)?;
+            Ok(behind)
+        }
+    }
+}
+
+/// Appends a document, marked from the mark of this number on. It gives the number of the first mark behind it.
+#[cycle(splice)]
+pub(crate) fn put_document(
+    out: &mut Vec<u8>,
+    rows: &Rows,
+    marks: &Marks,
+    next: usize,
+    document: &RawDoc<'_>,
+) -> Result<usize, Memory>
+    requires ruled { AreRuled rows.now marks.now }
+    requires few { length marks.now < 2 ^ 31 }
+    requires room { length out.old.items + length (doc_bytes (spliced (marked_by rows.now) (document.now.start + 4) (drop next marks.now) document.now.tree)) < 2 ^ 31 }
+    ensures document { OnOk result (out.new.items ≡ out.old.items ++ doc_bytes (spliced (marked_by rows.now) (document.now.start + 4) (drop next marks.now) document.now.tree)) }
+    ensures left { IfOk result (λ n. drop n marks.now ≡ left (document.now.start + 4) (drop next marks.now) document.now.tree) }
+{
+    let at = out.len();
+    open(out)?;
+    let behind = put_items(out, rows, marks, next, document)?;
+    close(out, at)?;
+    Ok(behind)
+}
+
+/// Appends the elements of a document, marked from the mark of this number on. It gives the number of the first
+/// mark behind them.
+#[cycle(splice)]
+fn put_items(
+    out: &mut Vec<u8>,
+    rows: &Rows,
+    marks: &Marks,
+    next: usize,
+    document: &RawDoc<'_>,
+) -> Result<usize, Memory>
+    requires ruled { AreRuled rows.now marks.now }
+    requires few { length marks.now < 2 ^ 31 }
+    requires room { length out.old.items + length (items_bytes (spliced (marked_by rows.now) (document.now.start + 4) (drop next marks.now) document.now.tree)) < 2 ^ 31 }
+    ensures elements { OnOk result (out.new.items ≡ out.old.items ++ items_bytes (spliced (marked_by rows.now) (document.now.start + 4) (drop next marks.now) document.now.tree)) }
+    ensures left { IfOk result (λ n. drop n marks.now ≡ left (document.now.start + 4) (drop next marks.now) document.now.tree) }
+{
+    let mut behind = next;
+    for item in document.items() {
+        behind = put_item(out, rows, marks, behind, &item)?;
+    }
+    Ok(behind)
+}

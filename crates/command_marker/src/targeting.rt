@@ -1,0 +1,131 @@
+//! Which command it is, on which collection.
+
+ghost use Rattle.std.specs.Prelude.{◌≡◌, false};
+ghost use Rattle.encrypt_schema.specs.Offences.{least, text_of};
+ghost use Rattle.encrypt_schema.specs.Targets.{command_fields, first_reasons, is_empty, later_reasons, later_refusal};
+ghost use Rattle.encrypt_schema.specs.Visits.{entry, raw_of};
+ghost use Rattle.command_marker.specs.Commands.{AimsAt, Refuses};
+
+use crate::destination::Target;
+use crate::names::{is_db, is_marked, is_passed, is_unbuilt};
+use crate::values::STRING;
+use bson_codec::{RawDoc, RawItem, RawIter};
+use encrypt_schema::{MarkFault, Reason, is_named};
+
+/// Where a command on this database goes; else the first of its fields that is refused, by themselves:
+/// `NotACommand` for no field and for a name that isn't known, `BadField` for a collection's name that is no
+/// string or the empty one, for the command's name again, for `$db` again and for a `$db` that is no string,
+/// and `WrongDb` for another database. `NotBuilt` at 0, before all else, for every command but `insert` that is
+/// known. Whether the collection is a view is the caller's to ask. It takes no memory, and never tells `Memory`.
+pub fn target<'a>(db: &[u8], command: &RawDoc<'a>) -> Result<Target<'a>, MarkFault>
+    requires whole { command.now.start ≡ 0 }
+    ensures aims { AimsAt db.now command.now.tree result }
+{
+    let mut fields = command.items();
+    let Some(first) = fields.next() else {
+        return Err(MarkFault::Refused {
+            reason: Reason::NotACommand,
+            at: 0,
+        });
+    };
+    let name = first.name();
+    if is_unbuilt(name) {
+        return Err(MarkFault::Refused {
+            reason: Reason::NotBuilt,
+            at: 0,
+        });
+    }
+    let _ = first.value();
+    if let Some(reason) = first_reason(&first) {
+        return Err(MarkFault::Refused {
+            reason,
+            at: first.start() as u32,
+        });
+    }
+    match check_fields(db, name, fields) {
+        Ok(()) => Ok(Target::Collection(text_in(raw(&first)))),
+        Err(fault) => Err(fault),
+    }
+}
+
+/// Why the first field of a command is refused.
+fn first_reason(field: &RawItem<'_>) -> Option<Reason>
+    ensures { result ≡ least (first_reasons (entry field.now.name field.now.tree)) }
+{
+    let name = field.name();
+    let marked = is_marked(name);
+    if !(marked || is_passed(name)) {
+        return Some(Reason::NotACommand);
+    }
+    if marked && (field.tag() != STRING || is_empty(text_in(raw(field)))) {
+        return Some(Reason::BadField);
+    }
+    None
+}
+
+/// The first refusal of the later fields of a command of this name, on this database.
+fn check_fields(db: &[u8], command: &[u8], fields: RawIter<'_>) -> Result<(), MarkFault>
+    ensures { Refuses (later_refusal db.now command.now false (command_fields fields.entry.start fields.entry.tree)) result }
+{
+    let mut seen = false;
+    for field in fields {
+        let _ = field.value();
+        if let Some(reason) = later_reason(db, command, seen, &field) {
+            return Err(MarkFault::Refused {
+                reason,
+                at: field.start() as u32,
+            });
+        }
+        seen = seen || is_db(field.name());
+    }
+    Ok(())
+}
+
+/// Why a later field of a command of this name is refused, where `$db` was seen before or not.
+#[tactic(auto, using(crate::proofs::Targets::least_later))]
+fn later_reason(db: &[u8], command: &[u8], seen: bool, field: &RawItem<'_>) -> Option<Reason>
+    ensures { result ≡ least (later_reasons db.now command.now seen (entry field.now.name field.now.tree)) }
+{
+    let name = field.name();
+    let string = field.tag() == STRING;
+    if is_named(name, command) || (is_db(name) && (seen || !string)) {
+        return Some(Reason::BadField);
+    }
+    if is_db(name) && (string && !is_named(text_in(raw(field)), db)) {
+        return Some(Reason::WrongDb);
+    }
+    None
+}
+
+/// The bytes of a raw value; none of a document or an array.
+fn raw<'a>(item: &RawItem<'a>) -> &'a [u8]
+    ensures raw { result.now ≡ raw_of item.now.tree }
+{
+    match item.child() {
+        Some(_) => &[],
+        None => item.value(),
+    }
+}
+
+/// The text in the bytes of a string: behind a length of four bytes, and before a final 00.
+#[tactic(auto, using(crate::proofs::Targets::short_text))]
+fn text_in<'a>(raw: &'a [u8]) -> &'a [u8]
+    ensures text { result.now ≡ text_of raw.now }
+{
+    if raw.len() < 5 {
+        return &[];
+    }
+    let (_, behind) = raw.split_at(4);
+    let (text, _) = behind.split_at(raw.len() - 5);
+    text
+}
+
+/// Whether there is no byte.
+fn is_empty(bytes: &[u8]) -> bool
+    ensures { result ≡ is_empty bytes.now }
+{
+    match bytes {
+        [] => true,
+        _ => false,
+    }
+}
