@@ -68,29 +68,35 @@ ended_body told piece after m n size takes less =
     subst (λ (x : ℕ). documents told ≡ ends (short x)) takes.0 (short_body told m size (omega (arith, takes.0, less)))
 
 -- the document's bytes are read
-pub record BodyRead (told piece : List ℕ) (after : Option (List ℕ)) (m : ℕ) : Type 0 where
-  pub stands : documents told ≡ spelled documents m told (document piece)
-  pub left : after ≡ Some (drop m told)
-
-pub whole_read : (told piece : List ℕ) (after : Option (List ℕ)) (m : ℕ) → IsSize told m → length piece ≡ m → FillTakes told after fills.Whole piece → BodyRead told piece after m
-whole_read told piece after m size long takes =
+pub framed : (told piece bytes : List ℕ) (after : Option (List ℕ)) (m : ℕ) → IsSize told m → length piece ≡ m → FillTakes told after fills.Whole piece → bytes ≡ piece
+    → (documents told ≡ spelled documents (length bytes) told (document bytes)) × (after ≡ Some (drop (length bytes) told))
+framed told piece bytes after m size long takes is =
     let told_is : told ≡ piece ++ drop m told = subst (λ (x : ℕ). told ≡ piece ++ drop x told) long takes.0 in
     let enough : m ≤ length told = omega (arith, ap length told_is, length-append piece (drop m told), long) in
     let front : take m told ≡ piece = ap (λ (x : List ℕ). take m x) told_is ∙ take_at piece (drop m told) m long in
-    record {
-      stands = subst (λ (x : List ℕ). documents told ≡ spelled documents m told (document x)) front (whole_body told m size enough);
-      left = subst (λ (x : ℕ). after ≡ Some (drop x told)) long takes.1;
-    }
+    let same : m ≡ length bytes = sym long ∙ ap length (sym is) in (
+      whole_body told m size enough
+          ∙ ap (λ (x : List ℕ). spelled documents m told (document x)) (front ∙ sym is)
+          ∙ ap (λ (n : ℕ). spelled documents n told (document bytes)) same,
+      subst (λ (n : ℕ). after ≡ Some (drop n told)) (ap length (sym is)) takes.1,
+    )
 
-pub read_ok : (told piece : List ℕ) (after : Option (List ℕ)) (m : ℕ) (is : Items) → BodyRead told piece after m → document piece ≡ Ok is → documents told ≡ doc m is (documents (drop m told))
-read_ok told piece after m is read ok = subst (λ (x : Result Items BsonFault). documents told ≡ spelled documents m told x) ok read.stands
+-- the first document of a stream is read: n bytes
+pub record DocRead (told : List ℕ) (after : Option (List ℕ)) (n : ℕ) (is : Items) : Type 0 where
+  pub stands : documents told ≡ doc n is (documents (drop n told))
+  pub left : after ≡ Some (drop n told)
 
-pub read_fault : (told piece : List ℕ) (after : Option (List ℕ)) (m : ℕ) (fault : BsonFault) → BodyRead told piece after m → document piece ≡ Err fault → documents told ≡ ends (faulty fault)
-read_fault told piece after m fault read err = subst (λ (x : Result Items BsonFault). documents told ≡ spelled documents m told x) err read.stands
+pub read_ok : (told bytes : List ℕ) (after : Option (List ℕ)) (n : ℕ) (is : Items) → n ≡ length bytes
+    → documents told ≡ spelled documents (length bytes) told (document bytes) → after ≡ Some (drop (length bytes) told) → document bytes ≡ Ok is
+    → DocRead told after n is
+read_ok told bytes after n is long stands left ok =
+    subst (λ (m : ℕ). DocRead told after m is) (sym long)
+    (record { stands = stands ∙ ap (λ (x : Result Items BsonFault). spelled documents (length bytes) told x) ok; left = left })
 
--- the document is read, and there was no memory for its tree
-pub read_memory : (told piece : List ℕ) (after : Option (List ℕ)) (m : ℕ) → IsSize told m → BodyRead told piece after m → Handed told after (first_size (documents told) (length told))
-read_memory told piece after m size read = handed told m _ after read.left (first_size_body told m size)
+-- its bytes have a fault
+pub read_fault : (told bytes : List ℕ) (fault : BsonFault) → documents told ≡ spelled documents (length bytes) told (document bytes) → document bytes ≡ Err fault
+    → documents told ≡ ends (faulty fault)
+read_fault told bytes fault stands err = stands ∙ ap (λ (x : Result Items BsonFault). spelled documents (length bytes) told x) err
 
 -- what is left behind the head and k bytes more
 drop_head : (head told : List ℕ) (k : ℕ) → drop (length head + k) (head ++ told) ≡ drop k told

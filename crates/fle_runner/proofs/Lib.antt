@@ -7,3 +7,7 @@ pub mod Loads
 pub mod Programs
 pub mod Marks
 pub mod Endings
+pub mod Descent
+pub mod Spots
+pub mod Reasons
+pub mod Verdicts

@@ -10,6 +10,8 @@ pub mod Line
 pub mod Task
 pub mod Files
 pub mod Words
+pub mod Spots
+pub mod Descent
 pub mod Mark
 pub mod Verbs
 pub mod Did

@@ -1,14 +1,22 @@
 -- `mark DB SCHEMAS`: the marking reply to each command.
-use Rattle.std.specs.Prelude.{ℕ, Option, Result, Ok, Err, List, [], length}
+use Rattle.std.specs.Prelude.{◌≡◌, ℕ, Bool, true, false, nat_lt, Option, Some, None, option_map, Result, Ok, Err, List, length, if◌then◌else◌}
 use Rattle.bson_tree.specs.Tree.{Items}
 use Rattle.encrypt_schema.specs.Collection.{Collection}
 use Rattle.encrypt_schema.specs.Collections.{Faulty, collections}
 use Rattle.encrypt_schema.specs.declared.faults.InfoFault.{InfoFault}
 use Rattle.encrypt_schema.specs.declared.faults.InfoFault.TheVariants as faults
-use Rattle.command_marker.specs.Verdict.{Judgement, replies, not_built, too_long as reply_too_long, judged}
+use Rattle.encrypt_schema.specs.Row.{Row}
+use Rattle.encrypt_schema.specs.Targets.{is_view, rows_in, rows_of, verdict}
+use Rattle.encrypt_schema.specs.Visits.{Refusal, or_else, content_verdict}
+use Rattle.encrypt_schema.specs.declared.marks.MarkFault.{MarkFault}
+use Rattle.encrypt_schema.specs.declared.marks.MarkFault.TheVariants as mark_faults
+use Rattle.command_marker.specs.Commands.{unbuilt}
+use Rattle.command_marker.specs.Reply.{reply_limit, reply_to}
 use Rattle.fle_runner.specs.Plan.{Block, Plan, Verdict, writes, refused, too_long}
 use Rattle.fle_runner.specs.Task.{Task, fails, each, with_file}
+use Rattle.encrypt_schema.specs.declared.reason.Reason.{Reason}
 use Rattle.encrypt_schema.specs.declared.reason.Reason.TheVariants as reasons
+use Rattle.fle_runner.specs.Spots.{place_of}
 use Rattle.fle_runner.specs.declared.why.Why.{Why}
 use Rattle.fle_runner.specs.declared.why.Why.TheVariants as whys
 use Rattle.fle_runner.specs.declared.why.SetupFault.TheVariants as setups
@@ -17,15 +25,44 @@ use Rattle.fle_runner.specs.declared.why.SetupFault.TheVariants as setups
 abbrev pub plain_plan : List ℕ → Plan
 plain_plan bytes = record { draws = 0; size = length bytes; bytes = λ (_ : List Block). bytes }
 
--- what a command comes to, by what the marking service makes of it
-abbrev pub verdict_of : Judgement → Verdict
-verdict_of (replies bytes) = writes (plain_plan bytes)
-verdict_of not_built = refused reasons.NotBuilt []
-verdict_of reply_too_long = too_long
+-- the reason is that the collection is a view
+abbrev pub is_view_reason : Reason → Bool
+is_view_reason reasons.View = true
+is_view_reason _ = false
+
+-- a view isn't marked yet: it is told as such, at the command itself
+abbrev pub as_built : Refusal → Refusal
+as_built r = if is_view_reason r.reason then record { reason = reasons.NotBuilt; at = 0 } else r
+
+-- why a command of this database isn't marked under these infos: it is of a form that isn't built yet, else the verdict
+unfoldable pub mark_refusal : List Collection → List ℕ → Items → Option Refusal
+mark_refusal infos db c = or_else (unbuilt c) (option_map as_built (verdict db infos c))
+
+-- a reply of at most 48,000,000 bytes is written
+abbrev pub sized : List ℕ → Verdict
+sized bytes = if nat_lt reply_limit (length bytes) then too_long else writes (plain_plan bytes)
+
+-- a refusal at the place whose value begins at its offset, or the reply
+abbrev pub verdict_by : Items → List ℕ → Option Refusal → Verdict
+verdict_by c reply (Some r) = refused r.reason (place_of r.at c)
+verdict_by c reply None = sized reply
 
 -- what a command of this database comes to under these infos
-abbrev pub mark_verdict : List Collection → List ℕ → Items → Verdict
-mark_verdict infos db command = verdict_of (judged infos db command)
+unfoldable pub mark_verdict : List Collection → List ℕ → Items → Verdict
+mark_verdict infos db c = verdict_by c (reply_to (rows_of infos c) c) (mark_refusal infos db c)
+
+-- what a command comes to, whose fields aren't refused, by its contents under these rules
+abbrev pub verdict_under : List Row → Items → Verdict
+verdict_under rows c = verdict_by c (reply_to rows c) (content_verdict rows c)
+
+-- what an insert into this collection comes to, whose fields aren't refused; a view isn't marked yet
+abbrev pub verdict_into : Option Collection → Items → Verdict
+verdict_into info c = if is_view info then refused reasons.NotBuilt (place_of 0 c) else verdict_under (rows_in info) c
+
+-- a fault of marking says that a command comes to this; want of memory may come at any time
+abbrev pub Tells : MarkFault → Items → Verdict → Type 0
+Tells (mark_faults.Refused reason at) c v = v ≡ refused reason (place_of at c)
+Tells mark_faults.Memory c v = Unit {0}
 
 -- why a run ends whose file of collection infos, the first of the words, is at fault
 abbrev pub infos_why : InfoFault → Why

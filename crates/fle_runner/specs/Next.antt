@@ -3,7 +3,8 @@ use Rattle.std.specs.Prelude.{◌≡◌, ℕ, ◌≤◌, ◌^◌, Option, Some, 
 use Rattle.bson_tree.specs.Tree.{Items}
 use Rattle.bson_tree.specs.Spelling.{doc_bytes}
 use Rattle.bson_codec.specs.Layout.{IsDoc}
-use Rattle.fle_runner.specs.Streams.{documents, doc, ends, nothing, over, faulty, first_size}
+use Rattle.bson_codec.specs.Reading.{document}
+use Rattle.fle_runner.specs.Streams.{documents, ends, nothing, over, faulty, spelled, first_size}
 use Rattle.fle_runner.specs.declared.next.Next.{Next}
 use Rattle.fle_runner.specs.declared.next.Next.TheVariants as nexts
 
@@ -11,9 +12,10 @@ use Rattle.fle_runner.specs.declared.next.Next.TheVariants as nexts
 abbrev pub Handed : List ℕ → Option (List ℕ) → ℕ → Type 0
 Handed told after most = (m : ℕ) × (m ≤ most) × (after ≡ Some (drop m told))
 
--- the answer says what stands first in the stream; a document or the end is read exactly, and where the source failed or memory wanted at most the first document is read
+-- the answer says what stands first in the stream: bytes that are read exactly, and a document or a fault by what they spell; or the end, read exactly. Where the source failed or memory wanted at most the first document is read
 abbrev pub NextIs : List ℕ → Option (List ℕ) → Next → Type 0
-NextIs told after (nexts.Document d n) = (documents told ≡ doc n d.kids (documents (drop n told))) × (after ≡ Some (drop n told))
+NextIs told after (nexts.Framed bytes) =
+    (documents told ≡ spelled documents (length bytes.items) told (document bytes.items)) × (after ≡ Some (drop (length bytes.items) told))
 NextIs told after nexts.Nothing = (documents told ≡ ends nothing) × (after ≡ Some [])
 NextIs told after nexts.Over = documents told ≡ ends over
 NextIs told after (nexts.Faulty fault) = documents told ≡ ends (faulty fault)
@@ -25,9 +27,9 @@ pub record IsInput (is : Items) : Type 0 where
   pub spelled : IsDoc is
   pub small : length (doc_bytes is) ≤ 2 ^ 24
 
--- told or not, a document that was read is one that the input may hold, of so many bytes
+-- told or not, bytes that were read are as many as a document of the input may have
 abbrev pub NextSound : Next → Type 0
-NextSound (nexts.Document d n) = IsInput d.kids × (5 ≤ n) × (n ≤ 2 ^ 24)
+NextSound (nexts.Framed bytes) = (5 ≤ length bytes.items) × (length bytes.items ≤ 2 ^ 24)
 NextSound nexts.Nothing = Unit {0}
 NextSound nexts.Over = Unit {0}
 NextSound (nexts.Faulty fault) = Unit {0}

@@ -14,7 +14,8 @@ ghost use Rattle.fle_runner.specs.declared.why.Why.{Why};
 use crate::next::{Next, next_document};
 use crate::turning::{Turn, Verb};
 use crate::why::{Bound, Why};
-use bson_tree::{Doc, Place};
+use bson_codec::{RawDoc, check_bson};
+use bson_tree::Place;
 use encrypt_schema::Reason;
 use fle_outside::{Failed, Sink, Source, write_whole};
 use std::alloc::Global;
@@ -40,11 +41,12 @@ pub trait Judge {
     /// What a document comes to.
     ghost verdict: { Self → Items → Verdict };
 
-    /// Judges a document.
-    fn judge(&mut self, alloc: Global, document: &Doc) -> Judged
-        requires { IsInput document.now.kids }
+    /// Judges a document, whose offsets are from 0.
+    fn judge(&mut self, alloc: Global, document: &RawDoc<'_>) -> Judged
+        requires input { IsInput document.now.tree }
+        requires whole { document.now.start ≡ 0 }
         ensures same { verdict self.new ≡ verdict self.old }
-        ensures judged { JudgeIs (verdict self.old document.now.kids) None None result };
+        ensures judged { JudgeIs (verdict self.old document.now.tree) None None result };
 }
 
 /// The verb of a judge: one document a turn.
@@ -70,13 +72,10 @@ impl<J: Judge> Verb for Judging<J> {
             return Turn::Stopped(Why::Limit(Bound::Stream));
         }
         match next_document(alloc, input) {
-            Next::Document(document, size) => judge_document(
-                alloc,
-                &mut self.judge,
-                &document,
-                size,
-                out,
-            ),
+            Next::Framed(bytes) => match check_bson(&bytes) {
+                Ok(document) => judge_document(alloc, &mut self.judge, &document, bytes.len(), out),
+                Err(fault) => Turn::Stopped(Why::Malformed(fault)),
+            },
             Next::Nothing => Turn::Stopped(Why::Done),
             Next::Over => Turn::Stopped(Why::Limit(Bound::Document)),
             Next::Faulty(fault) => Turn::Stopped(Why::Malformed(fault)),
@@ -90,22 +89,23 @@ impl<J: Judge> Verb for Judging<J> {
 fn judge_document<J: Judge, O: Sink>(
     alloc: Global,
     judge: &mut J,
-    document: &Doc,
+    document: &RawDoc<'_>,
     size: usize,
     out: &mut O,
 ) -> Turn
-    requires { IsInput document.now.kids }
+    requires input { IsInput document.now.tree }
+    requires whole { document.now.start ≡ 0 }
     ensures same { J.verdict judge.new ≡ J.verdict judge.old }
     ensures size { (n : ℕ) → result ≡ Turn.Wrote n → n ≡ size }
     ensures kind { (why : Why) → result ≡ Turn.Stopped why → IsOfStream why }
     ensures turn { (course : Course) (most : List ℕ → ℕ) (taken : ℕ) (told : List ℕ) (after : Option (List ℕ))
-        → course taken told ≡ judged (J.verdict judge.old document.now.kids) size (course (taken + size) (drop size told))
+        → course taken told ≡ judged (J.verdict judge.old document.now.tree) size (course (taken + size) (drop size told))
         → size ≤ most told → after ≡ Some (drop size told)
         → TurnOf course most taken told after None None (O.written out.old) (O.written out.new) 0 0 (O.assured out.old) (O.assured out.new) result }
     ensures no_read { result ≡ Turn.Stopped Why.ReadFault → ⊥ }
     ensures out_later { O.faults out.old ≤ O.faults out.new }
     ensures out_cause { result ≡ Turn.Stopped Why.WriteFault → Rose (O.faults out.old) (O.faults out.new) }
-    ensures out_sure { size_in (J.verdict judge.old document.now.kids) ≤ O.assured out.old → result ≡ Turn.Stopped Why.WriteFault → ⊥ }
+    ensures out_sure { size_in (J.verdict judge.old document.now.tree) ≤ O.assured out.old → result ≡ Turn.Stopped Why.WriteFault → ⊥ }
 {
     match judge.judge(alloc, document) {
         Judged::Written(output) => match write_whole(out, &output) {

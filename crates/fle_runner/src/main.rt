@@ -17,6 +17,9 @@ mod judging;
 mod line;
 mod mark;
 mod next;
+mod placing;
+#[cfg(test)]
+mod placing_tests;
 mod program;
 #[cfg(test)]
 mod schema_tests;
@@ -25,6 +28,8 @@ mod stream;
 #[cfg(test)]
 mod tests;
 mod turning;
+#[cfg(test)]
+mod verdict_tests;
 mod why;
 mod words;
 

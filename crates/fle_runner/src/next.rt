@@ -7,8 +7,7 @@ ghost use Rattle.fle_outside.specs.Filling.{FillTakes, FillWithin};
 ghost use Rattle.fle_runner.specs.Next.{NextIs, NextSound};
 ghost use Rattle.fle_runner.specs.Streams.{faulty, short as short_of};
 
-use bson_codec::{BsonFault, BsonKind, CodecFault, decode, stated_length};
-use bson_tree::Doc;
+use bson_codec::{BsonFault, BsonKind, stated_length};
 use fle_outside::{Fill, Source, fill_piece};
 use std::alloc::Global;
 
@@ -18,13 +17,13 @@ const MAX_LENGTH: u32 = 16_777_216;
 /// What stands next in a stream.
 #[derive(Drop)]
 pub enum Next {
-    /// A document and the number of its bytes.
-    Document(Doc, usize),
+    /// As many bytes as the stated length counts, those of the length included.
+    Framed(Vec<u8>),
     /// Nothing is left.
     Nothing,
     /// The stated length is above the limit.
     Over,
-    /// The bytes that are left spell no document at their beginning; this is their first fault.
+    /// The bytes that are left end too soon, or state a length that is too small; this is their first fault.
     Faulty(BsonFault),
     /// The source failed.
     Failed,
@@ -32,7 +31,7 @@ pub enum Next {
     Memory,
 }
 
-/// Reads the next document of a stream, and no byte behind it.
+/// Reads the bytes of the next document of a stream, and no byte behind it. What they spell isn't judged.
 pub fn next_document<S: Source>(alloc: Global, source: &mut S) -> Next
     ensures next { (told : List ℕ) → S.left source.old ≡ Some told → NextIs told (S.left source.new) result }
     ensures sound { NextSound result }
@@ -53,7 +52,7 @@ pub fn next_document<S: Source>(alloc: Global, source: &mut S) -> Next
     }
 }
 
-/// Reads the document behind its length, and decodes it.
+/// Reads the bytes of a document behind its length.
 fn next_body<S: Source>(alloc: Global, source: &mut S, head: &[u8], size: usize) -> Next
     requires four { length head.now ≡ 4 }
     requires says { from_le_bytes w32 head.now ≡ size }
@@ -70,11 +69,7 @@ fn next_body<S: Source>(alloc: Global, source: &mut S, head: &[u8], size: usize)
         Ok(mut bytes) => match fill_document(source, head, &mut bytes) {
             Fill::Failed => Next::Failed,
             Fill::Ended(n) => Next::Faulty(short(n)),
-            Fill::Whole => match decode(alloc, &bytes) {
-                Ok(document) => Next::Document(document, size),
-                Err(CodecFault::Bson(fault)) => Next::Faulty(fault),
-                Err(CodecFault::Memory) => Next::Memory,
-            },
+            Fill::Whole => Next::Framed(bytes),
         },
     }
 }

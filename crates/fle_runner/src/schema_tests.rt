@@ -1,11 +1,11 @@
-//! Whole runs over files of collection infos whose schemas are read, refused, or beyond the commands that are marked today.
+//! Whole runs over files of collection infos whose schemas are read or refused.
 
 use crate::status::Status;
 use crate::tests::{INSERT, PEOPLE, Run, expect, joined, look, plain};
 use std::test::Fail;
 
 /// The info of `staff`: `a.b` deterministic and an int, its key and algorithm stated by `encryptMetadata` of `a`.
-const STAFF: &[u8] =
+pub(crate) const STAFF: &[u8] =
     b"6\x01\x00\x00\x02name\x00\x06\x00\x00\x00staff\x00\x02type\x00\x0b\x00\x00\x00collection\x00\x03options\x00\x03\x01\x00\x00\x03validator\x00\xf3\x00\x00\x00\x03$jsonSchema\x00\xe1\x00\x00\x00\x03properties\x00\xd0\x00\x00\x00\x03a\x00\xc8\x00\x00\x00\x02bsonType\x00\x07\x00\x00\x00object\x00\x03encryptMetadata\x00d\x00\x00\x00\x04keyId\x00\x1d\x00\x00\x00\x050\x00\x10\x00\x00\x00\x04\x00\x11\x223DUFw\x88\x99\xaa\xbb\xcc\xdd\xee\xff\x00\x02algorithm\x00,\x00\x00\x00AEAD_AES_256_CBC_HMAC_SHA_512-Deterministic\x00\x00\x03properties\x00-\x00\x00\x00\x03b\x00%\x00\x00\x00\x03encrypt\x00\x17\x00\x00\x00\x02bsonType\x00\x04\x00\x00\x00int\x00\x00\x00\x00\x00\x00\x00\x00\x00\x00";
 
 /// An info of `people` with `ssn` deterministic and a double.
@@ -13,20 +13,12 @@ const DOUBLE: &[u8] =
     b"\xf8\x00\x00\x00\x02name\x00\x07\x00\x00\x00people\x00\x02type\x00\x0b\x00\x00\x00collection\x00\x03options\x00\xc4\x00\x00\x00\x03validator\x00\xb4\x00\x00\x00\x03$jsonSchema\x00\xa2\x00\x00\x00\x03properties\x00\x91\x00\x00\x00\x03ssn\x00\x87\x00\x00\x00\x03encrypt\x00y\x00\x00\x00\x04keyId\x00\x1d\x00\x00\x00\x050\x00\x10\x00\x00\x00\x04\x00\x11\x223DUFw\x88\x99\xaa\xbb\xcc\xdd\xee\xff\x00\x02algorithm\x00,\x00\x00\x00AEAD_AES_256_CBC_HMAC_SHA_512-Deterministic\x00\x02bsonType\x00\x07\x00\x00\x00double\x00\x00\x00\x00\x00\x00\x00\x00";
 
 /// The info of the view `v`.
-const VIEW: &[u8] =
+pub(crate) const VIEW: &[u8] =
     b".\x00\x00\x00\x02name\x00\x02\x00\x00\x00v\x00\x02type\x00\x05\x00\x00\x00view\x00\x03options\x00\x05\x00\x00\x00\x00\x00";
 
 /// The info of `notes`, which has no schema.
-const NOTES: &[u8] =
+pub(crate) const NOTES: &[u8] =
     b"8\x00\x00\x00\x02name\x00\x06\x00\x00\x00notes\x00\x02type\x00\x0b\x00\x00\x00collection\x00\x03options\x00\x05\x00\x00\x00\x00\x00";
-
-/// `{insert: "staff", documents: [{a: {b: int 1}}], $db: "hr"}`.
-const NESTED: &[u8] =
-    b"J\x00\x00\x00\x02insert\x00\x06\x00\x00\x00staff\x00\x04documents\x00\x1c\x00\x00\x00\x030\x00\x14\x00\x00\x00\x03a\x00\x0c\x00\x00\x00\x10b\x00\x01\x00\x00\x00\x00\x00\x00\x02$db\x00\x03\x00\x00\x00hr\x00\x00";
-
-/// `{insert: "v", documents: [{p: int 1}], $db: "hr"}`.
-const INTO_VIEW: &[u8] =
-    b">\x00\x00\x00\x02insert\x00\x02\x00\x00\x00v\x00\x04documents\x00\x14\x00\x00\x00\x030\x00\x0c\x00\x00\x00\x10p\x00\x01\x00\x00\x00\x00\x00\x02$db\x00\x03\x00\x00\x00hr\x00\x00";
 
 /// `{insert: "staff", documents: [{c: int 1}], $db: "hr"}`.
 const BESIDE: &[u8] =
@@ -59,21 +51,12 @@ fn the_first_faulty_info_is_told_with_its_fault(rt: HostRuntime) -> Result<(), F
 }
 
 #[test]
-fn views_and_nested_rules_are_not_built(rt: HostRuntime) -> Result<(), Fail> {
+fn the_reply_says_whether_the_collection_has_rules(rt: HostRuntime) -> Result<(), Fail> {
     let alloc = rt.alloc();
-    let infos = joined(alloc, STAFF, VIEW)?;
-    let nothing: &[u8] = b"";
-    let cases: [(&[u8], Status, &[u8], &str); 3] = [
-        (NESTED, Status::Refused, nothing, "fle: 1 1 24 -\n"),
-        (INTO_VIEW, Status::Refused, nothing, "fle: 1 1 24 -\n"),
-        (BESIDE, Status::Done, BESIDE_REPLY, ""),
-    ];
-    for (input, status, out, line) in cases {
-        let run = Run {
-            infos: &infos,
-            ..plain(input)
-        };
-        expect(&rt, &look(alloc, run)?, status, out, line);
-    }
+    let run = Run {
+        infos: STAFF,
+        ..plain(BESIDE)
+    };
+    expect(&rt, &look(alloc, run)?, Status::Done, BESIDE_REPLY, "");
     Ok(())
 }

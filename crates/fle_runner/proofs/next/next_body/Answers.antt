@@ -1,7 +1,7 @@
 -- What stands behind the length: read, ended, or failed on the way.
-use Rattle.std.proofs.Common.{◌≡◌, length, ◌++◌, ◌∙◌, arith}
+use Rattle.std.proofs.Common.{◌≡◌, length, ◌++◌, arith}
 use Rattle.std.proofs.lemmas.List.{take_at}
-use Rattle.fle_runner.proofs.Bodies.{size_of_head, unread_body, failed_body, ended_body, whole_read, read_ok, read_fault, read_memory}
+use Rattle.fle_runner.proofs.Bodies.{size_of_head, unread_body, failed_body, ended_body, framed}
 use Rattle.fle_runner.proofs.next.next_body.Goals as goal
 
 pub returns-in-Err-clause-next : goal.returns-in-Err-clause-next
@@ -21,29 +21,9 @@ returns-in-Ended-clause-next g c = λ told is.
     let long : length c.fill_document.new.document ≡ c.args.size = omega (arith, c.fill_document.auto.document, c.deref_mut.ensures.len, c.in-Ok.ensures.len) in
     rw c.short.ensures (ended_body (c.args.head.now ++ told) c.fill_document.new.document _ c.args.size c.in-Ended.n size (c.in-Ended.ensures.bytes told is) (omega (arith, long, c.in-Ended.ensures.within)))
 
-pub returns-in-Ok-decode-clause-next : goal.returns-in-Ok-decode-clause-next
-returns-in-Ok-decode-clause-next g c = λ told is.
+pub returns-in-Whole-clause-next : goal.returns-in-Whole-clause-next
+returns-in-Whole-clause-next g c = λ told is.
     let size = size_of_head c.args.head.now told c.args.size c.requires.four c.requires.says c.requires.least c.requires.most in
     let long : length c.fill_document.new.document ≡ c.args.size = omega (arith, c.fill_document.auto.document, c.deref_mut.ensures.len, c.in-Ok.ensures.len) in
     let of_vec : length c.fill_document.new.document ≡ c.in-Ok.bytes.len = omega (arith, c.fill_document.auto.document, c.deref_mut.ensures.len) in
-    let items : c.deref.result.now ≡ c.fill_document.new.document = c.deref.ensures.value ∙ take_at c.fill_document.new.document _ _ of_vec in
-    let read = whole_read (c.args.head.now ++ told) c.fill_document.new.document _ c.args.size size long (c.in-Whole.ensures.bytes told is) in
-    let ok = rw items at c.in-Ok-decode.ensures.exact in
-    (read_ok (c.args.head.now ++ told) c.fill_document.new.document _ c.args.size _ read ok, read.left)
-
-pub returns-in-Err-Bson-clause-next : goal.returns-in-Err-Bson-clause-next
-returns-in-Err-Bson-clause-next g c = λ told is.
-    let size = size_of_head c.args.head.now told c.args.size c.requires.four c.requires.says c.requires.least c.requires.most in
-    let long : length c.fill_document.new.document ≡ c.args.size = omega (arith, c.fill_document.auto.document, c.deref_mut.ensures.len, c.in-Ok.ensures.len) in
-    let of_vec : length c.fill_document.new.document ≡ c.in-Ok.bytes.len = omega (arith, c.fill_document.auto.document, c.deref_mut.ensures.len) in
-    let items : c.deref.result.now ≡ c.fill_document.new.document = c.deref.ensures.value ∙ take_at c.fill_document.new.document _ _ of_vec in
-    let read = whole_read (c.args.head.now ++ told) c.fill_document.new.document _ c.args.size size long (c.in-Whole.ensures.bytes told is) in
-    let err = rw (items, c.in-Err-Bson.field-0-is) at c.in-Err-Bson.ensures.exact in
-    read_fault (c.args.head.now ++ told) c.fill_document.new.document _ c.args.size c.in-Err-Bson.fault read err
-
-pub returns-clause-next : goal.returns-clause-next
-returns-clause-next g c = λ told is.
-    let size = size_of_head c.args.head.now told c.args.size c.requires.four c.requires.says c.requires.least c.requires.most in
-    let long : length c.fill_document.new.document ≡ c.args.size = omega (arith, c.fill_document.auto.document, c.deref_mut.ensures.len, c.in-Ok.ensures.len) in
-    let read = whole_read (c.args.head.now ++ told) c.fill_document.new.document _ c.args.size size long (c.in-Whole.ensures.bytes told is) in
-    read_memory (c.args.head.now ++ told) c.fill_document.new.document _ c.args.size size read
+    framed (c.args.head.now ++ told) c.fill_document.new.document _ _ c.args.size size long (c.in-Whole.ensures.bytes told is) (take_at c.fill_document.new.document _ _ of_vec)

@@ -1,0 +1,185 @@
+-- The place of an offset is the place at which a value begins there.
+use Rattle.std.proofs.Common.{◌≡◌, ℕ, zero, suc, ◌+◌, ◌<◌, Bool, true, false, cond, eqb, List, [], ◌∷◌, ◌++◌, map, length, Option, Some, None, refl, sym, ap, subst, ◌∙◌, inl, inr, ◌⊎◌, arith, append_assoc, append-nil}
+use Rattle.std.specs.Option.{option_map_or}
+use Rattle.std.specs.Prelude.{option_map}
+use Rattle.std.proofs.lemmas.Bool.{eqb-true, ne_eqb, false≢true}
+use Rattle.bson_tree.specs.Tree.{Tree, Items, leaf, node, no_items, item, tree_size, items_size}
+use Rattle.bson_tree.specs.Spelling.{value_bytes}
+use Rattle.bson_tree.specs.Places.{start_in, start_from, start_of, places_in, places_from, places}
+use Rattle.bson_codec.specs.Raw.{Elem}
+use Rattle.bson_codec.proofs.Offsets.{same_place}
+use Rattle.bson_codec.specs.Raw.{holds, holding}
+use Rattle.fle_runner.specs.Descent.{spot_in, spot_from, below}
+use Rattle.fle_runner.specs.Spots.{begins_at, first_place, place_of}
+use Rattle.fle_runner.proofs.Descent.{after_head, same, if_true, if_false, found_from, begins_from}
+
+-- ---- places are among the places
+
+-- one of the places is this one
+abbrev Has : List ℕ → List (List ℕ) → Type 0
+Has place [] = ⊥
+Has place (other ∷ others) = (other ≡ place) ⊎ Has place others
+
+has_left : (place : List ℕ) (ps qs : List (List ℕ)) → Has place ps → Has place (ps ++ qs)
+has_left place [] qs h = absurd h
+has_left place (p ∷ ps) qs (inl e) = inl e
+has_left place (p ∷ ps) qs (inr h) = inr (has_left place ps qs h)
+
+has_right : (place : List ℕ) (ps qs : List (List ℕ)) → Has place qs → Has place (ps ++ qs)
+has_right place [] qs h = h
+has_right place (p ∷ ps) qs h = inr (has_right place ps qs h)
+
+has_below : (i : ℕ) (place : List ℕ) (ps : List (List ℕ)) → Has place ps → Has (i ∷ place) (map (λ (p : List ℕ). i ∷ p) ps)
+has_below i place [] h = absurd h
+has_below i place (p ∷ ps) (inl e) = inl (ap (λ (q : List ℕ). i ∷ q) e)
+has_below i place (p ∷ ps) (inr h) = inr (has_below i place ps h)
+
+mutual
+  has_in : (place : List ℕ) (at start : ℕ) (t : Tree) → start_in place start t ≡ Some at → Has place (places_in t)
+  has_in [] at start (leaf tag bytes) e = inl refl
+  has_in [] at start (node tag is) e = inl refl
+  has_in (i ∷ place) at start (leaf tag bytes) e = absurd cc
+  has_in (i ∷ place) at start (node tag is) e =
+      inr (subst (λ (n : ℕ). Has (n ∷ place) (places_from 0 is)) (omega arith) (has_from i place at 0 (start + 4) is e))
+
+  has_from : (k : ℕ) (place : List ℕ) (at i start : ℕ) (is : Items) → start_from k place start is ≡ Some at → Has ((i + k) ∷ place) (places_from i is)
+  has_from k place at i start no_items e = absurd cc
+  has_from zero place at i start (item name t is) e =
+      has_left _ (map (λ (p : List ℕ). i ∷ p) (places_in t)) (places_from (i + 1) is)
+      (subst (λ (n : ℕ). Has (n ∷ place) (map (λ (p : List ℕ). i ∷ p) (places_in t))) (omega arith)
+      (has_below i place (places_in t) (has_in place at (start + (2 + length name)) t e)))
+  has_from (suc k) place at i start (item name t is) e =
+      has_right _ (map (λ (p : List ℕ). i ∷ p) (places_in t)) (places_from (i + 1) is)
+      (subst (λ (n : ℕ). Has (n ∷ place) (places_from (i + 1) is)) (omega arith)
+      (has_from k place at (i + 1) (start + (2 + length name) + length (value_bytes t)) is e))
+
+has_place : (at : ℕ) (is : Items) (place : List ℕ) → start_of place is ≡ Some at → Has place (places is)
+has_place at is [] e = absurd cc
+has_place at is (i ∷ place) e =
+    inr (subst (λ (n : ℕ). Has (n ∷ place) (places_from 0 is)) (omega arith) (has_from i place at 0 4 is e))
+
+-- ---- the first place that passes
+
+passed : (test : List ℕ → Bool) (place rest : List ℕ) (b : Bool) → test place ≡ b → (b ≡ false → test rest ≡ true) → test (cond b place rest) ≡ true
+passed test place rest true e h = e
+passed test place rest false e h = h refl
+
+first_passes : (test : List ℕ → Bool) (place : List ℕ) (ps : List (List ℕ)) → Has place ps → test place ≡ true → test (first_place test ps) ≡ true
+first_passes test place [] h e = absurd h
+first_passes test place (p ∷ ps) (inl same) e = passed test p (first_place test ps) (test p) refl (λ no. absurd (false≢true (sym no ∙ ap test same ∙ e)))
+first_passes test place (p ∷ ps) (inr h) e = passed test p (first_place test ps) (test p) refl (λ _. first_passes test place ps h e)
+
+first_of_none : (test : List ℕ → Bool) (ps : List (List ℕ)) → ((p : List ℕ) → test p ≡ false) → first_place test ps ≡ []
+first_of_none test [] h = refl
+first_of_none test (p ∷ ps) h = ap (λ (b : Bool). cond b p (first_place test ps)) (h p) ∙ first_of_none test ps h
+
+begun : (at : ℕ) (o : Option ℕ) → option_map_or (λ start. eqb start at) o false ≡ true → o ≡ Some at
+begun at None e = absurd cc
+begun at (Some start) e = ap (λ (n : ℕ). Some n) (eqb-true start at e)
+
+not_begun : (at : ℕ) (o : Option ℕ) (b : Bool) → option_map_or (λ start. eqb start at) o false ≡ b → (o ≡ Some at → ⊥) → b ≡ false
+not_begun at o false e h = refl
+not_begun at o true e h = absurd (h (begun at o e))
+
+-- the place at which a value begins is the place of its offset
+pub place_begun : (at : ℕ) (is : Items) (place : List ℕ) → start_of place is ≡ Some at → place_of at is ≡ place
+unfolding place_of
+place_begun at is place e =
+    let passes : begins_at at is place ≡ true = ap (λ (o : Option ℕ). option_map_or (λ start. eqb start at) o false) e ∙ same at in
+    let first = first_passes (begins_at at is) place (places is) (has_place at is place e) passes in
+    same_place is (first_place (begins_at at is) (places is)) place at (begun at (start_of (first_place (begins_at at is) (places is)) is) first) e
+
+-- the place of an offset at which no value begins is the document itself
+pub place_none : (at : ℕ) (is : Items) → ((place : List ℕ) → start_of place is ≡ Some at → ⊥) → place_of at is ≡ []
+unfolding place_of
+place_none at is h = first_of_none (begins_at at is) (places is) (λ place. not_begun at (start_of place is) _ refl (h place))
+
+-- the place of offset 0 is the document itself
+pub place_of_head : (is : Items) → place_of 0 is ≡ []
+place_of_head is = place_none 0 is (λ place e. let late = after_head is place 0 e in omega arith)
+
+-- ---- the way down leads to the place
+
+no_start : (at : ℕ) (is : Items) → spot_from at 0 4 is ≡ None → (place : List ℕ) → start_of place is ≡ Some at → ⊥
+no_start at is none [] e = cc
+no_start at is none (i ∷ place) e = let found = found_from i place at 0 4 is e in cc
+
+by_spot : (at : ℕ) (is : Items) (o : Option (List ℕ)) → spot_from at 0 4 is ≡ o → place_of at is ≡ below [] o
+by_spot at is None e = place_none at is (no_start at is e)
+by_spot at is (Some place) e =
+    let led = begins_from place at 0 4 is e in
+    place_begun at is (led.number ∷ led.inner) led.begins ∙ ap (λ (n : ℕ). n ∷ led.inner) (omega arith) ∙ sym led.parts
+
+pub place_is : (at : ℕ) (is : Items) → place_of at is ≡ below [] (spot_from at 0 4 is)
+place_is at is = by_spot at is (spot_from at 0 4 is) refl
+
+-- ---- one step of the way
+
+-- the place below `steps` in the element found; the document itself where none was found
+abbrev on : List ℕ → ℕ → Option (ℕ × Elem) → List ℕ
+on steps at None = []
+on steps at (Some x) = below (steps ++ x.0 ∷ []) (spot_in at x.1.start x.1.tree)
+
+below_more : (steps : List ℕ) (i : ℕ) (o : Option (List ℕ)) → below steps (option_map (λ (p : List ℕ). i ∷ p) o) ≡ below (steps ++ i ∷ []) o
+below_more steps i None = refl
+below_more steps i (Some place) = sym (append_assoc steps (i ∷ []) place)
+
+step_by : (steps : List ℕ) (at i : ℕ) (e : Elem) (b : Bool) (spot : Option (List ℕ)) (found : Option (ℕ × Elem)) → below steps spot ≡ on steps at found
+    → below steps (cond b (option_map (λ (p : List ℕ). i ∷ p) (spot_in at e.start e.tree)) spot) ≡ on steps at (cond b (Some (i, e)) found)
+step_by steps at i e true spot found h = below_more steps i (spot_in at e.start e.tree)
+step_by steps at i e false spot found h = h
+
+one_step : (steps : List ℕ) (at i start : ℕ) (is : Items) → below steps (spot_from at i start is) ≡ on steps at (holding at i start is)
+one_step steps at i start no_items = refl
+one_step steps at i start (item name t is) =
+    let e : Elem = record { name = name; tree = t; start = start + (2 + length name) } in
+    step_by steps at i e (holds at e) _ _ (one_step steps at (i + 1) (start + (2 + length name) + length (value_bytes t)) is)
+
+-- the size of the element found; 0 where none was
+abbrev size_found : Option (ℕ × Elem) → ℕ
+size_found None = 0
+size_found (Some x) = tree_size x.1.tree
+
+smaller_by : (b : Bool) (i size : ℕ) (e : Elem) (found : Option (ℕ × Elem)) → tree_size e.tree < size → size_found found < size → size_found (cond b (Some (i, e)) found) < size
+smaller_by true i size e found here there = here
+smaller_by false i size e found here there = there
+
+found_smaller : (at i start : ℕ) (is : Items) → size_found (holding at i start is) < items_size is
+found_smaller at i start no_items = omega arith
+found_smaller at i start (item name t is) =
+    let e : Elem = record { name = name; tree = t; start = start + (2 + length name) } in
+    let later = found_smaller at (i + 1) (start + (2 + length name) + length (value_bytes t)) is in
+    smaller_by (holds at e) i (items_size (item name t is)) e _ (omega arith) (omega (arith, later))
+
+-- ---- the turns of the way, after the element that was found
+
+spot_here : (at start : ℕ) (t : Tree) → start ≡ at → spot_in at start t ≡ Some []
+spot_here at start (leaf tag bytes) e = if_true (eqb start at) _ _ _ (ap (λ (n : ℕ). eqb start n) (sym e) ∙ same start) refl
+spot_here at start (node tag is) e = if_true (eqb start at) _ _ _ (ap (λ (n : ℕ). eqb start n) (sym e) ∙ same start) refl
+
+module _ (steps : List ℕ) (at i start : ℕ) (is : Items) where
+  pub ends_nowhere : None ≡ holding at i start is → below steps (spot_from at i start is) ≡ []
+  ends_nowhere found = one_step steps at i start is ∙ ap (on steps at) (sym found)
+
+  module _ (n : ℕ) (e : Elem) (found : Some (n, e) ≡ holding at i start is) where
+    stepped : below steps (spot_from at i start is) ≡ below (steps ++ n ∷ []) (spot_in at e.start e.tree)
+    stepped = one_step steps at i start is ∙ ap (on steps at) (sym found)
+
+    pub ends_here : e.start ≡ at → below steps (spot_from at i start is) ≡ steps ++ n ∷ []
+    ends_here here = stepped ∙ ap (below (steps ++ n ∷ [])) (spot_here at e.start e.tree here) ∙ append-nil (steps ++ n ∷ [])
+
+    pub ends_in_leaf : (tag : ℕ) (bytes : List ℕ) → (e.start ≡ at → ⊥) → e.tree ≡ leaf tag bytes → below steps (spot_from at i start is) ≡ []
+    ends_in_leaf tag bytes other tree =
+        stepped ∙ ap (λ (t : Tree). below (steps ++ n ∷ []) (spot_in at e.start t)) tree
+        ∙ ap (below (steps ++ n ∷ [])) (if_false (eqb e.start at) (Some []) None None (ne_eqb e.start at other) refl)
+
+    pub goes_on : (tag : ℕ) (inner : Items) → (e.start ≡ at → ⊥) → e.tree ≡ node tag inner
+        → below steps (spot_from at i start is) ≡ below (steps ++ n ∷ []) (spot_from at 0 (e.start + 4) inner)
+    goes_on tag inner other tree =
+        stepped ∙ ap (λ (t : Tree). below (steps ++ n ∷ []) (spot_in at e.start t)) tree
+        ∙ ap (below (steps ++ n ∷ [])) (if_false (eqb e.start at) (Some []) (spot_from at 0 (e.start + 4) inner) _ (ne_eqb e.start at other) refl)
+
+    pub is_smaller : (tag : ℕ) (inner : Items) → e.tree ≡ node tag inner → items_size inner < items_size is
+    is_smaller tag inner tree =
+        let size : tree_size e.tree < items_size is = subst (λ (o : Option (ℕ × Elem)). size_found o < items_size is) (sym found) (found_smaller at i start is) in
+        omega (arith, size, ap tree_size tree)

@@ -1,0 +1,26 @@
+-- What is answered about a command's fields says what it comes to.
+use Rattle.std.proofs.Common.{Option, None, ap, subst, sym, ◌∙◌}
+use Rattle.encrypt_schema.specs.Collection.{Collection}
+use Rattle.fle_runner.specs.Judge.{JudgeIs}
+use Rattle.fle_runner.specs.Mark.{mark_verdict, verdict_into}
+use Rattle.fle_runner.specs.Plan.{Verdict}
+use Rattle.fle_runner.proofs.Verdicts.{fields_told, insert_told}
+use Rattle.fle_runner.proofs.mark.judge_command.Goals as goal
+
+pub returns-in-Ok-Collection : goal.returns-in-Ok-Collection
+returns-in-Ok-Collection c =
+    let db = c.args.db.now in
+    let infos = c.args.infos.now in
+    let tree = c.args.command.now.tree in
+    let aims = rw c.in-Ok-Collection.field-0-is at c.in-Ok-Collection.ensures.aims in
+    let into =
+    insert_told db infos tree c.in-Ok-Collection.name.now aims.0 aims.1 aims.2
+    ∙ ap (λ (o : Option Collection). verdict_into o tree) (sym c.info_of.ensures.named) in
+    record { judged = subst (λ (v : Verdict). JudgeIs v None None c.judge_insert.result) (sym into) c.judge_insert.ensures.judged }
+
+pub returns-in-Err : goal.returns-in-Err
+returns-in-Err c =
+    let db = c.args.db.now in
+    let infos = c.args.infos.now in
+    let tree = c.args.command.now.tree in
+    record { judged = c.judge_fault.ensures.judged (mark_verdict infos db tree) (fields_told db infos tree c.in-Err.refusal c.in-Err.ensures.aims) }

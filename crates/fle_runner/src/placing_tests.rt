@@ -1,0 +1,44 @@
+use crate::placing::place_at;
+use bson_codec::check_bson;
+use std::test::Fail;
+
+// {a: 1, b: {c: 2, d: [3]}, e: null}
+const DOCUMENT: [u8; 45] = [
+    0x2D, 0x00, 0x00, 0x00, // length
+    0x10, b'a', 0x00, 0x01, 0x00, 0x00, 0x00, // a, its value at 7
+    0x03, b'b', 0x00, 0x1B, 0x00, 0x00, 0x00, // b, its value at 14
+    0x10, b'c', 0x00, 0x02, 0x00, 0x00, 0x00, // b.c, its value at 21
+    0x04, b'd', 0x00, 0x0C, 0x00, 0x00, 0x00, // b.d, its value at 28
+    0x10, b'0', 0x00, 0x03, 0x00, 0x00, 0x00, // b.d.0, its value at 35
+    0x00, 0x00, // ends of b.d and b
+    0x0A, b'e', 0x00, // e, its value at 44, of no bytes
+    0x00,
+];
+
+#[test]
+fn each_value_is_found_by_the_offset_at_which_it_begins(rt: HostRuntime) -> Result<(), Fail> {
+    let document = check_bson(&DOCUMENT)?;
+    let cases: [(u32, &[u32]); 6] = [
+        (7, &[0]),
+        (14, &[1]),
+        (21, &[1, 0]),
+        (28, &[1, 1]),
+        (35, &[1, 1, 0]),
+        (44, &[2]),
+    ];
+    for (at, steps) in cases {
+        let place = place_at(rt.alloc(), &document, at)?;
+        assert_eq!(rt; place.as_slice(), steps);
+    }
+    Ok(())
+}
+
+#[test]
+fn an_offset_at_which_no_value_begins_is_that_of_the_document(rt: HostRuntime) -> Result<(), Fail> {
+    let document = check_bson(&DOCUMENT)?;
+    for at in [0, 4, 18, 36, 45] {
+        let place = place_at(rt.alloc(), &document, at)?;
+        assert!(rt; place.as_slice().is_empty());
+    }
+    Ok(())
+}
