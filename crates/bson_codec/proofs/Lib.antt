@@ -19,3 +19,4 @@ pub mod Items
 pub mod Values
 pub mod Grammar
 pub mod Offsets
+pub mod Spots

@@ -9,17 +9,17 @@ some_is : (m n : ℕ) → Some m ≡ Some n → m ≡ n
 some_is m n e = cc
 
 -- an offset within a value that begins at `at` and has so many bytes
-record Within (at size offset : ℕ) : Type 0 where
-  from : at ≤ offset
-  to : offset ≤ at + size
+pub record Within (at size offset : ℕ) : Type 0 where
+  pub from : at ≤ offset
+  pub to : offset ≤ at + size
 
 -- an offset of a value among elements that begin at `at` and have so many bytes
-record Among (at size offset : ℕ) : Type 0 where
-  from : at + 2 ≤ offset
-  to : offset ≤ at + size
+pub record Among (at size offset : ℕ) : Type 0 where
+  pub from : at + 2 ≤ offset
+  pub to : offset ≤ at + size
 
 mutual
-  within_in : (place : List ℕ) (at : ℕ) (t : Tree) (offset : ℕ) → start_in place at t ≡ Some offset → Within at (length (value_bytes t)) offset
+  pub within_in : (place : List ℕ) (at : ℕ) (t : Tree) (offset : ℕ) → start_in place at t ≡ Some offset → Within at (length (value_bytes t)) offset
   within_in [] at (leaf tag bytes) offset e = let is = some_is at offset e in record { from = omega arith; to = omega arith }
   within_in [] at (node tag is) offset e = let same = some_is at offset e in record { from = omega arith; to = omega arith }
   within_in (i ∷ place) at (leaf tag bytes) offset e = absurd cc
@@ -27,7 +27,7 @@ mutual
       let inside = within_from i place (at + 4) is offset e in
       record { from = omega (arith, inside.from); to = omega (arith, inside.to, framed_length (items_bytes is)) }
 
-  within_from : (i : ℕ) (place : List ℕ) (at : ℕ) (is : Items) (offset : ℕ) → start_from i place at is ≡ Some offset → Among at (length (items_bytes is)) offset
+  pub within_from : (i : ℕ) (place : List ℕ) (at : ℕ) (is : Items) (offset : ℕ) → start_from i place at is ≡ Some offset → Among at (length (items_bytes is)) offset
   within_from i place at no_items offset e = absurd cc
   within_from zero place at (item name t is) offset e =
       let inside = within_in place (at + (2 + length name)) t offset e in

@@ -2,7 +2,7 @@
 //! nothing; their clauses are the laws.
 
 ghost use Rattle.std.specs.Prelude.{◌≡◌, ◌≤◌, ◌↔◌, ◌++◌, ℕ, List, [], length, take, Some, Ok, IsOk};
-ghost use Rattle.bson_tree.specs.Places.{start_of};
+ghost use Rattle.bson_tree.specs.Places.{place_of, start_of};
 ghost use Rattle.bson_tree.specs.Spelling.{doc_bytes};
 ghost use Rattle.bson_tree.specs.Tree.{Items};
 ghost use Rattle.bson_codec.specs.Bytes.{AreBytes};
@@ -31,7 +31,10 @@ pub fn no_proper_prefix()
     ensures { (is js : Items) (rest : List ℕ) → IsDoc is → IsDoc js → doc_bytes is ≡ doc_bytes js ++ rest → rest ≡ [] }
 {}
 
-/// Values at distinct places begin at distinct offsets.
+/// Values at distinct places begin at distinct offsets: the place of the offset at which a value begins is its own,
+/// and that of offset 0 is the document itself.
 pub fn one_place()
-    ensures { (is : Items) (place other : List ℕ) (at : ℕ) → start_of place is ≡ Some at → start_of other is ≡ Some at → place ≡ other }
+    ensures distinct { (is : Items) (place other : List ℕ) (at : ℕ) → start_of place is ≡ Some at → start_of other is ≡ Some at → place ≡ other }
+    ensures begun { (is : Items) (place : List ℕ) (at : ℕ) → start_of place is ≡ Some at → place_of at is ≡ place }
+    ensures head { (is : Items) → place_of 0 is ≡ [] }
 {}

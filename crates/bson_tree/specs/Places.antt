@@ -1,5 +1,6 @@
 -- Places in a document: lists of child numbers from 0. The empty place is the document itself.
-use Rattle.std.specs.Prelude.{◌+◌, ℕ, zero, suc, List, [], ◌∷◌, ◌++◌, map, length, Option, Some, None, option_and_then}
+use Rattle.std.specs.Prelude.{◌+◌, ◌==◌, ℕ, zero, suc, Bool, false, List, [], ◌∷◌, ◌++◌, map, length, Option, Some, None, option_and_then, if◌then◌else◌}
+use Rattle.std.specs.Option.{option_map_or}
 use Rattle.bson_tree.specs.Tree.{Tree, Items, leaf, node, no_items, item, nth, kids_of}
 use Rattle.bson_tree.specs.Spelling.{value_bytes}
 
@@ -45,3 +46,16 @@ abbrev mutual
 abbrev pub start_of : List ℕ → Items → Option ℕ
 start_of [] is = None
 start_of (i ∷ place) is = start_from i place 4 is
+
+-- the value at a place of a document begins at this offset
+abbrev pub begins_at : ℕ → Items → List ℕ → Bool
+begins_at at is place = option_map_or (λ start. start == at) (start_of place is) false
+
+-- the first of these places that passes a test; the document itself where none does
+abbrev pub first_place : (List ℕ → Bool) → List (List ℕ) → List ℕ
+first_place test [] = []
+first_place test (place ∷ others) = if test place then place else first_place test others
+
+-- the place whose value begins at this offset of a document; the document itself where none does
+unfoldable pub place_of : ℕ → Items → List ℕ
+place_of at is = first_place (begins_at at is) (places is)
