@@ -9,3 +9,4 @@ pub mod Replies
 pub mod Targets
 pub mod FieldReasons
 pub mod MarkedPlaces
+pub mod ToldPlaces

@@ -6,3 +6,4 @@ pub mod Splices
 pub mod Written
 pub mod Steps
 pub mod MarkedPlaces
+pub mod ToldPlaces

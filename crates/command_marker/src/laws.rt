@@ -1,10 +1,10 @@
 //! What holds of roles, offences and verdicts whatever the rules and the commands (the definitions of
 //! `encrypt_schema`). The functions do nothing; their clauses are the laws.
 
-ghost use Rattle.std.specs.Prelude.{◌≡◌, ℕ, List, Bool, true, false, Some, length, map, flat_map, option_map};
+ghost use Rattle.std.specs.Prelude.{◌≡◌, ◌∷◌, [], ℕ, List, Bool, true, false, Some, length, map, flat_map, option_map, slice_get};
 ghost use Rattle.std.specs.Option.{option_map_or};
 ghost use Rattle.bson_tree.specs.Filled.{filled};
-ghost use Rattle.bson_tree.specs.Places.{places};
+ghost use Rattle.bson_tree.specs.Places.{place_of, places};
 ghost use Rattle.bson_tree.specs.Spelling.{doc_bytes};
 ghost use Rattle.bson_tree.specs.Tree.{Items};
 ghost use Rattle.encrypt_schema.specs.Chains.{first_of, is_shown, mark_of, offence_at, refusal_at, sites, station_at, use_of_mark, use_of_site, visit_at};
@@ -12,10 +12,11 @@ ghost use Rattle.encrypt_schema.specs.Collection.{Collection};
 ghost use Rattle.encrypt_schema.specs.Row.{Row};
 ghost use Rattle.encrypt_schema.specs.Skeletons.{AreApart, blank, hole_at, holes, skeleton};
 ghost use Rattle.encrypt_schema.specs.Stations.{has_role};
-ghost use Rattle.encrypt_schema.specs.Targets.{rows_of, verdict};
+ghost use Rattle.encrypt_schema.specs.Targets.{CommandField, command_fields, rows_of, verdict};
 ghost use Rattle.encrypt_schema.specs.Visits.{command_visits, content_verdict, first_refusal, offence_of, roles, station_of};
 ghost use Rattle.command_marker.specs.Marked.{marked};
 ghost use Rattle.command_marker.specs.MarkedPlaces.{marking_of};
+ghost use Rattle.command_marker.specs.ToldPlaces.{first_refused, told};
 
 /// The values with a role come in reading order and apart: none twice, none inside another. They are the
 /// holes of the skeleton, and no ancestor of a place with a role has one.
@@ -51,7 +52,8 @@ pub fn equal_blanks()
 
 /// The places of a command, each read from the chain of its ancestors, are the places that one descent visits,
 /// in the same order; so are their stations, offences, roles and the first refusal. The marked command is the command
-/// with the marking of its value at each place with a role.
+/// with the marking of its value at each place with a role. The place of a refusal's offset is the first place that is
+/// refused, and that of a field of the command is its number.
 pub fn by_place()
     ensures visits { (rows : List Row) (c : Items) → map (visit_at rows c) (places c) ≡ map Some (command_visits rows c) }
     ensures stations { (rows : List Row) (c : Items) → map (station_at rows c) (places c) ≡ map (λ v. Some (station_of rows v)) (command_visits rows c) }
@@ -59,4 +61,6 @@ pub fn by_place()
     ensures roles { (rows : List Row) (c : Items) → roles rows c ≡ flat_map (mark_of rows c) (places c) }
     ensures marked { (rows : List Row) (c : Items) → marked rows c ≡ filled (marking_of rows c) c }
     ensures verdict { (rows : List Row) (c : Items) → first_refusal rows (command_visits rows c) ≡ first_of (map (refusal_at rows c) (places c)) }
+    ensures told { (rows : List Row) (c : Items) → option_map (told c) (first_refusal rows (command_visits rows c)) ≡ first_refused rows c (places c) }
+    ensures fields { (c : Items) (k : ℕ) (field : CommandField) → slice_get (command_fields 4 c) k ≡ Some field → place_of field.start c ≡ k ∷ [] }
 {}
