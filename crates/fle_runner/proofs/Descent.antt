@@ -2,11 +2,13 @@
 use Rattle.std.proofs.Common.{◌≡◌, ℕ, zero, suc, ◌+◌, ◌<◌, ◌≤◌, Bool, true, false, cond, eqb, List, [], ◌∷◌, length, Option, Some, None, refl, sym, ap, subst, ◌∙◌, inl, inr, ◌⊎◌, arith}
 use Rattle.std.specs.Prelude.{option_map, ◌||◌, ◌&&◌, nat_lt}
 use Rattle.std.proofs.lemmas.Bool.{eqb-true, ne_eqb}
-use Rattle.std.proofs.lemmas.Bool.Decides.{nat_tests, eqb_tells}
+use Rattle.std.proofs.lemmas.Bool.Decides.{nat_tests}
 use Rattle.bson_tree.specs.Tree.{Tree, Items, leaf, node, no_items, item}
 use Rattle.bson_tree.specs.Spelling.{value_bytes, items_bytes}
-use Rattle.bson_tree.specs.Places.{start_in, start_from, start_of}
-use Rattle.bson_codec.proofs.Frames.{framed_length, element_length}
+use Rattle.bson_tree.specs.Places.{start_in, start_from}
+use Rattle.bson_codec.proofs.Frames.{framed_length}
+use Rattle.bson_codec.proofs.Offsets.{within_from}
+use Rattle.bson_codec.proofs.Spots.{same}
 use Rattle.bson_codec.specs.Raw.{has_inside, holds}
 use Rattle.fle_runner.specs.Descent.{spot_in, spot_from}
 
@@ -19,44 +21,6 @@ some_is m n e = cc
 chosen : {X : Type 0} (b : Bool) (here there goal : X) → cond b here there ≡ goal → ((b ≡ true) × (here ≡ goal)) ⊎ ((b ≡ false) × (there ≡ goal))
 chosen true here there goal e = inl (refl, e)
 chosen false here there goal e = inr (refl, e)
-
-pub same : (n : ℕ) → eqb n n ≡ true
-same n = elim (eqb_tells n n) [ inl h ↦ h.0 | inr h ↦ absurd (h.1 refl) ]
-
--- ---- where the values inside begin
-
--- an offset within a value that begins at `at` and has so many bytes
-record Within (at size offset : ℕ) : Type 0 where
-  from : at ≤ offset
-  to : offset ≤ at + size
-
--- an offset of a value among elements that begin at `at` and have so many bytes
-record Among (at size offset : ℕ) : Type 0 where
-  from : at + 2 ≤ offset
-  to : offset ≤ at + size
-
-mutual
-  within_in : (place : List ℕ) (at : ℕ) (t : Tree) (offset : ℕ) → start_in place at t ≡ Some offset → Within at (length (value_bytes t)) offset
-  within_in [] at (leaf tag bytes) offset e = let is = some_is at offset e in record { from = omega arith; to = omega arith }
-  within_in [] at (node tag is) offset e = let same = some_is at offset e in record { from = omega arith; to = omega arith }
-  within_in (i ∷ place) at (leaf tag bytes) offset e = absurd cc
-  within_in (i ∷ place) at (node tag is) offset e =
-      let inside = within_from i place (at + 4) is offset e in
-      record { from = omega (arith, inside.from); to = omega (arith, inside.to, framed_length (items_bytes is)) }
-
-  within_from : (i : ℕ) (place : List ℕ) (at : ℕ) (is : Items) (offset : ℕ) → start_from i place at is ≡ Some offset → Among at (length (items_bytes is)) offset
-  within_from i place at no_items offset e = absurd cc
-  within_from zero place at (item name t is) offset e =
-      let inside = within_in place (at + (2 + length name)) t offset e in
-      record { from = omega (arith, inside.from); to = omega (arith, inside.to, element_length name t is) }
-  within_from (suc i) place at (item name t is) offset e =
-      let behind = within_from i place (at + (2 + length name) + length (value_bytes t)) is offset e in
-      record { from = omega (arith, behind.from); to = omega (arith, behind.to, element_length name t is) }
-
--- no value of a document begins before its first type byte and the 00 of its name
-pub after_head : (is : Items) (place : List ℕ) (at : ℕ) → start_of place is ≡ Some at → 6 ≤ at
-after_head is [] at e = absurd cc
-after_head is (i ∷ place) at e = let inside = within_from i place 4 is at e in omega (arith, inside.from)
 
 -- ---- which element holds an offset
 

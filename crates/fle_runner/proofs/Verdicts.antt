@@ -18,9 +18,9 @@ use Rattle.encrypt_schema.proofs.Unmarked.{no_rows_no_roles}
 use Rattle.command_marker.specs.Commands.{AimsAt, collection_in, is_command, is_unbuilt, target_refusal, unbuilt}
 use Rattle.command_marker.specs.Marked.{marked, marking_at}
 use Rattle.command_marker.specs.Reply.{reply, reply_clear_to, reply_to}
-use Rattle.fle_runner.specs.Mark.{Tells, as_built, mark_refusal, mark_verdict, verdict_by, verdict_into, verdict_under}
+use Rattle.fle_runner.specs.Mark.{Tells, as_built, mark_refusal, mark_verdict, reply_for, verdict_by, verdict_into, verdict_under}
 use Rattle.fle_runner.specs.Plan.{refused}
-use Rattle.fle_runner.specs.Spots.{place_of}
+use Rattle.bson_tree.specs.Places.{place_of}
 use Rattle.fle_runner.proofs.Reasons.{IsBuilt, contents_built, first_built, later_built, either_built, told_as_it_is}
 
 -- ---- the reply to a command that no rule concerns
@@ -139,7 +139,7 @@ refusal_stays db infos (item name t is) r h = refusal_by db infos name t is r (i
 pub fields_told : (db : List ℕ) (infos : List Collection) (c : Items) (fault : MarkFault) → AimsAt db c (Err fault) → Tells fault c (mark_verdict infos db c)
 unfolding mark_verdict
 fields_told db infos c (faults.Refused reason at) h =
-    ap (verdict_by c (reply_to (rows_of infos c) c)) (refusal_stays db infos c (record { reason = reason; at = at }) h)
+    ap (verdict_by c (reply_for infos c)) (refusal_stays db infos c (record { reason = reason; at = at }) h)
 fields_told db infos c faults.Memory h = absurd h
 
 -- the first field of a marked command that isn't refused is a string
@@ -188,7 +188,8 @@ into_collection db infos name t is built target_free insert =
     target_is db infos name t is passed
     ∙ ap (λ (o : Option Refusal). or_else o (view_refusal (is_view (named_by infos (command_fields 4 c))) start)) fields
     ∙ ap (λ (o : Option Collection). view_refusal (is_view o) start) found in
-    ap (λ (b : Bool). verdict_by c (reply_to (rows_of infos c) c) (or_else (cond b (Some (record { reason = NotBuilt; at = 0 })) None) (option_map as_built (verdict db infos c)))) built
+    ap (λ (b : Bool). verdict_by c (cond b (reply_clear_to c) (reply_to (rows_of infos c) c)) (mark_refusal infos db c)) passed
+    ∙ ap (λ (b : Bool). verdict_by c (reply_to (rows_of infos c) c) (or_else (cond b (Some (record { reason = NotBuilt; at = 0 })) None) (option_map as_built (verdict db infos c)))) built
     ∙ ap (λ (o : Option Refusal). verdict_by c (reply_to (rows_of infos c) c) (option_map as_built (or_else o (content_verdict (rows_of infos c) c)))) aims
     ∙ ap (λ (o : Option Collection). verdict_by c (reply_to (rows_in o) c) (option_map as_built (or_else (view_refusal (is_view info) start) (content_verdict (rows_in o) c)))) found
     ∙ into info c start

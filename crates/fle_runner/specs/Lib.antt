@@ -10,7 +10,6 @@ pub mod Line
 pub mod Task
 pub mod Files
 pub mod Words
-pub mod Spots
 pub mod Descent
 pub mod Mark
 pub mod Verbs

@@ -9,7 +9,7 @@ ghost use Rattle.fle_runner.specs.Did.{Did};
 ghost use Rattle.fle_runner.specs.Judge.{JudgeIs};
 ghost use Rattle.fle_runner.specs.Mark.{Tells, infos_why, mark_task, mark_verdict, sized, verdict_into, verdict_under};
 ghost use Rattle.fle_runner.specs.Plan.{Verdict, refused, size_of};
-ghost use Rattle.fle_runner.specs.Spots.{place_of};
+ghost use Rattle.bson_tree.specs.Places.{place_of};
 ghost use Rattle.fle_runner.specs.Task.{outcome_of};
 
 use crate::end::End;

@@ -1,7 +1,7 @@
 //! The place of the value that begins at an offset of a document.
 
 ghost use Rattle.std.specs.Prelude.{◌≡◌, IfOk};
-ghost use Rattle.fle_runner.specs.Spots.{place_of};
+ghost use Rattle.bson_tree.specs.Places.{place_of};
 
 use bson_codec::RawDoc;
 use bson_tree::Place;

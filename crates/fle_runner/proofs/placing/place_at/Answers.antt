@@ -1,7 +1,7 @@
 -- The way ends at the value, in a raw value, or at an offset that no element holds; else it goes on.
 use Rattle.std.proofs.Common.{◌≡◌, ℕ, ◌+◌, List, [], ◌∷◌, ◌++◌, IfOk, sym, subst, ◌∙◌, arith}
 use Rattle.std.proofs.lemmas.Grind.{common_steps}
-use Rattle.fle_runner.specs.Spots.{place_of}
+use Rattle.bson_tree.specs.Places.{place_of}
 use Rattle.fle_runner.proofs.Spots.{place_is, ends_nowhere, ends_here, ends_in_leaf, goes_on, is_smaller}
 use Rattle.fle_runner.proofs.placing.place_at.Goals as goal
 use Rattle.fle_runner.proofs.placing.place_at.Goals.{in-Some+else-is_err+else-start-at+in-None, in_default}

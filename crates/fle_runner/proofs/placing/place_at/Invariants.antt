@@ -2,7 +2,7 @@
 use Rattle.std.proofs.Common.{◌≡◌, ◌+◌}
 use Rattle.bson_tree.specs.Tree.{items_size}
 use Rattle.fle_runner.specs.Descent.{spot_from, below}
-use Rattle.fle_runner.specs.Spots.{place_of}
+use Rattle.bson_tree.specs.Places.{place_of}
 use Rattle.fle_runner.proofs.placing.place_at.Given as goal
 
 abbrev pub invariant-loop-number : goal.invariant-loop-number
