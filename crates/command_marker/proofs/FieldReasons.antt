@@ -43,28 +43,27 @@ unfolding offence
 own_offence rows c b stands has =
     ap (λ (s : Station). least (command_lacks s (names_of c))) stands ∙ ap (λ (x : Bool). least (when (not x) BadField)) has
 
-pub without_documents : (rows : List Row) (c : Items) → is_command (codes "insert") c ≡ true → is_among (codes "documents") (names_of c) ≡ false
-    → first_refusal rows (command_visits rows c) ≡ Some (record { reason = BadField; at = 0 })
-without_documents rows c insert has =
-    ap (λ (r : Option Reason). or_else (refused_at 0 r) (first_refusal rows (visits rows (command_of (names_of c)) 4 [] c))) (own_offence rows c false (insert_station c insert) has)
+pub without_documents : (rows : List Row) (at : ℕ) (c : Items) → is_command (codes "insert") c ≡ true → is_among (codes "documents") (names_of c) ≡ false
+    → first_refusal rows (command_visits rows at c) ≡ Some (record { reason = BadField; at = 0 })
+without_documents rows at c insert has =
+    ap (λ (r : Option Reason). or_else (refused_at 0 r) (first_refusal rows (visits rows (command_of (names_of c)) (at + 4) [] c))) (own_offence rows c false (insert_station c insert) has)
 
 -- the places of an insert that states `documents`: those of its fields
 pub with_documents : (rows : List Row) (command : At) (before after : List Mark) (result : Result (Unit {0}) MarkFault)
-    → is_command (codes "insert") command.tree ≡ true → is_among (codes "documents") (names_of command.tree) ≡ true → command.start ≡ 0
+    → is_command (codes "insert") command.tree ≡ true → is_among (codes "documents") (names_of command.tree) ≡ true
     → Marked rows (visits rows Insert (command.start + 4) [] command.tree) before after result
-    → Marked rows (command_visits rows command.tree) before after result
-with_documents rows command before after result insert has whole told =
+    → Marked rows (command_visits rows command.start command.tree) before after result
+with_documents rows command before after result insert has told =
     let c = command.tree in
+    let at = command.start + 4 in
     let stands = insert_station c insert in
-    let four = ap (λ (n : ℕ). visits rows Insert (n + 4) [] c) whole in
     told_as _ _ _ _ before after result
-    (ap (marks rows) four ∙ sym (ap (λ (s : Station). mark_at s (command_visit c) ++ marks rows (visits rows s 4 [] c)) stands))
-    (ap (first_refusal rows) four
-    ∙ sym (ap (λ (s : Station). first_refusal rows (visits rows s 4 [] c)) stands)
-    ∙ sym (ap (λ (r : Option Reason). or_else (refused_at 0 r) (first_refusal rows (visits rows (command_of (names_of c)) 4 [] c))) (own_offence rows c true stands has)))
+    (sym (ap (λ (s : Station). mark_at s (command_visit c) ++ marks rows (visits rows s at [] c)) stands))
+    (sym (ap (λ (s : Station). first_refusal rows (visits rows s at [] c)) stands)
+    ∙ sym (ap (λ (r : Option Reason). or_else (refused_at 0 r) (first_refusal rows (visits rows (command_of (names_of c)) at [] c))) (own_offence rows c true stands has)))
     told
 
 -- without rules a command has no marks and isn't refused
-pub no_rows : (rows : List Row) (c : Items) → length rows ≡ 0 → TellsMarks rows c (Ok [])
-no_rows [] c e = (sym (no_rows_no_roles c), refl)
+pub no_rows : (rows : List Row) (c : At) → length rows ≡ 0 → TellsMarks rows c (Ok [])
+no_rows [] c e = (sym (no_rows_no_roles c.start c.tree), refl)
 no_rows (row ∷ rows) c e = absurd (omega (arith, e))

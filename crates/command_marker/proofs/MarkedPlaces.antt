@@ -4,15 +4,15 @@ use Rattle.std.proofs.lemmas.Bool.{eq-eqb}
 use Rattle.std.proofs.lemmas.List.{append-nil}
 use Rattle.std.specs.Prelude.{◌==◌}
 use Rattle.bson_tree.specs.Tree.{Tree, leaf, node, Items, no_items, item}
-use Rattle.bson_tree.specs.Places.{start_of, tree_at, value_at}
+use Rattle.bson_tree.specs.Places.{tree_at, value_at}
 use Rattle.bson_tree.specs.Spelling.{framed, value_bytes, items_bytes}
 use Rattle.bson_tree.specs.Filled.{fill_tree, fill_items, filled_in, filled_from, filled}
 use Rattle.encrypt_schema.specs.declared.marks.Mark.{Mark}
-use Rattle.encrypt_schema.specs.Chains.{Chain, onward, Link, link, chain_in, chain_from, parent_along, last_of, visit_along, width_at}
+use Rattle.encrypt_schema.specs.Chains.{Chain, onward, Link, link, chain_in, chain_from, parent_along, last_of, station_along}
 use Rattle.encrypt_schema.specs.Policies.{policy_at}
 use Rattle.encrypt_schema.specs.Row.{Row}
 use Rattle.encrypt_schema.specs.Stations.{Station, Outside, Store, Compare, station, has_role}
-use Rattle.encrypt_schema.specs.Visits.{entry, command_entry, Visit, visit, mark_at, marks, roles, station_of}
+use Rattle.encrypt_schema.specs.Visits.{entry, command_entry, Visit, visit, mark_at, marks, roles}
 use Rattle.encrypt_schema.proofs.Worlds.{shown_in, shown}
 use Rattle.encrypt_schema.proofs.Apart.{own_marks, roles_shown}
 use Rattle.encrypt_schema.proofs.Taken.{marks_item, takes_among, takes_value}
@@ -23,7 +23,6 @@ use Rattle.command_marker.specs.Marked.{marking_at, marked}
 use Rattle.command_marker.specs.MarkedPlaces.{rule_of, marking_of}
 use Rattle.command_marker.specs.Splices.{put_at}
 use Rattle.command_marker.specs.Written.{marked_by}
-use Rattle.command_marker.proofs.Planned.{put_marking}
 use Rattle.command_marker.proofs.Splices.{alike, none_put, passed_in}
 
 -- the marking under a rule
@@ -85,21 +84,26 @@ mutual
       cc
 
 -- the marking at a place of a command is that at the end of its chain
-at_links : (rows : List Row) (l : Link) (start width : ℕ) (value : Option Tree) (links : Option Chain)
+at_links : (rows : List Row) (l : Link) (value : Option Tree) (links : Option Chain)
     → option_and_then
     (λ i. option_map (marked_value (policy_at i rows)) value)
-    (option_and_then rule_of (option_map (station_of rows) (option_map (visit_along rows Outside start width) (option_map (onward l) links))))
+    (option_and_then rule_of (option_map (station_along rows Outside) (option_map (onward l) links)))
     ≡ marking_along rows (station rows Outside l.entry) links value
-at_links rows l start width value None = refl
-at_links rows l start width value (Some links) = refl
+at_links rows l value None = refl
+at_links rows l value (Some links) = refl
 
 covered_filled : (rows : List Row) (c : Items) → filled (marking_of rows c) c ≡ covered rows (station rows Outside (command_entry c)) c
 covered_filled rows c =
     placed_from rows (station rows Outside (command_entry c)) [] 0 c (marking_of rows c)
     (λ j k place e. ap (λ (n : ℕ). marking_of rows c (n ∷ place)) (omega (arith, e))
-    ∙ at_links rows (link [] [] (node 3 c)) (unwrap_or (start_of (k ∷ place) c) 0) (width_at (k ∷ place) (node 3 c)) (value_at (k ∷ place) c) (chain_from [] k place c))
+    ∙ at_links rows (link [] [] (node 3 c)) (value_at (k ∷ place) c) (chain_from [] k place c))
 
 -- ---- and so it is by offsets
+
+-- the marking at an offset is what the first mark there puts in
+pub put_marking : (rows : List Row) (ms : List Mark) (q : ℕ) (u : Tree) → put_at (marked_by rows) ms q u ≡ marking_at rows ms q u
+put_marking rows [] q u = refl
+put_marking rows (m ∷ ms) q u = ap (λ (o : Option Tree). cond (m.start == q) (Some (marked_by rows m u)) o) (put_marking rows ms q u)
 
 filled_leaf : (rows : List Row) (u : Station) (v : Visit) (tag : ℕ) (bytes : List ℕ) (inside rest : List Mark)
     → (has_role u ≡ false → AreBehind v.start (inside ++ rest))
@@ -163,17 +167,22 @@ mutual
       ap (λ (ms : List Mark). fill_items (put_at (marked_by rows) ms) at (item name t is)) (marks_item rows s at elder name t is rest)
       ∙ ap₂ (λ (v : Tree) (js : Items). item name v js) first others
 
-marked_roles : (rows : List Row) (c : Items) → marked rows c ≡ fill_items (marking_at rows (roles rows c)) 4 c
-unfolding marked
-marked_roles rows c = refl
-
--- the marked command is the command filled with the markings at its places
-pub marked_filled : (rows : List Row) (c : Items) → marked rows c ≡ filled (marking_of rows c) c
-marked_filled rows c =
+-- a command filled with the markings of its marks, wherever it begins
+covered_roles : (rows : List Row) (at : ℕ) (c : Items)
+    → fill_items (marking_at rows (roles rows at c)) (at + 4) c ≡ covered rows (station rows Outside (command_entry c)) c
+covered_roles rows at c =
     let s = station rows Outside (command_entry c) in
-    marked_roles rows c
-    ∙ ap (λ (ms : List Mark). fill_items (marking_at rows ms) 4 c) (roles_shown rows c ∙ sym (append-nil (marks rows (shown rows s 4 [] c))))
-    ∙ sym (alike (put_at (marked_by rows) (marks rows (shown rows s 4 [] c) ++ [])) (marking_at rows (marks rows (shown rows s 4 [] c) ++ [])) 4
-    (λ q u h. put_marking rows (marks rows (shown rows s 4 [] c) ++ []) q u) 4 c (omega arith))
-    ∙ offsets_among rows s 4 [] c [] tt
-    ∙ sym (covered_filled rows c)
+    let p = at + 4 in
+    ap (λ (ms : List Mark). fill_items (marking_at rows ms) p c) (roles_shown rows at c ∙ sym (append-nil (marks rows (shown rows s p [] c))))
+    ∙ sym (alike (put_at (marked_by rows) (marks rows (shown rows s p [] c) ++ [])) (marking_at rows (marks rows (shown rows s p [] c) ++ [])) p
+    (λ q u h. put_marking rows (marks rows (shown rows s p [] c) ++ []) q u) p c (omega arith))
+    ∙ offsets_among rows s p [] c [] tt
+
+-- the marked command is the command filled with the markings of its marks, wherever it begins
+pub marked_roles : (rows : List Row) (at : ℕ) (c : Items) → marked rows c ≡ fill_items (marking_at rows (roles rows at c)) (at + 4) c
+unfolding marked
+marked_roles rows at c = covered_roles rows 0 c ∙ sym (covered_roles rows at c)
+
+-- and the command filled with the markings at its places
+pub marked_filled : (rows : List Row) (c : Items) → marked rows c ≡ filled (marking_of rows c) c
+marked_filled rows c = marked_roles rows 0 c ∙ covered_roles rows 0 c ∙ sym (covered_filled rows c)

@@ -1,13 +1,13 @@
 -- The marks of a command are a plan by which it is marked.
-use Rattle.std.proofs.Common.{◌≡◌, ◌∙◌, ℕ, ◌+◌, ◌≤◌, cond, Bool, List, [], ◌∷◌, ◌++◌, length, drop, Option, Some, arith, refl, ap, sym, subst, Err}
+use Rattle.std.proofs.Common.{◌≡◌, ◌∙◌, ℕ, ◌+◌, ◌≤◌, Bool, List, [], ◌∷◌, ◌++◌, length, drop, arith, ap, sym, subst, Err}
 use Rattle.std.proofs.lemmas.List.{drop-drop}
 use Rattle.encrypt_schema.specs.declared.policy.Policy.{Policy}
 use Rattle.command_marker.specs.declared.stop.ReplyFault.{ReplyFault}
 use Rattle.command_marker.specs.Reply.{reply, reply_limit, RepliesAs}
-use Rattle.std.specs.Prelude.{◌==◌}
-use Rattle.bson_tree.specs.Tree.{Tree, Items}
+use Rattle.bson_tree.specs.Tree.{Items}
 use Rattle.bson_tree.specs.Spelling.{items_bytes, doc_bytes}
 use Rattle.bson_tree.specs.Filled.{fill_items}
+use Rattle.bson_codec.specs.Raw.{At}
 use Rattle.encrypt_schema.specs.declared.marks.Mark.{Mark}
 use Rattle.encrypt_schema.specs.Policies.{policy_at}
 use Rattle.encrypt_schema.specs.Row.{Row}
@@ -20,72 +20,65 @@ use Rattle.command_marker.specs.Marked.{marking_at, marked}
 use Rattle.command_marker.specs.Splices.{spliced, added, put_at}
 use Rattle.command_marker.specs.Written.{AreRuled, IsPlan, SizesAs, growth, growth_by, marked_by, reply_end, reply_head}
 use Rattle.command_marker.proofs.Lengths.{framed_size, marking_size}
+use Rattle.command_marker.proofs.MarkedPlaces.{put_marking, marked_roles}
 use Rattle.command_marker.proofs.Replies.{refused, replied, reply_size}
 use Rattle.command_marker.proofs.Splices.{alike, spliced_items}
-
--- the marking at an offset is what the first mark there puts in
-pub put_marking : (rows : List Row) (ms : List Mark) (q : ℕ) (u : Tree) → put_at (marked_by rows) ms q u ≡ marking_at rows ms q u
-put_marking rows [] q u = refl
-put_marking rows (m ∷ ms) q u = ap (λ (o : Option Tree). cond (m.start == q) (Some (marked_by rows m u)) o) (put_marking rows ms q u)
 
 ruled : (rows : List Row) (ms : List Mark) → numbers.AreRuled (length rows) ms → AreRuled rows ms
 ruled rows [] h = tt
 ruled rows (m ∷ ms) h = (h.0, ruled rows ms h.1)
 
--- marks at values of the command
-planned_by : (rows : List Row) (c : Items) (ms : List Mark) → Takes 4 c ms []
-    → (spliced (marked_by rows) 4 ms c ≡ fill_items (marking_at rows ms) 4 c)
-    × (length (items_bytes (spliced (marked_by rows) 4 ms c)) ≡ length (items_bytes c) + added (growth_by rows) ms)
-planned_by rows c ms taken =
+-- marks at values of elements that begin at `at`
+planned_by : (rows : List Row) (at : ℕ) (c : Items) (ms : List Mark) → Takes at c ms []
+    → (spliced (marked_by rows) at ms c ≡ fill_items (marking_at rows ms) at c)
+    × (length (items_bytes (spliced (marked_by rows) at ms c)) ≡ length (items_bytes c) + added (growth_by rows) ms)
+planned_by rows at c ms taken =
     let s = spliced_items (marked_by rows) (growth_by rows) (λ m t. marking_size (policy_at m.policy rows) t) taken tt in (
-      s.made ∙ alike (put_at (marked_by rows) ms) (marking_at rows ms) 4 (λ q u h. put_marking rows ms q u) 4 c (omega arith),
+      s.made ∙ alike (put_at (marked_by rows) ms) (marking_at rows ms) at (λ q u h. put_marking rows ms q u) at c (omega arith),
       omega (arith, s.size),
     )
 
-marked_here : (rows : List Row) (c : Items) → fill_items (marking_at rows (roles rows c)) 4 c ≡ marked rows c
-unfolding marked
-marked_here rows c = refl
-
 -- the marks of a command
-planned_roles : (rows : List Row) (c : Items) → IsPlan rows c (roles rows c)
+planned_roles : (rows : List Row) (c : At) → IsPlan rows c (roles rows c.start c.tree)
 planned_roles rows c =
-    let both = planned_by rows c (roles rows c) (roles_taken rows c) in
+    let ms = roles rows c.start c.tree in
+    let both = planned_by rows (c.start + 4) c.tree ms (roles_taken rows c.start c.tree) in
     record {
-      ruled = ruled rows (roles rows c) (roles_ruled rows c);
-      few = omega (arith, few_roles rows c);
-      made = both.0 ∙ marked_here rows c;
+      ruled = ruled rows ms (roles_ruled rows c.start c.tree);
+      few = omega (arith, few_roles rows c.start c.tree);
+      made = both.0 ∙ sym (marked_roles rows c.start c.tree);
       size = both.1;
     }
 
-pub planned : (rows others : List Row) (c d : Items) (ms : List Mark) → rows ≡ others → c ≡ d → ms ≡ roles others d → IsPlan rows c ms
+pub planned : (rows others : List Row) (c d : At) (ms : List Mark) → rows ≡ others → c ≡ d → ms ≡ roles others d.start d.tree → IsPlan rows c ms
 planned rows others c d ms p q e =
     subst (λ (rs : List Row). IsPlan rs c ms) (sym p)
-    (subst (λ (is : Items). IsPlan others is ms) (sym q) (subst (λ (ns : List Mark). IsPlan others d ns) (sym e) (planned_roles others d)))
+    (subst (λ (x : At). IsPlan others x ms) (sym q) (subst (λ (ns : List Mark). IsPlan others d ns) (sym e) (planned_roles others d)))
 
 -- how long the marked command is
-marked_size : (rows : List Row) (c : Items) (ms : List Mark) → IsPlan rows c ms
-    → length (doc_bytes (marked rows c)) ≡ length (doc_bytes c) + added (growth_by rows) ms
+marked_size : (rows : List Row) (c : At) (ms : List Mark) → IsPlan rows c ms
+    → length (doc_bytes (marked rows c.tree)) ≡ length (doc_bytes c.tree) + added (growth_by rows) ms
 marked_size rows c ms plan =
     let same = ap (λ (is : Items). length (items_bytes is)) plan.made in
-    omega (arith, same, plan.size, framed_size (items_bytes c), framed_size (items_bytes (marked rows c)))
+    omega (arith, same, plan.size, framed_size (items_bytes c.tree), framed_size (items_bytes (marked rows c.tree)))
 
 -- what was written is the reply to the marked command
-pub marked_replied : (rows : List Row) (c : Items) (ms : List Mark) (some ruled : Bool) (size : ℕ) (out : List ℕ) → IsPlan rows c ms
-    → (size ≡ length (doc_bytes c) + added (growth_by rows) ms + 80) × (length (doc_bytes c) + added (growth_by rows) ms + 80 ≤ reply_limit)
-    → out ≡ (reply_head size some ruled ++ doc_bytes (marked rows c)) ++ reply_end
-    → (out ≡ reply some ruled (marked rows c)) × (length (reply some ruled (marked rows c)) ≤ reply_limit)
+pub marked_replied : (rows : List Row) (c : At) (ms : List Mark) (some ruled : Bool) (size : ℕ) (out : List ℕ) → IsPlan rows c ms
+    → (size ≡ length (doc_bytes c.tree) + added (growth_by rows) ms + 80) × (length (doc_bytes c.tree) + added (growth_by rows) ms + 80 ≤ reply_limit)
+    → out ≡ (reply_head size some ruled ++ doc_bytes (marked rows c.tree)) ++ reply_end
+    → (out ≡ reply some ruled (marked rows c.tree)) × (length (reply some ruled (marked rows c.tree)) ≤ reply_limit)
 marked_replied rows c ms some ruled size out plan fits written =
     let long = marked_size rows c ms plan in
-    replied some ruled (marked rows c) size out (omega (arith, long, fits.0), omega (arith, long, fits.1)) written
+    replied some ruled (marked rows c.tree) size out (omega (arith, long, fits.0), omega (arith, long, fits.1)) written
 
 -- or it is too long
-pub marked_refused : (rows : List Row) (c : Items) (ms : List Mark) (some ruled : Bool) (fault : ReplyFault) → IsPlan rows c ms
-    → SizesAs (length (doc_bytes c) + added (growth_by rows) ms + 80) (Err fault)
-    → RepliesAs (reply some ruled (marked rows c)) (Err fault)
+pub marked_refused : (rows : List Row) (c : At) (ms : List Mark) (some ruled : Bool) (fault : ReplyFault) → IsPlan rows c ms
+    → SizesAs (length (doc_bytes c.tree) + added (growth_by rows) ms + 80) (Err fault)
+    → RepliesAs (reply some ruled (marked rows c.tree)) (Err fault)
 marked_refused rows c ms some ruled fault plan told =
-    let long : length (reply some ruled (marked rows c)) ≡ length (doc_bytes c) + added (growth_by rows) ms + 80
-    = omega (arith, reply_size some ruled (marked rows c), marked_size rows c ms plan) in
-    refused (reply some ruled (marked rows c)) (length (doc_bytes c) + added (growth_by rows) ms + 80) fault long told
+    let long : length (reply some ruled (marked rows c.tree)) ≡ length (doc_bytes c.tree) + added (growth_by rows) ms + 80
+    = omega (arith, reply_size some ruled (marked rows c.tree), marked_size rows c ms plan) in
+    refused (reply some ruled (marked rows c.tree)) (length (doc_bytes c.tree) + added (growth_by rows) ms + 80) fault long told
 
 -- the growth at a number is what the mark there adds
 pub added_at : (rows : List Row) (ms : List Mark) (i : ℕ) (m : Mark) (n : ℕ) (policy : Policy) → drop i ms ≡ m ∷ drop (i + 1) ms → n ≡ growth policy → policy ≡ policy_at m.policy rows

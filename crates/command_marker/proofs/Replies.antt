@@ -2,11 +2,15 @@
 use Rattle.std.proofs.Common.{◌≡◌, ◌∙◌, ℕ, ◌+◌, ◌≤◌, ◌<◌, List, [], ◌∷◌, ◌++◌, length, arith, ap, sym, subst, append_assoc, refl, Result, Err}
 use Rattle.std.specs.Prelude.{Bool, false, codes, nat_lt, Vec}
 use Rattle.std.specs.Global.{Global}
+use Rattle.std.proofs.lemmas.List.{length-map}
 use Rattle.std.specs.Int.{to_le_bytes, w32}
 use Rattle.bson_tree.specs.Tree.{Items, node, no_items, item}
 use Rattle.bson_tree.specs.Spelling.{items_bytes, doc_bytes}
 use Rattle.encrypt_schema.specs.declared.marks.Mark.{Mark}
+use Rattle.bson_codec.specs.Raw.{At}
 use Rattle.encrypt_schema.specs.Row.{Row}
+use Rattle.encrypt_schema.specs.Chains.{use_of_mark}
+use Rattle.encrypt_schema.proofs.Sites.{marks_of_sites}
 use Rattle.encrypt_schema.specs.Visits.{roles}
 use Rattle.command_marker.specs.declared.stop.ReplyFault.{ReplyFault}
 use Rattle.command_marker.specs.declared.stop.ReplyFault.TheVariants as faults
@@ -86,11 +90,18 @@ pub clear_is : (command : Items) → reply_clear_to command ≡ reply false fals
 unfolding reply_clear_to
 clear_is command = refl
 
+-- a command has as many marks wherever it begins
+as_many : (rows : List Row) (at : ℕ) (c : Items) → length (roles rows at c) ≡ length (roles rows 0 c)
+as_many rows at c =
+    sym (length-map (roles rows at c) use_of_mark)
+    ∙ ap length (marks_of_sites rows at c ∙ sym (marks_of_sites rows 0 c))
+    ∙ length-map (roles rows 0 c) use_of_mark
+
 -- the reply to a command with its marks
-pub marked_is : (rows others : List Row) (c d : Items) (ms : List Mark) (result : Result (Vec ℕ Global) ReplyFault) → rows ≡ others → c ≡ d → ms ≡ roles others d
-    → RepliesAs (reply (nat_lt 0 (length ms)) (nat_lt 0 (length rows)) (marked rows c)) result → RepliesAs (reply_to others d) result
+pub marked_is : (rows others : List Row) (c d : At) (ms : List Mark) (result : Result (Vec ℕ Global) ReplyFault) → rows ≡ others → c ≡ d → ms ≡ roles others d.start d.tree
+    → RepliesAs (reply (nat_lt 0 (length ms)) (nat_lt 0 (length rows)) (marked rows c.tree)) result → RepliesAs (reply_to others d.tree) result
 unfolding reply_to
 marked_is rows others c d ms result p q e told =
-    subst (λ (ns : List Mark). RepliesAs (reply (nat_lt 0 (length ns)) (nat_lt 0 (length others)) (marked others d)) result) e
-    (subst (λ (is : Items). RepliesAs (reply (nat_lt 0 (length ms)) (nat_lt 0 (length others)) (marked others is)) result) q
-    (subst (λ (rs : List Row). RepliesAs (reply (nat_lt 0 (length ms)) (nat_lt 0 (length rs)) (marked rs c)) result) p told))
+    subst (λ (n : ℕ). RepliesAs (reply (nat_lt 0 n) (nat_lt 0 (length others)) (marked others d.tree)) result) (ap length e ∙ as_many others d.start d.tree)
+    (subst (λ (x : At). RepliesAs (reply (nat_lt 0 (length ms)) (nat_lt 0 (length others)) (marked others x.tree)) result) q
+    (subst (λ (rs : List Row). RepliesAs (reply (nat_lt 0 (length ms)) (nat_lt 0 (length rs)) (marked rs c.tree)) result) p told))

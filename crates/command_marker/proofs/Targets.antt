@@ -60,30 +60,30 @@ first_false true q e = absurd (false≢true (sym e))
 first_false false q e = e
 
 -- the document without a field is no command
-pub target_none : (db : List ℕ) (c : Items) → c ≡ no_items → target_refusal db c ≡ Some (record { reason = NotACommand; at = 0 })
+pub target_none : (db : List ℕ) (at : ℕ) (c : Items) → c ≡ no_items → target_refusal db at c ≡ Some (record { reason = NotACommand; at = 0 })
 unfolding target
-target_none db c e = ap (target_refusal db) e
+target_none db at c e = ap (target_refusal db at) e
 
 -- commands that aren't built are refused before all else
-pub target_unbuilt : (db : List ℕ) (c : Items) (left rest : At) (e : Elem) → TakesElement left (Some e) rest → c ≡ left.tree → is_unbuilt e.name ≡ true
-    → target_refusal db c ≡ Some (record { reason = NotBuilt; at = 0 })
-target_unbuilt db c left rest e taken is h =
-    ap (target_refusal db) (is ∙ taken.0)
-    ∙ ap (λ (b : Bool). or_else (cond b (Some (record { reason = NotBuilt; at = 0 })) None) (target db [] (item e.name e.tree rest.tree))) h
+pub target_unbuilt : (db : List ℕ) (at : ℕ) (c : Items) (left rest : At) (e : Elem) → TakesElement left (Some e) rest → c ≡ left.tree → is_unbuilt e.name ≡ true
+    → target_refusal db at c ≡ Some (record { reason = NotBuilt; at = 0 })
+target_unbuilt db at c left rest e taken is h =
+    ap (target_refusal db at) (is ∙ taken.0)
+    ∙ ap (λ (b : Bool). or_else (cond b (Some (record { reason = NotBuilt; at = 0 })) None) (target db [] at (item e.name e.tree rest.tree))) h
 
 -- the others by their fields
-pub target_built : (db : List ℕ) (c : Items) (left rest : At) (e : Elem) → TakesElement left (Some e) rest → c ≡ left.tree → left.start ≡ 4 → is_unbuilt e.name ≡ false
-    → target_refusal db c
+pub target_built : (db : List ℕ) (at : ℕ) (c : Items) (left rest : At) (e : Elem) → TakesElement left (Some e) rest → c ≡ left.tree → left.start ≡ at + 4 → is_unbuilt e.name ≡ false
+    → target_refusal db at c
     ≡ or_else (refused_at e.start (least (first_reasons (entry e.name e.tree)))) (later_refusal db e.name false (command_fields rest.start rest.tree))
 unfolding target
-target_built db c left rest e taken is four h =
+target_built db at c left rest e taken is begun h =
     let first : CommandField = record { entry = entry e.name e.tree; start = e.start } in
     let others = command_fields rest.start rest.tree in
     let refusal = or_else (refused_at e.start (least (first_reasons (entry e.name e.tree)))) (later_refusal db e.name false others) in
-    let fields : command_fields 4 (item e.name e.tree rest.tree) ≡ first ∷ others =
-    sym (ap (command_fields 4) taken.0) ∙ ap (λ (n : ℕ). command_fields n left.tree) (sym four) ∙ left_fields left rest e taken in
-    ap (target_refusal db) (is ∙ taken.0)
-    ∙ ap (λ (b : Bool). or_else (cond b (Some (record { reason = NotBuilt; at = 0 })) None) (target db [] (item e.name e.tree rest.tree))) h
+    let fields : command_fields (at + 4) (item e.name e.tree rest.tree) ≡ first ∷ others =
+    sym (ap (command_fields (at + 4)) taken.0) ∙ ap (λ (n : ℕ). command_fields n left.tree) (sym begun) ∙ left_fields left rest e taken in
+    ap (target_refusal db at) (is ∙ taken.0)
+    ∙ ap (λ (b : Bool). or_else (cond b (Some (record { reason = NotBuilt; at = 0 })) None) (target db [] at (item e.name e.tree rest.tree))) h
     ∙ ap (target_of db []) fields
     ∙ ap (λ (b : Bool). cond b None (or_else refusal (view_refusal (is_view (named_by [] (first ∷ others))) e.start))) (first_false _ _ h)
     ∙ ap (or_else refusal) (no_view first others e.start)
@@ -99,6 +99,6 @@ insert_left false false false true p q = absurd cc
 insert_left false false false false p q = absurd cc
 
 -- a refusal of the later fields is the command's
-pub aims_err : (db : List ℕ) (c : Items) (refusal : Option Refusal) (fault : MarkFault) → target_refusal db c ≡ refusal → Refuses refusal (Err fault) → AimsAt db c (Err fault)
+pub aims_err : (db : List ℕ) (c : At) (refusal : Option Refusal) (fault : MarkFault) → target_refusal db c.start c.tree ≡ refusal → Refuses refusal (Err fault) → AimsAt db c (Err fault)
 aims_err db c refusal (faults.Refused reason at) is told = is ∙ told
 aims_err db c refusal faults.Memory is told = told

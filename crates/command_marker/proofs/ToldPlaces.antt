@@ -47,7 +47,7 @@ unrefused rows start width o r none e =
 
 -- by where the value begins
 told_by : (rows : List Row) (c : Items) (i : ℕ) (place : List ℕ) (r : Refusal) (o : Option ℕ) → start_of (i ∷ place) c ≡ o
-    → refusal_at rows c (i ∷ place) ≡ Some r → place_of r.at c ≡ i ∷ place
+    → refusal_at rows 0 c (i ∷ place) ≡ Some r → place_of r.at c ≡ i ∷ place
 told_by rows c i place r None none e =
     absurd (unrefused rows (unwrap_or (start_of (i ∷ place) c) 0) (width_at (i ∷ place) (node 3 c)) (chain (i ∷ place) c) r
     (no_chain_in [] [] (i ∷ place) 0 (node 3 c) none) e)
@@ -55,7 +55,7 @@ told_by rows c i place r (Some start) begins e =
     let at = refused_where rows (unwrap_or (start_of (i ∷ place) c) 0) (width_at (i ∷ place) (node 3 c)) (chain (i ∷ place) c) r e in
     ap (λ (n : ℕ). place_of n c) (at ∙ ap (λ (x : Option ℕ). unwrap_or x 0) begins) ∙ place_begun start c (i ∷ place) begins
 
-told_there : (rows : List Row) (c : Items) (place : List ℕ) (r : Refusal) → refusal_at rows c place ≡ Some r → place_of r.at c ≡ place
+told_there : (rows : List Row) (c : Items) (place : List ℕ) (r : Refusal) → refusal_at rows 0 c place ≡ Some r → place_of r.at c ≡ place
 told_there rows c [] r e =
     let at = refused_where rows 0 (width_at [] (node 3 c)) (chain [] c) r e in
     ap (λ (n : ℕ). place_of n c) at ∙ place_of_head c
@@ -63,19 +63,19 @@ told_there rows c (i ∷ place) r e = told_by rows c i place r (start_of (i ∷ 
 
 -- one place more
 told_next : (rows : List Row) (c : Items) (place : List ℕ) (o later : Option Refusal) (told_later : Option (List ℕ × Reason))
-    → refusal_at rows c place ≡ o → option_map (told c) later ≡ told_later
+    → refusal_at rows 0 c place ≡ o → option_map (told c) later ≡ told_later
     → option_map (told c) (or_else o later) ≡ told_first place o told_later
 told_next rows c place None later told_later e behind = behind
 told_next rows c place (Some r) later told_later e behind = ap (λ (p : List ℕ). Some (p, r.reason)) (told_there rows c place r e)
 
-told_among : (rows : List Row) (c : Items) (ps : List (List ℕ)) → option_map (told c) (first_of (map (refusal_at rows c) ps)) ≡ first_refused rows c ps
+told_among : (rows : List Row) (c : Items) (ps : List (List ℕ)) → option_map (told c) (first_of (map (refusal_at rows 0 c) ps)) ≡ first_refused rows c ps
 told_among rows c [] = refl
 told_among rows c (place ∷ ps) =
-    told_next rows c place (refusal_at rows c place) (first_of (map (refusal_at rows c) ps)) (first_refused rows c ps) refl (told_among rows c ps)
+    told_next rows c place (refusal_at rows 0 c place) (first_of (map (refusal_at rows 0 c) ps)) (first_refused rows c ps) refl (told_among rows c ps)
 
 -- the first refusal of a command is told at the first place that is refused
-pub told_places : (rows : List Row) (c : Items) → option_map (told c) (first_refusal rows (command_visits rows c)) ≡ first_refused rows c (places c)
-told_places rows c = ap (option_map (told c)) (verdict_by_place rows c) ∙ told_among rows c (places c)
+pub told_places : (rows : List Row) (c : Items) → option_map (told c) (first_refusal rows (command_visits rows 0 c)) ≡ first_refused rows c (places c)
+told_places rows c = ap (option_map (told c)) (verdict_by_place rows 0 c) ∙ told_among rows c (places c)
 
 -- ---- the fields of a command
 

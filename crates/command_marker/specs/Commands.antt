@@ -36,9 +36,10 @@ abbrev pub unbuilt : Items → Option Refusal
 unbuilt no_items = None
 unbuilt (item name t is) = if is_unbuilt name then Some (record { reason = reasons.NotBuilt; at = 0 }) else None
 
--- the verdict on the fields of a command, by themselves, on whatever collection: no collection is a view
-abbrev pub target_refusal : List ℕ → Items → Option Refusal
-target_refusal db c = or_else (unbuilt c) (target db [] c)
+-- the verdict on the fields of a command that begins at `at`, by themselves, on whatever collection: no collection
+-- is a view
+abbrev pub target_refusal : List ℕ → ℕ → Items → Option Refusal
+target_refusal db at c = or_else (unbuilt c) (target db [] at c)
 
 -- the text in a command's first field: the name of its collection
 abbrev pub collection_in : Items → List ℕ
@@ -58,18 +59,22 @@ Refuses refusal (Err faults.Memory) = ⊥
 
 -- a command that passes, or a command on this collection, is not refused; else this is refused. Memory isn't
 -- asked for
-abbrev pub AimsAt : List ℕ → Items → Result Target MarkFault → Type 0
-AimsAt db c (Ok targets.Pass) = (target_refusal db c ≡ None) × (passes c ≡ true)
+abbrev pub AimsAt : List ℕ → At → Result Target MarkFault → Type 0
+AimsAt db c (Ok targets.Pass) = (target_refusal db c.start c.tree ≡ None) × (passes c.tree ≡ true)
 AimsAt db c (Ok (targets.Collection name)) =
-    (target_refusal db c ≡ None) × (is_command (codes "insert") c ≡ true) × (name.now ≡ collection_in c)
-AimsAt db c (Err (faults.Refused reason at)) = target_refusal db c ≡ Some (record { reason = reason; at = at })
+    (target_refusal db c.start c.tree ≡ None)
+    × (is_command (codes "insert") c.tree ≡ true)
+    × (name.now ≡ collection_in c.tree)
+AimsAt db c (Err (faults.Refused reason at)) =
+    target_refusal db c.start c.tree ≡ Some (record { reason = reason; at = at })
 AimsAt db c (Err faults.Memory) = ⊥
 
 -- the marks of a command, where its contents are not refused; else this is the verdict; want of memory may come
 -- at any time
-abbrev pub TellsMarks : List Row → Items → Result (List Mark) MarkFault → Type 0
-TellsMarks rows c (Ok marks) = (marks ≡ roles rows c) × (content_verdict rows c ≡ None)
-TellsMarks rows c (Err (faults.Refused reason at)) = content_verdict rows c ≡ Some (record { reason = reason; at = at })
+abbrev pub TellsMarks : List Row → At → Result (List Mark) MarkFault → Type 0
+TellsMarks rows c (Ok marks) = (marks ≡ roles rows c.start c.tree) × (content_verdict rows c.start c.tree ≡ None)
+TellsMarks rows c (Err (faults.Refused reason at)) =
+    content_verdict rows c.start c.tree ≡ Some (record { reason = reason; at = at })
 TellsMarks rows c (Err faults.Memory) = Unit {0}
 
 -- a command that is marked under these rules
@@ -80,6 +85,8 @@ pub record Command : Type 0 where
 -- the command is marked, where its contents are not refused; else this is the verdict; want of memory may come
 -- at any time
 abbrev pub MarksAs : List Row → At → Result Command MarkFault → Type 0
-MarksAs rows command (Ok marked) = (marked ≡ record { rows = rows; command = command }) × (content_verdict rows command.tree ≡ None)
-MarksAs rows command (Err (faults.Refused reason at)) = content_verdict rows command.tree ≡ Some (record { reason = reason; at = at })
-MarksAs rows command (Err faults.Memory) = Unit {0}
+MarksAs rows c (Ok marked) =
+    (marked ≡ record { rows = rows; command = c }) × (content_verdict rows c.start c.tree ≡ None)
+MarksAs rows c (Err (faults.Refused reason at)) =
+    content_verdict rows c.start c.tree ≡ Some (record { reason = reason; at = at })
+MarksAs rows c (Err faults.Memory) = Unit {0}

@@ -15,6 +15,7 @@ marking_at rows [] at t = None
 marking_at rows (m ∷ ms) at t =
     if m.start == at then Some (marked_value (policy_at m.policy rows) t) else marking_at rows ms at t
 
--- a command with the marking of each protected value in its place, and all else as it is
+-- a command with the marking of each protected value in its place, and all else as it is; offsets count from its
+-- own first byte
 unfoldable pub marked : List Row → Items → Items
-marked rows c = fill_items (marking_at rows (roles rows c)) 4 c
+marked rows c = fill_items (marking_at rows (roles rows 0 c)) 4 c

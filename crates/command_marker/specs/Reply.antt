@@ -29,7 +29,7 @@ reply marked ruled command = doc_bytes (reply_fields marked ruled command)
 
 -- the reply to a command under these rules: whether a value is marked, whether there are rules, the marked command
 unfoldable pub reply_to : List Row → Items → List ℕ
-reply_to rows c = reply (nat_lt 0 (length (roles rows c))) (nat_lt 0 (length rows)) (marked rows c)
+reply_to rows c = reply (nat_lt 0 (length (roles rows 0 c))) (nat_lt 0 (length rows)) (marked rows c)
 
 -- the reply to a command that no rule concerns
 unfoldable pub reply_clear_to : Items → List ℕ

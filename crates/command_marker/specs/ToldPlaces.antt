@@ -19,4 +19,4 @@ told_first place (Some r) later = Some (place, r.reason)
 -- the first of these places of a command that is refused, and why
 abbrev pub first_refused : List Row → Items → List (List ℕ) → Option (List ℕ × Reason)
 first_refused rows c [] = None
-first_refused rows c (place ∷ others) = told_first place (refusal_at rows c place) (first_refused rows c others)
+first_refused rows c (place ∷ others) = told_first place (refusal_at rows 0 c place) (first_refused rows c others)

@@ -1,8 +1,9 @@
 -- How a reply is written: the marks of its command, the step at each element, and what stands around the command
 use Rattle.std.specs.Prelude.{◌≡◌, ℕ, ◌+◌, ◌<◌, ◌≤◌, Bool, List, [], ◌∷◌, ◌++◌, codes, length, Result, Ok, Err}
 use Rattle.std.specs.Int.{to_le_bytes, w32}
-use Rattle.bson_tree.specs.Tree.{Tree, Items, no_items, item}
+use Rattle.bson_tree.specs.Tree.{Tree, no_items, item}
 use Rattle.bson_tree.specs.Spelling.{items_bytes, doc_bytes}
+use Rattle.bson_codec.specs.Raw.{At}
 use Rattle.encrypt_schema.specs.declared.marks.Mark.{Mark}
 use Rattle.encrypt_schema.specs.declared.policy.Policy.{Policy}
 use Rattle.encrypt_schema.specs.Policies.{policy_at}
@@ -33,11 +34,12 @@ AreRuled rows [] = Unit {0}
 AreRuled rows (m ∷ ms) = (m.policy < length rows) × AreRuled rows ms
 
 -- marks of rules that are there, by which a command is marked
-pub record IsPlan (rows : List Row) (c : Items) (ms : List Mark) : Type 0 where
+pub record IsPlan (rows : List Row) (c : At) (ms : List Mark) : Type 0 where
   pub ruled : AreRuled rows ms
-  pub few : length ms ≤ length (doc_bytes c)
-  pub made : spliced (marked_by rows) 4 ms c ≡ marked rows c
-  pub size : length (items_bytes (spliced (marked_by rows) 4 ms c)) ≡ length (items_bytes c) + added (growth_by rows) ms
+  pub few : length ms ≤ length (doc_bytes c.tree)
+  pub made : spliced (marked_by rows) (c.start + 4) ms c.tree ≡ marked rows c.tree
+  pub size : length (items_bytes (spliced (marked_by rows) (c.start + 4) ms c.tree))
+      ≡ length (items_bytes c.tree) + added (growth_by rows) ms
 
 -- the reply before its command, of this many bytes in all
 abbrev pub reply_head : ℕ → Bool → Bool → List ℕ

@@ -118,8 +118,7 @@ pub(crate) fn mark_contents(
     command: &RawDoc<'_>,
 ) -> Result<(), MarkFault>
     requires insert { is_command (codes "insert") command.now.tree ≡ true }
-    requires whole { command.now.start ≡ 0 }
-    ensures marked { Marked rows.now (command_visits rows.now command.now.tree) marks.old marks.new result }
+    ensures marked { Marked rows.now (command_visits rows.now command.now.start command.now.tree) marks.old marks.new result }
 {
     if !states_documents(command) {
         return Err(MarkFault::Refused {

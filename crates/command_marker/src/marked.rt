@@ -35,21 +35,20 @@ impl<'a> Model for Marked<'a> {
 
     ghost view = { λ m. record { rows = m.rows.now; command = m.command } };
 
-    ghost invariant = { λ m. (m.marks ≡ roles m.rows.now m.command.tree) × (m.command.start ≡ 0) };
+    ghost invariant = { λ m. m.marks ≡ roles m.rows.now m.command.start m.command.tree };
 }
 
 impl<'a> Marked<'a> {
-    /// The marks of the protected values, in reading order.
+    /// The marks of the protected values, in reading order, by the command's offsets.
     pub fn marks(&self) -> &Marks
-        ensures marks { result.now ≡ roles self.now.rows self.now.command.tree }
+        ensures marks { result.now ≡ roles self.now.rows self.now.command.start self.now.command.tree }
     {
         &self.marks
     }
 
-    /// The command, with offsets from 0.
+    /// The command.
     pub fn command(&self) -> RawDoc<'a>
         ensures command { result ≡ self.now.command }
-        ensures whole { result.start ≡ 0 }
     {
         self.command.again()
     }
@@ -65,14 +64,13 @@ impl<'a> Marked<'a> {
 /// Marks the protected values of an insert under the rules of its collection; else the first place that is
 /// refused, by the contents of the command. Without rules nothing is marked and nothing is refused.
 ///
-/// The command is an insert, as `target` tells, with offsets from 0. `Memory` may come at any time.
+/// The command is an insert, as `target` tells. `Memory` may come at any time.
 pub fn mark_command<'a>(
     alloc: Global,
     rows: &'a Rows,
     command: RawDoc<'a>,
 ) -> Result<Marked<'a>, MarkFault>
     requires insert { is_command (codes "insert") command.tree ≡ true }
-    requires whole { command.start ≡ 0 }
     ensures marks { MarksAs rows.now command.entry result }
 {
     match marks_of(alloc, rows, &command) {
@@ -88,8 +86,7 @@ pub fn mark_command<'a>(
 /// The marks of the protected values of an insert.
 fn marks_of(alloc: Global, rows: &Rows, command: &RawDoc<'_>) -> Result<Marks, MarkFault>
     requires insert { is_command (codes "insert") command.now.tree ≡ true }
-    requires whole { command.now.start ≡ 0 }
-    ensures marks { TellsMarks rows.now command.now.tree result }
+    ensures marks { TellsMarks rows.now command.now result }
 {
     let mut marks = Marks::new(alloc);
     if rows.len() == 0 {

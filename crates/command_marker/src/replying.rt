@@ -48,8 +48,7 @@ fn reply_by(
     marks: &Marks,
     command: &RawDoc<'_>,
 ) -> Result<Vec<u8>, ReplyFault>
-    requires plan { IsPlan rows.now command.now.tree marks.now }
-    requires whole { command.now.start ≡ 0 }
+    requires plan { IsPlan rows.now command.now marks.now }
     ensures replies { RepliesAs (reply_bytes (nat_lt 0 (length marks.now)) (nat_lt 0 (length rows.now)) (marked_command rows.now command.now.tree)) result }
 {
     match marked_size(rows, marks, command) {
@@ -69,8 +68,7 @@ fn write_marked(
     marks: &Marks,
     command: &RawDoc<'_>,
 ) -> Result<Vec<u8>, Memory>
-    requires plan { IsPlan rows.now command.now.tree marks.now }
-    requires whole { command.now.start ≡ 0 }
+    requires plan { IsPlan rows.now command.now marks.now }
     requires few { length (doc_bytes (marked_command rows.now command.now.tree)) < 2 ^ 30 }
     ensures parts { IfOk result (λ out. out.items ≡ (reply_head size (nat_lt 0 (length marks.now)) (nat_lt 0 (length rows.now)) ++ doc_bytes (marked_command rows.now command.now.tree)) ++ reply_end) }
 {

@@ -18,8 +18,7 @@ use encrypt_schema::{MarkFault, Reason, is_named};
 /// and `WrongDb` for another database. `NotBuilt` at 0, before all else, for every command but `insert` that is
 /// known. Whether the collection is a view is the caller's to ask. It takes no memory, and never tells `Memory`.
 pub fn target<'a>(db: &[u8], command: &RawDoc<'a>) -> Result<Target<'a>, MarkFault>
-    requires whole { command.now.start ≡ 0 }
-    ensures aims { AimsAt db.now command.now.tree result }
+    ensures aims { AimsAt db.now command.now result }
 {
     let mut fields = command.items();
     let Some(first) = fields.next() else {

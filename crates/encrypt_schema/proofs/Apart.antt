@@ -101,21 +101,22 @@ command_mark rows c (Compare i) h = absurd (false≢true (sym h))
 command_mark rows c _ h = refl
 
 -- the marks of a command are those of what is shown of its elements
-pub roles_shown : (rows : List Row) (c : Items)
-    → roles rows c ≡ marks rows (shown rows (station rows Outside (command_entry c)) 4 [] c)
-roles_shown rows c =
+pub roles_shown : (rows : List Row) (at : ℕ) (c : Items)
+    → roles rows at c ≡ marks rows (shown rows (station rows Outside (command_entry c)) (at + 4) [] c)
+roles_shown rows at c =
     let s = station rows Outside (command_entry c) in
-    ap (λ (ms : List Mark). ms ++ marks rows (visits rows s 4 [] c)) (command_mark rows c s (command_without_role rows (command_entry c)))
-    ∙ sym (cut rows s 4 [] c).marked
+    ap (λ (ms : List Mark). ms ++ marks rows (visits rows s (at + 4) [] c)) (command_mark rows c s (command_without_role rows (command_entry c)))
+    ∙ sym (cut rows s (at + 4) [] c).marked
 
 -- the protected places of a command stand apart between its length field and its end: in reading order, none
 -- twice, none inside another
-pub roles_apart : (rows : List Row) (c : Items) → AreApart 4 (roles rows c) (length (doc_bytes c))
-roles_apart rows c =
+pub roles_apart : (rows : List Row) (at : ℕ) (c : Items)
+    → AreApart (at + 4) (roles rows at c) (at + length (doc_bytes c))
+roles_apart rows at c =
     let s = station rows Outside (command_entry c) in
-    let a = apart_among rows s 4 [] c in
-    subst (λ (ms : List Mark). AreApart 4 ms (length (doc_bytes c))) (sym (roles_shown rows c))
-    (wider 4 4 (marks rows (shown rows s 4 [] c)) (4 + length (items_bytes c)) (length (doc_bytes c)) (omega arith) (omega (arith, framed_length (items_bytes c))) a)
+    let a = apart_among rows s (at + 4) [] c in
+    subst (λ (ms : List Mark). AreApart (at + 4) ms (at + length (doc_bytes c))) (sym (roles_shown rows at c))
+    (wider (at + 4) (at + 4) (marks rows (shown rows s (at + 4) [] c)) (at + 4 + length (items_bytes c)) (at + length (doc_bytes c)) (omega arith) (omega (arith, framed_length (items_bytes c))) a)
 
 -- a value's own hole, or the holes inside it
 
@@ -182,6 +183,7 @@ mutual
       (holes_among rows s (at + (2 + length name) + length (value_bytes t)) (elder ++ name ∷ []) is)
 
 -- the holes of a command's skeleton are its protected places: starts, ends and type bytes
-pub holes_are_roles : (rows : List Row) (c : Items) → holes 4 (skeleton rows c) ≡ map hole_at (roles rows c)
-holes_are_roles rows c =
-    holes_among rows (station rows Outside (command_entry c)) 4 [] c ∙ ap (map hole_at) (sym (roles_shown rows c))
+pub holes_are_roles : (rows : List Row) (at : ℕ) (c : Items)
+    → holes (at + 4) (skeleton rows c) ≡ map hole_at (roles rows at c)
+holes_are_roles rows at c =
+    holes_among rows (station rows Outside (command_entry c)) (at + 4) [] c ∙ ap (map hole_at) (sym (roles_shown rows at c))

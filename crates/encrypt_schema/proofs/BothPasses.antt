@@ -65,22 +65,22 @@ fields_kept rows s at (item name t is) p =
     let c = fields_kept rows s (at + (2 + length name) + length (value_bytes t)) is p in
     cc
 
-fields_told : (rows : List Row) (c : Items) → command_fields 4 c ≡ fields_in 4 (skeleton rows c)
-fields_told rows c =
-    fields_kept rows (station rows Outside (command_entry c)) 4 c (command_without_roles rows (command_entry c).names)
+fields_told : (rows : List Row) (at : ℕ) (c : Items) → command_fields at c ≡ fields_in at (skeleton rows c)
+fields_told rows at c =
+    fields_kept rows (station rows Outside (command_entry c)) at c (command_without_roles rows (command_entry c).names)
 
 -- commands with equal skeletons have the same fields, as far as the target pass looks at them, so the same
 -- offences of that pass at each
-pub equal_fields : (rows : List Row) (c d : Items) → skeleton rows c ≡ skeleton rows d
-    → command_fields 4 c ≡ command_fields 4 d
-equal_fields rows c d e = fields_told rows c ∙ (ap (fields_in 4) e ∙ sym (fields_told rows d))
+pub equal_fields : (rows : List Row) (at : ℕ) (c d : Items) → skeleton rows c ≡ skeleton rows d
+    → command_fields at c ≡ command_fields at d
+equal_fields rows at c d e = fields_told rows at c ∙ (ap (fields_in at) e ∙ sym (fields_told rows at d))
 
 -- commands with equal skeletons have the same verdict of the target pass
-pub equal_targets : (db : List ℕ) (collections : List Collection) (rows : List Row) (c d : Items)
+pub equal_targets : (db : List ℕ) (collections : List Collection) (rows : List Row) (at : ℕ) (c d : Items)
     → skeleton rows c ≡ skeleton rows d
-    → target db collections c ≡ target db collections d
+    → target db collections at c ≡ target db collections at d
 unfolding target
-equal_targets db collections rows c d e = ap (target_of db collections) (equal_fields rows c d e)
+equal_targets db collections rows at c d e = ap (target_of db collections) (equal_fields rows (at + 4) c d e)
 
 -- and the same rules
 pub equal_rows : (collections : List Collection) (rows : List Row) (c d : Items)
@@ -88,16 +88,16 @@ pub equal_rows : (collections : List Collection) (rows : List Row) (c d : Items)
     → rows_of collections c ≡ rows_of collections d
 unfolding rows_of
 equal_rows collections rows c d e =
-    ap (λ (fields : List CommandField). rows_in (named_by collections fields)) (equal_fields rows c d e)
+    ap (λ (fields : List CommandField). rows_in (named_by collections fields)) (equal_fields rows 4 c d e)
 
 -- commands with equal skeletons under the first one's rules have the same verdict of both passes
-pub equal_verdicts : (db : List ℕ) (collections : List Collection) (c d : Items)
+pub equal_verdicts : (db : List ℕ) (collections : List Collection) (at : ℕ) (c d : Items)
     → skeleton (rows_of collections c) c ≡ skeleton (rows_of collections c) d
-    → verdict db collections c ≡ verdict db collections d
-equal_verdicts db collections c d e =
+    → verdict db collections at c ≡ verdict db collections at d
+equal_verdicts db collections at c d e =
     let rows = rows_of collections c in
-    let t : target db collections c ≡ target db collections d = equal_targets db collections rows c d e in
+    let t : target db collections at c ≡ target db collections at d = equal_targets db collections rows at c d e in
     let r : rows ≡ rows_of collections d = equal_rows collections rows c d e in
-    let v : content_verdict rows c ≡ content_verdict rows d = equal_content_verdicts rows c d e in
-    ap (λ (q : Option Refusal). or_else q (content_verdict rows c)) t
-    ∙ (ap (or_else (target db collections d)) v ∙ ap (λ (rs : List Row). or_else (target db collections d) (content_verdict rs d)) r)
+    let v : content_verdict rows at c ≡ content_verdict rows at d = equal_content_verdicts rows at c d e in
+    ap (λ (q : Option Refusal). or_else q (content_verdict rows at c)) t
+    ∙ (ap (or_else (target db collections at d)) v ∙ ap (λ (rs : List Row). or_else (target db collections at d) (content_verdict rs at d)) r)

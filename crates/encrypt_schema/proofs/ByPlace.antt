@@ -13,7 +13,7 @@ use Rattle.encrypt_schema.specs.declared.reason.Reason.{Reason}
 use Rattle.encrypt_schema.specs.Row.{Row}
 use Rattle.encrypt_schema.specs.Stations.{Station, Outside, station}
 use Rattle.encrypt_schema.specs.Visits.{Refusal, refusal, or_else, first_refusal, entry, command_entry, Visit, visit, visits_in, visits, command_visit, command_visits, station_of, offence_of, mark_at, marks, roles}
-use Rattle.encrypt_schema.specs.Chains.{Link, Chain, onward, link, chain_from, visit_along, visit_at, station_at, offence_at, mark_of, refusal_at, first_of}
+use Rattle.encrypt_schema.specs.Chains.{Link, Chain, onward, link, chain, chain_from, station_along, offence_along, station_at, offence_at, width_at, visit_along, start_at, visit_at, mark_of, refusal_at, first_of}
 
 -- a place below elements, with what it is carried down
 abbrev mutual
@@ -144,41 +144,68 @@ from_chain rows s at elder (suc i) place (item name t is) =
     from_chain rows s (at + (2 + length name) + length (value_bytes t)) (elder ++ name ∷ []) i place is
 
 -- a place of a command below it
-pub visit_at_from : (rows : List Row) (c : Items) (i : ℕ) (place : List ℕ)
-    → visit_at rows c (i ∷ place) ≡ visit_from rows (station rows Outside (command_entry c)) 4 [] i place c
-visit_at_from rows c i place =
+pub visit_at_from : (rows : List Row) (at : ℕ) (c : Items) (i : ℕ) (place : List ℕ)
+    → visit_at rows at c (i ∷ place) ≡ visit_from rows (station rows Outside (command_entry c)) (at + 4) [] i place c
+visit_at_from rows at c i place =
     option_onward rows Outside _ _ (link [] [] (node 3 c)) (chain_from [] i place c)
-    ∙ sym (from_chain rows (station rows Outside (command_entry c)) 4 [] i place c)
+    ∙ sym (from_chain rows (station rows Outside (command_entry c)) (at + 4) [] i place c)
 
 -- a place of a command, by what is carried down
-pub visit_at_below : (rows : List Row) (c : Items) (place : List ℕ)
-    → visit_at rows c place
-    ≡ visit_below (Some (command_visit c)) rows (station rows Outside (command_entry c)) 4 [] c place
-visit_at_below rows c [] = refl
-visit_at_below rows c (i ∷ place) = visit_at_from rows c i place
+pub visit_at_below : (rows : List Row) (at : ℕ) (c : Items) (place : List ℕ)
+    → visit_at rows at c place
+    ≡ visit_below (Some (command_visit c)) rows (station rows Outside (command_entry c)) (at + 4) [] c place
+visit_at_below rows at c [] = refl
+visit_at_below rows at c (i ∷ place) = visit_at_from rows at c i place
 
 -- the places of a command, each read from its chain, are its places in reading order
-pub by_place : (rows : List Row) (c : Items)
-    → map (visit_at rows c) (places c) ≡ map Some (command_visits rows c)
-by_place rows c =
+pub by_place : (rows : List Row) (at : ℕ) (c : Items)
+    → map (visit_at rows at c) (places c) ≡ map Some (command_visits rows at c)
+by_place rows at c =
     let s = station rows Outside (command_entry c) in
     let first = Some (command_visit c) in
     ap (λ (vs : List (Option Visit)). first ∷ vs)
-    (map_same (visit_at rows c) (visit_below first rows s 4 [] c) (places_from 0 c) (visit_at_below rows c) ∙ places_below first rows s 4 [] c)
+    (map_same (visit_at rows at c) (visit_below first rows s (at + 4) [] c) (places_from 0 c) (visit_at_below rows at c)
+    ∙ places_below first rows s (at + 4) [] c)
+
+-- the station of a place is told by its chain
+visit_station : (rows : List Row) (start width : ℕ) (o : Option Chain)
+    → option_map (station_of rows) (option_map (visit_along rows Outside start width) o) ≡ option_map (station_along rows Outside) o
+visit_station rows start width None = refl
+visit_station rows start width (Some links) = refl
+
+pub station_read : (rows : List Row) (at : ℕ) (c : Items) (place : List ℕ)
+    → option_map (station_of rows) (visit_at rows at c place) ≡ station_at rows c place
+station_read rows at c place = visit_station rows (start_at at place c) (width_at place (node 3 c)) (chain place c)
+
+-- and so is its offence
+visit_offence : (rows : List Row) (start width : ℕ) (o : Option Chain)
+    → option_and_then (offence_of rows) (option_map (visit_along rows Outside start width) o) ≡ option_and_then (offence_along rows Outside) o
+visit_offence rows start width None = refl
+visit_offence rows start width (Some links) = refl
+
+pub offence_read : (rows : List Row) (at : ℕ) (c : Items) (place : List ℕ)
+    → option_and_then (offence_of rows) (visit_at rows at c place) ≡ offence_at rows c place
+offence_read rows at c place = visit_offence rows (start_at at place c) (width_at place (node 3 c)) (chain place c)
 
 -- what each place is, in reading order
-pub stations_by_place : (rows : List Row) (c : Items)
-    → map (station_at rows c) (places c) ≡ map (λ v. Some (station_of rows v)) (command_visits rows c)
-stations_by_place rows c =
+pub stations_by_place : (rows : List Row) (at : ℕ) (c : Items)
+    → map (station_at rows c) (places c) ≡ map (λ v. Some (station_of rows v)) (command_visits rows at c)
+stations_by_place rows at c =
     let f : Option Visit → Option Station = λ o. option_map (station_of rows) o in
-    sym (map-map f (visit_at rows c) (places c)) ∙ (ap (map f) (by_place rows c) ∙ map-map f (λ (v : Visit). Some v) (command_visits rows c))
+    map_same (station_at rows c) (λ p. f (visit_at rows at c p)) (places c) (λ p. sym (station_read rows at c p))
+    ∙ sym (map-map f (visit_at rows at c) (places c))
+    ∙ ap (map f) (by_place rows at c)
+    ∙ map-map f (λ (v : Visit). Some v) (command_visits rows at c)
 
 -- the offence of each place, in reading order
-pub offences_by_place : (rows : List Row) (c : Items)
-    → map (offence_at rows c) (places c) ≡ map (offence_of rows) (command_visits rows c)
-offences_by_place rows c =
+pub offences_by_place : (rows : List Row) (at : ℕ) (c : Items)
+    → map (offence_at rows c) (places c) ≡ map (offence_of rows) (command_visits rows at c)
+offences_by_place rows at c =
     let f : Option Visit → Option Reason = λ o. option_and_then (offence_of rows) o in
-    sym (map-map f (visit_at rows c) (places c)) ∙ (ap (map f) (by_place rows c) ∙ map-map f (λ (v : Visit). Some v) (command_visits rows c))
+    map_same (offence_at rows c) (λ p. f (visit_at rows at c p)) (places c) (λ p. sym (offence_read rows at c p))
+    ∙ sym (map-map f (visit_at rows at c) (places c))
+    ∙ ap (map f) (by_place rows at c)
+    ∙ map-map f (λ (v : Visit). Some v) (command_visits rows at c)
 
 flat_marks : (rows : List Row) (vs : List Visit)
     → marks rows vs ≡ flat_map (λ v. mark_at (station_of rows v) v) vs
@@ -186,12 +213,13 @@ flat_marks rows [] = refl
 flat_marks rows (v ∷ vs) = ap (λ (ms : List Mark). mark_at (station_of rows v) v ++ ms) (flat_marks rows vs)
 
 -- the protected places of a command are those of `places`, each read from its chain
-pub roles_by_place : (rows : List Row) (c : Items) → roles rows c ≡ flat_map (mark_of rows c) (places c)
-roles_by_place rows c =
+pub roles_by_place : (rows : List Row) (at : ℕ) (c : Items)
+    → roles rows at c ≡ flat_map (mark_of rows at c) (places c)
+roles_by_place rows at c =
     let f : Option Visit → List Mark = λ o. option_map_or (λ v. mark_at (station_of rows v) v) o [] in
-    flat_marks rows (command_visits rows c)
-    ∙ (sym (flat_map-map f (λ (v : Visit). Some v) (command_visits rows c))
-    ∙ (ap (flat_map f) (sym (by_place rows c)) ∙ flat_map-map f (visit_at rows c) (places c)))
+    flat_marks rows (command_visits rows at c)
+    ∙ (sym (flat_map-map f (λ (v : Visit). Some v) (command_visits rows at c))
+    ∙ (ap (flat_map f) (sym (by_place rows at c)) ∙ flat_map-map f (visit_at rows at c) (places c)))
 
 first_in : (rows : List Row) (vs : List Visit) → first_refusal rows vs ≡ first_of (map (refusal rows) vs)
 first_in rows [] = refl
@@ -199,11 +227,11 @@ first_in rows (v ∷ vs) = ap (or_else (refusal rows v)) (first_in rows vs)
 
 -- the verdict on the contents of a command is the refusal of the first of `places` that has an offence, each
 -- read from its chain
-pub verdict_by_place : (rows : List Row) (c : Items)
-    → first_refusal rows (command_visits rows c) ≡ first_of (map (refusal_at rows c) (places c))
-verdict_by_place rows c =
+pub verdict_by_place : (rows : List Row) (at : ℕ) (c : Items)
+    → first_refusal rows (command_visits rows at c) ≡ first_of (map (refusal_at rows at c) (places c))
+verdict_by_place rows at c =
     let f : Option Visit → Option Refusal = λ o. option_and_then (refusal rows) o in
-    let read : map f (map (visit_at rows c) (places c)) ≡ map (refusal_at rows c) (places c) = map-map f (visit_at rows c) (places c) in
-    let own : map f (map Some (command_visits rows c)) ≡ map (refusal rows) (command_visits rows c) = map-map f (λ (v : Visit). Some v) (command_visits rows c) in
-    first_in rows (command_visits rows c)
-    ∙ ap first_of (sym own ∙ (ap (map f) (sym (by_place rows c)) ∙ read))
+    let read : map f (map (visit_at rows at c) (places c)) ≡ map (refusal_at rows at c) (places c) = map-map f (visit_at rows at c) (places c) in
+    let own : map f (map Some (command_visits rows at c)) ≡ map (refusal rows) (command_visits rows at c) = map-map f (λ (v : Visit). Some v) (command_visits rows at c) in
+    first_in rows (command_visits rows at c)
+    ∙ ap first_of (sym own ∙ (ap (map f) (sym (by_place rows at c)) ∙ read))

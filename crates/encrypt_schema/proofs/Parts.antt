@@ -78,7 +78,7 @@ refusal_item rows s at elder name t is =
     (visits rows s (at + (2 + length name) + length (value_bytes t)) (elder ++ name ∷ []) is))
 
 -- with rules, the verdict on the contents of a command is its first refusal
-pub with_rows : (rows : List Row) (c : Items) → 0 < length rows
-    → content_verdict rows c ≡ first_refusal rows (command_visits rows c)
-with_rows [] c h = absurd (omega arith)
-with_rows (row ∷ rows) c h = refl
+pub with_rows : (rows : List Row) (at : ℕ) (c : Items) → 0 < length rows
+    → content_verdict rows at c ≡ first_refusal rows (command_visits rows at c)
+with_rows [] at c h = absurd (omega arith)
+with_rows (row ∷ rows) at c h = refl

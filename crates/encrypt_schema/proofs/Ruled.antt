@@ -153,10 +153,10 @@ mutual
       (ruled_among rows s (at + (2 + length name) + length (value_bytes t)) (elder ++ name ∷ []) is h)))
 
 -- the numbers of the marks of a command are those of rules
-pub roles_ruled : (rows : List Row) (c : Items) → AreRuled (length rows) (roles rows c)
-roles_ruled rows c =
+pub roles_ruled : (rows : List Row) (at : ℕ) (c : Items) → AreRuled (length rows) (roles rows at c)
+roles_ruled rows at c =
     let s = station rows Outside (command_entry c) in
     let here : IsRuled (length rows) s = station_ruled rows Outside (command_entry c) tt in
-    ruled_append (length rows) (mark_at s (command_visit c)) (marks rows (visits rows s 4 [] c))
+    ruled_append (length rows) (mark_at s (command_visit c)) (marks rows (visits rows s (at + 4) [] c))
     (ruled_mark (length rows) s (command_visit c) here)
-    (ruled_among rows s 4 [] c here)
+    (ruled_among rows s (at + 4) [] c here)

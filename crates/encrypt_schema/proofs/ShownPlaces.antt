@@ -8,16 +8,12 @@ use Rattle.bson_tree.specs.Tree.{leaf, node, Items, no_items, item}
 use Rattle.bson_tree.specs.Spelling.{framed, value_bytes, items_bytes}
 use Rattle.encrypt_schema.specs.Row.{Row}
 use Rattle.encrypt_schema.specs.Stations.{Station, Outside, Store, Compare, Passed, station, has_role}
-use Rattle.encrypt_schema.specs.Visits.{is_payload, entry, Visit, station_of}
+use Rattle.encrypt_schema.specs.Visits.{is_payload, entry, Visit}
 use Rattle.encrypt_schema.specs.Skeletons.{Skeleton, hole, plain, branch, Skeletons, no_more, more, skeleton_in, skeletons, width_of}
-use Rattle.encrypt_schema.specs.Chains.{visit_along, Link, Chain, last, onward, link, chain_from, chain, last_of, parent_along, station_at, is_below_role, is_shown}
+use Rattle.encrypt_schema.specs.Chains.{Link, Chain, last, onward, link, chain_from, chain, station_along, station_at, is_below_role, is_shown}
 use Rattle.encrypt_schema.proofs.Widths.{entry_in, width_kept, station_kept}
 use Rattle.encrypt_schema.proofs.Worlds.{skeleton_visit, veil, visit_kept}
 use Rattle.encrypt_schema.proofs.ByPlace.{visit_from}
-
--- what the last place of a chain is
-abbrev pub station_along : List Row → Station → Chain → Station
-station_along rows s links = station rows (parent_along rows s links) (last_of links).entry
 
 passed_along : (rows : List Row) (links : Chain) → has_role (station_along rows Passed links) ≡ false
 passed_along rows (last l) = refl
@@ -43,17 +39,17 @@ none_below rows s (last l) h = refl
 none_below rows s (onward l rest) h =
     below_cases rows (station rows s l.entry) rest (has_role (station rows s l.entry)) refl h (none_below rows (station rows s l.entry) rest h)
 
-no_role_in : (rows : List Row) (start width : ℕ) (o : Option Chain)
-    → option_map_or has_role (option_map (station_of rows) (option_map (visit_along rows Outside start width) o)) false ≡ true
+no_role_in : (rows : List Row) (o : Option Chain)
+    → option_map_or has_role (option_map (station_along rows Outside) o) false ≡ true
     → option_map_or (λ links. not (is_below_role rows Outside links)) o false ≡ true
-no_role_in rows start width None h = h
-no_role_in rows start width (Some links) h = ap not (none_below rows Outside links h)
+no_role_in rows None h = h
+no_role_in rows (Some links) h = ap not (none_below rows Outside links h)
 
 -- no protected place of a command lies below another one
 pub no_role_below : (rows : List Row) (c : Items) (place : List ℕ)
     → option_map_or has_role (station_at rows c place) false ≡ true
     → is_shown rows c place ≡ true
-no_role_below rows c place h = no_role_in rows _ _ (chain place c) h
+no_role_below rows c place h = no_role_in rows (chain place c) h
 
 -- a place, read from a skeleton
 abbrev mutual

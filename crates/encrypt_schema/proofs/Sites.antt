@@ -18,7 +18,7 @@ use Rattle.encrypt_schema.proofs.Tables.{command_without_role}
 use Rattle.encrypt_schema.proofs.Widths.{entry_in}
 use Rattle.encrypt_schema.proofs.Silence.{child_passed, role_silent}
 use Rattle.encrypt_schema.proofs.Blanks.{names_blank, station_blank}
-use Rattle.encrypt_schema.proofs.ByPlace.{next, visit_from, visit_below, places_next, below_next, visit_at_below, roles_by_place}
+use Rattle.encrypt_schema.proofs.ByPlace.{station_read, next, visit_from, visit_below, places_next, below_next, visit_at_below, roles_by_place}
 
 -- sites below a first element, and behind it
 abbrev pub site_first : Site → Site
@@ -216,6 +216,12 @@ site_read : (rows : List Row) (place : List ℕ) (o : Option Visit)
 site_read rows place None = refl
 site_read rows place (Some v) = refl
 
+-- the site of a place of a command, wherever the command begins
+site_there : (rows : List Row) (at : ℕ) (c : Items) (place : List ℕ)
+    → option_map_or (site_at place) (option_map (station_of rows) (visit_at rows at c place)) [] ≡ site_of rows c place
+site_there rows at c place =
+    ap (λ (o : Option Station). option_map_or (site_at place) o []) (station_read rows at c place)
+
 site_none : (place : List ℕ) (s : Station) → has_role s ≡ false → site_at place s ≡ []
 site_none place (Store i) h = absurd (false≢true (sym h))
 site_none place (Compare i) h = absurd (false≢true (sym h))
@@ -228,7 +234,7 @@ sites_are rows c =
     let first = Some (command_visit c) in
     ap (λ (xs : List Site). xs ++ flat_map (site_of rows c) (places_from 0 c)) (site_none [] u (command_without_role rows (command_entry c)))
     ∙ (flat_same (site_of rows c) (site_below first rows u 4 [] c) (places_from 0 c)
-    (λ p. site_read rows p (visit_at rows c p) ∙ ap (site_visit rows p) (visit_at_below rows c p))
+    (λ p. sym (site_there rows 0 c p) ∙ site_read rows p (visit_at rows 0 c p) ∙ ap (site_visit rows p) (visit_at_below rows 0 c p))
     ∙ flat_below first rows u 4 [] c)
 
 -- the sites of a command, read from its blank
@@ -259,12 +265,13 @@ kinds_of rows place None = refl
 kinds_of rows place (Some v) = kinds_at place (station_of rows v) v
 
 -- the marks of a command are those of its sites: the same rules and roles, in the same order
-pub marks_of_sites : (rows : List Row) (c : Items)
-    → map use_of_mark (roles rows c) ≡ map use_of_site (sites rows c)
-marks_of_sites rows c =
+pub marks_of_sites : (rows : List Row) (at : ℕ) (c : Items)
+    → map use_of_mark (roles rows at c) ≡ map use_of_site (sites rows c)
+marks_of_sites rows at c =
     let f = use_of_mark in
     let g = use_of_site in
-    ap (map f) (roles_by_place rows c)
-    ∙ (sym (map_flat f (mark_of rows c) (places c))
-    ∙ (flat_same (λ p. map f (mark_of rows c p)) (λ p. map g (site_of rows c p)) (places c) (λ p. kinds_of rows p (visit_at rows c p))
+    ap (map f) (roles_by_place rows at c)
+    ∙ (sym (map_flat f (mark_of rows at c) (places c))
+    ∙ (flat_same (λ p. map f (mark_of rows at c p)) (λ p. map g (site_of rows c p)) (places c)
+    (λ p. kinds_of rows p (visit_at rows at c p) ∙ ap (map g) (site_there rows at c p))
     ∙ map_flat g (site_of rows c) (places c)))

@@ -80,16 +80,17 @@ takes_value rows s at elder name t rest =
     (takes_in rows u (at + (2 + length name)) t rest)
 
 -- the marks of a command stand at values of it, in reading order and apart
-pub roles_taken : (rows : List Row) (c : Items) → Takes 4 c (roles rows c) []
-roles_taken rows c =
+pub roles_taken : (rows : List Row) (at : ℕ) (c : Items) → Takes (at + 4) c (roles rows at c) []
+roles_taken rows at c =
     let s = station rows Outside (command_entry c) in
-    subst (λ (ms : List Mark). Takes 4 c ms []) (append-nil (marks rows (shown rows s 4 [] c)) ∙ sym (roles_shown rows c))
-    (takes_among rows s 4 [] c [])
+    subst (λ (ms : List Mark). Takes (at + 4) c ms []) (append-nil (marks rows (shown rows s (at + 4) [] c)) ∙ sym (roles_shown rows at c))
+    (takes_among rows s (at + 4) [] c [])
 
 few_apart : (from : ℕ) (ms : List Mark) (to : ℕ) → AreApart from ms to → from + 2 * length ms ≤ to
 few_apart from [] to a = omega (arith, a)
 few_apart from (m ∷ ms) to a = omega (arith, a.0, a.1, few_apart m.end ms to a.2)
 
 -- a command has no more than half as many marks as bytes
-pub few_roles : (rows : List Row) (c : Items) → 4 + 2 * length (roles rows c) ≤ length (doc_bytes c)
-few_roles rows c = few_apart 4 (roles rows c) (length (doc_bytes c)) (roles_apart rows c)
+pub few_roles : (rows : List Row) (at : ℕ) (c : Items) → 4 + 2 * length (roles rows at c) ≤ length (doc_bytes c)
+few_roles rows at c =
+    omega (arith, few_apart (at + 4) (roles rows at c) (at + length (doc_bytes c)) (roles_apart rows at c))

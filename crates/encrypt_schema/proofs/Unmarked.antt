@@ -104,11 +104,11 @@ mutual
       (free_among s (at + (2 + length name) + length (value_bytes t)) (elder ++ name ∷ []) is h)
 
 -- without rules nothing is protected
-pub no_rows_no_roles : (c : Items) → roles [] c ≡ []
-no_rows_no_roles c =
+pub no_rows_no_roles : (at : ℕ) (c : Items) → roles [] at c ≡ []
+no_rows_no_roles at c =
     let h = command_free (command_entry c).names in
-    ap (λ (ms : List Mark). ms ++ marks [] (visits [] (station [] Outside (command_entry c)) 4 [] c)) (free_unmarked (station [] Outside (command_entry c)) (command_visit c) h)
-    ∙ free_among (station [] Outside (command_entry c)) 4 [] c h
+    ap (λ (ms : List Mark). ms ++ marks [] (visits [] (station [] Outside (command_entry c)) (at + 4) [] c)) (free_unmarked (station [] Outside (command_entry c)) (command_visit c) h)
+    ∙ free_among (station [] Outside (command_entry c)) (at + 4) [] c h
 
 -- commands that pass
 
@@ -140,25 +140,25 @@ unfolding is_passed named
 passed_command name names h =
     pass_among name names passed_names (refl, (refl, (refl, (refl, (refl, (refl, (refl, (refl, tt)))))))) h
 
-unread : (rows : List Row) (c : Items) (s : Station) → s ≡ Passed
-    → mark_at s (command_visit c) ++ marks rows (visits rows s 4 [] c) ≡ []
-unread rows c s e =
-    let a = (silent rows Passed 4 [] c refl).0 in
-    ap (λ (u : Station). mark_at u (command_visit c) ++ marks rows (visits rows u 4 [] c)) e ∙ a
+unread : (rows : List Row) (at : ℕ) (c : Items) (s : Station) → s ≡ Passed
+    → mark_at s (command_visit c) ++ marks rows (visits rows s at [] c) ≡ []
+unread rows at c s e =
+    let a = (silent rows Passed at [] c refl).0 in
+    ap (λ (u : Station). mark_at u (command_visit c) ++ marks rows (visits rows u at [] c)) e ∙ a
 
-unjudged : (rows : List Row) (c : Items) (s : Station) → s ≡ Passed
-    → or_else (refused_at 0 (least (command_lacks s (names_of c)))) (first_refusal rows (visits rows s 4 [] c)) ≡ None
-unjudged rows c s e =
-    let a = (silent rows Passed 4 [] c refl).1 in
-    ap (λ (u : Station). or_else (refused_at 0 (least (command_lacks u (names_of c)))) (first_refusal rows (visits rows u 4 [] c))) e ∙ a
+unjudged : (rows : List Row) (at : ℕ) (c : Items) (s : Station) → s ≡ Passed
+    → or_else (refused_at 0 (least (command_lacks s (names_of c)))) (first_refusal rows (visits rows s at [] c)) ≡ None
+unjudged rows at c s e =
+    let a = (silent rows Passed at [] c refl).1 in
+    ap (λ (u : Station). or_else (refused_at 0 (least (command_lacks u (names_of c)))) (first_refusal rows (visits rows u at [] c))) e ∙ a
 
 -- in a command that passes nothing is protected
-pub passed_no_roles : (rows : List Row) (name : List ℕ) (t : Tree) (is : Items) → is_passed name ≡ true
-    → roles rows (item name t is) ≡ []
-passed_no_roles rows name t is h = unread rows (item name t is) _ (passed_command name (names_of is) h)
+pub passed_no_roles : (rows : List Row) (at : ℕ) (name : List ℕ) (t : Tree) (is : Items) → is_passed name ≡ true
+    → roles rows at (item name t is) ≡ []
+passed_no_roles rows at name t is h = unread rows (at + 4) (item name t is) _ (passed_command name (names_of is) h)
 
 -- and nothing is refused
-pub passed_no_refusal : (rows : List Row) (name : List ℕ) (t : Tree) (is : Items) → is_passed name ≡ true
-    → first_refusal rows (command_visits rows (item name t is)) ≡ None
+pub passed_no_refusal : (rows : List Row) (at : ℕ) (name : List ℕ) (t : Tree) (is : Items) → is_passed name ≡ true
+    → first_refusal rows (command_visits rows at (item name t is)) ≡ None
 unfolding offence
-passed_no_refusal rows name t is h = unjudged rows (item name t is) _ (passed_command name (names_of is) h)
+passed_no_refusal rows at name t is h = unjudged rows (at + 4) (item name t is) _ (passed_command name (names_of is) h)

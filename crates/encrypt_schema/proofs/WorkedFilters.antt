@@ -18,11 +18,11 @@ abbrev pub one_of_three : Items
 one_of_three =
     find_by (text (codes "people")) (node 3 (one (codes "ssn") (node 3 (one (codes "$in") (node 4 (item (codes "0") (text (codes "x")) (item (codes "1") (text (codes "y")) (one (codes "2") (text (codes "x"))))))))))
 
-pub one_of_three_accepted : content_verdict people one_of_three ≡ None
+pub one_of_three_accepted : content_verdict people 0 one_of_three ≡ None
 unfolding class is_again is_dollar is_equality is_logical is_membership is_payload is_position named offence policy_at positional split
 one_of_three_accepted = refl
 
-pub one_of_three_roles : roles people one_of_three
+pub one_of_three_roles : roles people 0 one_of_three
     ≡ mark_at 54 60 2 0 role.Compare
     ∷ mark_at 63 69 2 0 role.Compare
     ∷ mark_at 72 78 2 0 role.Compare ∷ []
@@ -34,11 +34,11 @@ abbrev pub one_of_none : Items
 one_of_none =
     find_by (text (codes "people")) (node 3 (one (codes "ssn") (node 3 (one (codes "$in") (node 4 no_items)))))
 
-pub one_of_none_accepted : content_verdict people one_of_none ≡ None
+pub one_of_none_accepted : content_verdict people 0 one_of_none ≡ None
 unfolding class is_again is_dollar is_equality is_logical is_membership is_position named offence policy_at positional split
 one_of_none_accepted = refl
 
-pub one_of_none_roles : roles people one_of_none ≡ []
+pub one_of_none_roles : roles people 0 one_of_none ≡ []
 unfolding class is_dollar is_equality is_logical is_membership is_position named policy_at positional split
 one_of_none_roles = refl
 
@@ -47,7 +47,7 @@ abbrev pub one_of_text : Items
 one_of_text =
     find_by (text (codes "people")) (node 3 (one (codes "ssn") (node 3 (one (codes "$in") (text (codes "x"))))))
 
-pub one_of_text_refused : content_verdict people one_of_text ≡ refusal BadField 47
+pub one_of_text_refused : content_verdict people 0 one_of_text ≡ refusal BadField 47
 unfolding class is_again is_dollar is_equality is_logical is_membership is_position named offence positional split
 one_of_text_refused = refl
 
@@ -56,7 +56,7 @@ abbrev pub random_one_of : Items
 random_one_of =
     find_by (text (codes "people")) (node 3 (one (codes "salary") (node 3 (one (codes "$in") (node 4 no_items)))))
 
-pub random_one_of_refused : content_verdict people random_one_of ≡ refusal RandomCompared 50
+pub random_one_of_refused : content_verdict people 0 random_one_of ≡ refusal RandomCompared 50
 unfolding class is_again is_dollar is_equality is_logical is_membership is_position named offence policy_at positional split
 random_one_of_refused = refl
 
@@ -64,7 +64,7 @@ random_one_of_refused = refl
 abbrev pub random_compared : Items
 random_compared = find_by (text (codes "people")) (node 3 (one (codes "salary") (int 3)))
 
-pub random_compared_refused : content_verdict people random_compared ≡ refusal RandomCompared 41
+pub random_compared_refused : content_verdict people 0 random_compared ≡ refusal RandomCompared 41
 unfolding class is_again is_dollar is_logical is_payload is_position named offence policy_at positional split
 random_compared_refused = refl
 
@@ -72,7 +72,7 @@ random_compared_refused = refl
 abbrev pub null_compared : Items
 null_compared = find_by (text (codes "people")) (node 3 (one (codes "salary") null))
 
-pub null_compared_refused : content_verdict people null_compared ≡ refusal TypeNotAllowed 41
+pub null_compared_refused : content_verdict people 0 null_compared ≡ refusal TypeNotAllowed 41
 unfolding class is_again is_dollar is_logical is_payload is_position named offence policy_at positional split
 null_compared_refused = refl
 
@@ -81,11 +81,11 @@ abbrev pub random_exists : Items
 random_exists =
     find_by (text (codes "people")) (node 3 (one (codes "salary") (node 3 (one (codes "$exists") yes))))
 
-pub random_exists_accepted : content_verdict people random_exists ≡ None
+pub random_exists_accepted : content_verdict people 0 random_exists ≡ None
 unfolding class is_again is_dollar is_equality is_logical is_membership is_position named offence positional split
 random_exists_accepted = refl
 
-pub random_exists_roles : roles people random_exists ≡ []
+pub random_exists_roles : roles people 0 random_exists ≡ []
 unfolding class is_dollar is_equality is_logical is_membership is_position named positional split
 random_exists_roles = refl
 
@@ -94,11 +94,11 @@ abbrev pub logical : Items
 logical =
     find_by (text (codes "people")) (node 3 (one (codes "$or") (node 4 (item (codes "0") (node 3 (one (codes "ssn") (text (codes "x")))) (one (codes "1") (node 3 (one (codes "ssn") (node 3 (one (codes "$ne") (text (codes "x")))))))))))
 
-pub logical_accepted : content_verdict people logical ≡ None
+pub logical_accepted : content_verdict people 0 logical ≡ None
 unfolding class is_again is_dollar is_equality is_logical is_payload is_position named offence policy_at positional split
 logical_accepted = refl
 
-pub logical_roles : roles people logical
+pub logical_roles : roles people 0 logical
     ≡ mark_at 54 60 2 0 role.Compare ∷ mark_at 82 88 2 0 role.Compare ∷ []
 unfolding class is_dollar is_equality is_logical is_position named positional split
 logical_roles = refl
@@ -108,11 +108,11 @@ abbrev pub negated : Items
 negated =
     find_by (text (codes "people")) (node 3 (one (codes "ssn") (node 3 (one (codes "$not") (node 3 (one (codes "$eq") (text (codes "x"))))))))
 
-pub negated_accepted : content_verdict people negated ≡ None
+pub negated_accepted : content_verdict people 0 negated ≡ None
 unfolding class is_again is_dollar is_equality is_logical is_membership is_payload is_position named offence policy_at positional split
 negated_accepted = refl
 
-pub negated_roles : roles people negated ≡ mark_at 57 63 2 0 role.Compare ∷ []
+pub negated_roles : roles people 0 negated ≡ mark_at 57 63 2 0 role.Compare ∷ []
 unfolding class is_dollar is_equality is_logical is_membership is_position named positional split
 negated_roles = refl
 
@@ -121,7 +121,7 @@ abbrev pub negated_empty : Items
 negated_empty =
     find_by (text (codes "people")) (node 3 (one (codes "ssn") (node 3 (one (codes "$not") empty))))
 
-pub negated_empty_refused : content_verdict people negated_empty ≡ refusal BadField 48
+pub negated_empty_refused : content_verdict people 0 negated_empty ≡ refusal BadField 48
 unfolding class is_again is_dollar is_equality is_logical is_membership is_position named offence positional split
 negated_empty_refused = refl
 
@@ -130,7 +130,7 @@ abbrev pub negated_regex : Items
 negated_regex =
     find_by (text (codes "people")) (node 3 (one (codes "ssn") (node 3 (one (codes "$not") regex))))
 
-pub negated_regex_refused : content_verdict people negated_regex ≡ refusal OperatorOnProtected 48
+pub negated_regex_refused : content_verdict people 0 negated_regex ≡ refusal OperatorOnProtected 48
 unfolding class is_again is_dollar is_equality is_logical is_membership is_position named offence positional split
 negated_regex_refused = refl
 
@@ -138,7 +138,7 @@ negated_regex_refused = refl
 abbrev pub empty_compared : Items
 empty_compared = find_by (text (codes "people")) (node 3 (one (codes "ssn") empty))
 
-pub empty_compared_refused : content_verdict people empty_compared ≡ refusal TypeNotAllowed 38
+pub empty_compared_refused : content_verdict people 0 empty_compared ≡ refusal TypeNotAllowed 38
 unfolding class is_again is_dollar is_logical is_position named offence policy_at positional split
 empty_compared_refused = refl
 
@@ -147,7 +147,7 @@ abbrev pub later_plain_name : Items
 later_plain_name =
     find_by (text (codes "people")) (node 3 (one (codes "ssn") (node 3 (item (codes "$eq") (text (codes "x")) (one (codes "n") (int 1))))))
 
-pub later_plain_name_refused : content_verdict people later_plain_name ≡ refusal OperatorOnProtected 56
+pub later_plain_name_refused : content_verdict people 0 later_plain_name ≡ refusal OperatorOnProtected 56
 unfolding class is_again is_dollar is_equality is_logical is_membership is_payload is_position named offence policy_at positional split
 later_plain_name_refused = refl
 
@@ -155,7 +155,7 @@ later_plain_name_refused = refl
 abbrev pub by_javascript : Items
 by_javascript = find_by (text (codes "people")) (node 3 (one (codes "$where") (text (codes "x"))))
 
-pub by_javascript_refused : content_verdict people by_javascript ≡ refusal FieldNotAllowed 41
+pub by_javascript_refused : content_verdict people 0 by_javascript ≡ refusal FieldNotAllowed 41
 unfolding is_again is_dollar is_logical named offence
 by_javascript_refused = refl
 
@@ -163,11 +163,11 @@ by_javascript_refused = refl
 abbrev pub comment : Items
 comment = find_by (text (codes "people")) (node 3 (one (codes "$comment") (text (codes "x"))))
 
-pub comment_accepted : content_verdict people comment ≡ None
+pub comment_accepted : content_verdict people 0 comment ≡ None
 unfolding is_again is_dollar is_logical named offence
 comment_accepted = refl
 
-pub comment_roles : roles people comment ≡ []
+pub comment_roles : roles people 0 comment ≡ []
 unfolding is_dollar is_logical named
 comment_roles = refl
 
@@ -175,7 +175,7 @@ comment_roles = refl
 abbrev pub prefix_compared : Items
 prefix_compared = find_by (text (codes "staff")) (node 3 (one (codes "a") (node 3 (one (codes "b") (int 1)))))
 
-pub prefix_compared_refused : content_verdict staff prefix_compared ≡ refusal PrefixCompared 35
+pub prefix_compared_refused : content_verdict staff 0 prefix_compared ≡ refusal PrefixCompared 35
 unfolding class is_again is_dollar is_logical is_position named offence positional split
 prefix_compared_refused = refl
 
@@ -184,7 +184,7 @@ abbrev pub prefix_operator : Items
 prefix_operator =
     find_by (text (codes "staff")) (node 3 (one (codes "a") (node 3 (one (codes "$gt") (int 1)))))
 
-pub prefix_operator_refused : content_verdict staff prefix_operator ≡ refusal OperatorOnProtected 44
+pub prefix_operator_refused : content_verdict staff 0 prefix_operator ≡ refusal OperatorOnProtected 44
 unfolding class is_again is_dollar is_equality is_logical is_membership is_position named offence positional split
 prefix_operator_refused = refl
 
@@ -192,11 +192,11 @@ prefix_operator_refused = refl
 abbrev pub prefix_regex : Items
 prefix_regex = find_by (text (codes "staff")) (node 3 (one (codes "a") (node 3 (one (codes "$not") regex))))
 
-pub prefix_regex_accepted : content_verdict staff prefix_regex ≡ None
+pub prefix_regex_accepted : content_verdict staff 0 prefix_regex ≡ None
 unfolding class is_again is_dollar is_equality is_logical is_membership is_position named offence positional split
 prefix_regex_accepted = refl
 
-pub prefix_regex_roles : roles staff prefix_regex ≡ []
+pub prefix_regex_roles : roles staff 0 prefix_regex ≡ []
 unfolding class is_dollar is_equality is_logical is_membership is_position named positional split
 prefix_regex_roles = refl
 
@@ -204,7 +204,7 @@ prefix_regex_roles = refl
 abbrev pub below_compared : Items
 below_compared = find_by (text (codes "staff")) (node 3 (one (codes "a.b.c") (int 1)))
 
-pub below_compared_refused : content_verdict staff below_compared ≡ refusal BelowProtected 39
+pub below_compared_refused : content_verdict staff 0 below_compared ≡ refusal BelowProtected 39
 unfolding class is_again is_dollar is_logical is_position named offence positional split
 below_compared_refused = refl
 
@@ -212,7 +212,7 @@ below_compared_refused = refl
 abbrev pub positional_compared : Items
 positional_compared = find_by (text (codes "staff")) (node 3 (one (codes "a.0.b") (int 1)))
 
-pub positional_compared_refused : content_verdict staff positional_compared ≡ refusal PositionalOnPath 39
+pub positional_compared_refused : content_verdict staff 0 positional_compared ≡ refusal PositionalOnPath 39
 unfolding class is_again is_dollar is_logical is_position named offence positional split
 positional_compared_refused = refl
 
@@ -220,11 +220,11 @@ positional_compared_refused = refl
 abbrev pub projected : Items
 projected = find_in (text (codes "people")) empty (node 3 (one (codes "ssn") (int 1)))
 
-pub projected_accepted : content_verdict people projected ≡ None
+pub projected_accepted : content_verdict people 0 projected ≡ None
 unfolding is_again named offence
 projected_accepted = refl
 
-pub projected_roles : roles people projected ≡ []
+pub projected_roles : roles people 0 projected ≡ []
 unfolding named
 projected_roles = refl
 
@@ -233,7 +233,7 @@ abbrev pub projected_element : Items
 projected_element =
     find_in (text (codes "people")) empty (node 3 (one (codes "ssn") (node 3 (one (codes "$elemMatch") empty))))
 
-pub projected_element_refused : content_verdict people projected_element ≡ refusal FieldNotAllowed 55
+pub projected_element_refused : content_verdict people 0 projected_element ≡ refusal FieldNotAllowed 55
 unfolding is_again named offence
 projected_element_refused = refl
 
@@ -241,7 +241,7 @@ projected_element_refused = refl
 abbrev pub no_filter : Items
 no_filter = find_by (text (codes "people")) (int 1)
 
-pub no_filter_refused : content_verdict people no_filter ≡ refusal BadField 29
+pub no_filter_refused : content_verdict people 0 no_filter ≡ refusal BadField 29
 unfolding is_again named offence
 no_filter_refused = refl
 
@@ -250,6 +250,6 @@ abbrev pub lower_bound : Items
 lower_bound =
     item (codes "find") (text (codes "people")) (item (codes "min") empty (one (codes "$db") (text (codes "hr"))))
 
-pub lower_bound_refused : content_verdict people lower_bound ≡ refusal FieldNotAllowed 26
+pub lower_bound_refused : content_verdict people 0 lower_bound ≡ refusal FieldNotAllowed 26
 unfolding is_again named offence
 lower_bound_refused = refl

@@ -12,23 +12,32 @@ abbrev pub aggregate : Items
 aggregate =
     item (codes "aggregate") (text (codes "people")) (item (codes "pipeline") (node 4 no_items) (one (codes "cursor") empty))
 
-pub aggregate_refused : target (codes "hr") collections aggregate ≡ refusal NotACommand 15
+pub aggregate_refused : target (codes "hr") collections 0 aggregate ≡ refusal NotACommand 15
 unfolding is_marked is_passed named target
 aggregate_refused = refl
+
+-- the same inside another document, in which it begins at 7
+pub aggregate_inside_refused : target (codes "hr") collections 7 aggregate ≡ refusal NotACommand 22
+unfolding is_marked is_passed named target
+aggregate_inside_refused = refl
 
 -- the empty document, refused at the command
 abbrev pub nothing : Items
 nothing = no_items
 
-pub nothing_refused : target (codes "hr") collections nothing ≡ refusal NotACommand 0
+pub nothing_refused : target (codes "hr") collections 0 nothing ≡ refusal NotACommand 0
 unfolding target
 nothing_refused = refl
+
+pub nothing_inside_refused : target (codes "hr") collections 7 nothing ≡ refusal NotACommand 0
+unfolding target
+nothing_inside_refused = refl
 
 -- find 1, refused at 0
 abbrev pub no_name : Items
 no_name = item (codes "find") (int 1) (one (codes "$db") (text (codes "hr")))
 
-pub no_name_refused : target (codes "hr") collections no_name ≡ refusal BadField 10
+pub no_name_refused : target (codes "hr") collections 0 no_name ≡ refusal BadField 10
 unfolding is_marked is_passed named target
 no_name_refused = refl
 
@@ -36,7 +45,7 @@ no_name_refused = refl
 abbrev pub empty_name : Items
 empty_name = item (codes "find") (text []) (one (codes "$db") (text (codes "hr")))
 
-pub empty_name_refused : target (codes "hr") collections empty_name ≡ refusal BadField 10
+pub empty_name_refused : target (codes "hr") collections 0 empty_name ≡ refusal BadField 10
 unfolding is_marked is_passed named target
 empty_name_refused = refl
 
@@ -45,7 +54,7 @@ abbrev pub command_twice : Items
 command_twice =
     item (codes "find") (text (codes "people")) (item (codes "find") (text (codes "people")) (one (codes "$db") (text (codes "hr"))))
 
-pub command_twice_refused : target (codes "hr") collections command_twice ≡ refusal BadField 27
+pub command_twice_refused : target (codes "hr") collections 0 command_twice ≡ refusal BadField 27
 unfolding is_db is_marked is_passed named target
 command_twice_refused = refl
 
@@ -54,7 +63,7 @@ abbrev pub other_database : Items
 other_database =
     item (codes "insert") (text (codes "people")) (item (codes "documents") (node 4 no_items) (one (codes "$db") (text (codes "x"))))
 
-pub other_database_refused : target (codes "hr") collections other_database ≡ refusal WrongDb 44
+pub other_database_refused : target (codes "hr") collections 0 other_database ≡ refusal WrongDb 44
 unfolding is_db is_marked is_passed named target
 other_database_refused = refl
 
@@ -63,7 +72,7 @@ abbrev pub database_twice : Items
 database_twice =
     item (codes "insert") (text (codes "people")) (item (codes "documents") (node 4 no_items) (item (codes "$db") (text (codes "hr")) (one (codes "$db") (text (codes "hr")))))
 
-pub database_twice_refused : target (codes "hr") collections database_twice ≡ refusal BadField 56
+pub database_twice_refused : target (codes "hr") collections 0 database_twice ≡ refusal BadField 56
 unfolding is_db is_marked is_passed named target
 database_twice_refused = refl
 
@@ -72,7 +81,7 @@ abbrev pub no_database : Items
 no_database =
     item (codes "insert") (text (codes "people")) (item (codes "documents") (node 4 no_items) (one (codes "$db") (int 1)))
 
-pub no_database_refused : target (codes "hr") collections no_database ≡ refusal BadField 44
+pub no_database_refused : target (codes "hr") collections 0 no_database ≡ refusal BadField 44
 unfolding is_db is_marked is_passed named target
 no_database_refused = refl
 
@@ -80,7 +89,7 @@ no_database_refused = refl
 abbrev pub view_named : Items
 view_named = insert_into (text (codes "v")) (node 3 (one (codes "p") (int 1)))
 
-pub view_named_refused : target (codes "hr") collections view_named ≡ refusal View 12
+pub view_named_refused : target (codes "hr") collections 0 view_named ≡ refusal View 12
 unfolding is_db is_marked is_passed named target
 view_named_refused = refl
 
@@ -89,7 +98,7 @@ abbrev pub view_elsewhere : Items
 view_elsewhere =
     item (codes "insert") (text (codes "v")) (item (codes "documents") (node 4 no_items) (one (codes "$db") (text (codes "x"))))
 
-pub view_elsewhere_refused : target (codes "hr") collections view_elsewhere ≡ refusal WrongDb 39
+pub view_elsewhere_refused : target (codes "hr") collections 0 view_elsewhere ≡ refusal WrongDb 39
 unfolding is_db is_marked is_passed named target
 view_elsewhere_refused = refl
 
@@ -97,7 +106,7 @@ view_elsewhere_refused = refl
 abbrev pub ping : Items
 ping = item (codes "ping") (int 1) (one (codes "$db") (text (codes "admin")))
 
-pub ping_accepted : verdict (codes "hr") collections ping ≡ None
+pub ping_accepted : verdict (codes "hr") collections 0 ping ≡ None
 unfolding is_passed named rows_of target
 ping_accepted = refl
 
@@ -105,6 +114,6 @@ ping_accepted = refl
 abbrev pub unknown : Items
 unknown = insert_into (text (codes "unknown")) (node 3 (one (codes "ssn") (text (codes "x"))))
 
-pub unknown_accepted : verdict (codes "hr") collections unknown ≡ None
+pub unknown_accepted : verdict (codes "hr") collections 0 unknown ≡ None
 unfolding is_db is_marked is_passed named rows_of target
 unknown_accepted = refl

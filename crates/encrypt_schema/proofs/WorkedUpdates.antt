@@ -18,11 +18,11 @@ abbrev pub dotted_set : Items
 dotted_set =
     update_by (text (codes "staff")) (node 3 (one (codes "$set") (node 3 (one (codes "a.b") (int 1)))))
 
-pub dotted_set_accepted : content_verdict staff dotted_set ≡ None
+pub dotted_set_accepted : content_verdict staff 0 dotted_set ≡ None
 unfolding class is_again is_dollar is_payload is_position is_set named offence policy_at positional split
 dotted_set_accepted = refl
 
-pub dotted_set_roles : roles staff dotted_set ≡ mark_at 72 76 16 0 role.Store ∷ []
+pub dotted_set_roles : roles staff 0 dotted_set ≡ mark_at 72 76 16 0 role.Store ∷ []
 unfolding class is_dollar is_position is_set named positional split
 dotted_set_roles = refl
 
@@ -31,11 +31,11 @@ abbrev pub nested_set : Items
 nested_set =
     update_by (text (codes "staff")) (node 3 (one (codes "$set") (node 3 (one (codes "a") (node 3 (one (codes "b") (int 1)))))))
 
-pub nested_set_accepted : content_verdict staff nested_set ≡ None
+pub nested_set_accepted : content_verdict staff 0 nested_set ≡ None
 unfolding class is_again is_dollar is_payload is_position is_set named offence policy_at positional split
 nested_set_accepted = refl
 
-pub nested_set_roles : roles staff nested_set ≡ mark_at 77 81 16 0 role.Store ∷ []
+pub nested_set_roles : roles staff 0 nested_set ≡ mark_at 77 81 16 0 role.Store ∷ []
 unfolding class is_dollar is_position is_set named positional split
 nested_set_roles = refl
 
@@ -43,11 +43,11 @@ nested_set_roles = refl
 abbrev pub replaced : Items
 replaced = update_by (text (codes "staff")) (node 3 (one (codes "a") (node 3 (one (codes "b") (int 1)))))
 
-pub replaced_accepted : content_verdict staff replaced ≡ None
+pub replaced_accepted : content_verdict staff 0 replaced ≡ None
 unfolding class is_again is_dollar is_payload named offence policy_at
 replaced_accepted = refl
 
-pub replaced_roles : roles staff replaced ≡ mark_at 67 71 16 0 role.Store ∷ []
+pub replaced_roles : roles staff 0 replaced ≡ mark_at 67 71 16 0 role.Store ∷ []
 unfolding class is_dollar named
 replaced_roles = refl
 
@@ -56,7 +56,7 @@ abbrev pub positional_set : Items
 positional_set =
     update_by (text (codes "staff")) (node 3 (one (codes "$set") (node 3 (one (codes "a.0.b") (int 1)))))
 
-pub positional_set_refused : content_verdict staff positional_set ≡ refusal PositionalOnPath 74
+pub positional_set_refused : content_verdict staff 0 positional_set ≡ refusal PositionalOnPath 74
 unfolding class is_again is_dollar is_position is_set named offence positional split
 positional_set_refused = refl
 
@@ -65,7 +65,7 @@ abbrev pub text_set : Items
 text_set =
     update_by (text (codes "staff")) (node 3 (one (codes "$setOnInsert") (node 3 (one (codes "a.b") (text (codes "t"))))))
 
-pub text_set_refused : content_verdict staff text_set ≡ refusal TypeNotAllowed 80
+pub text_set_refused : content_verdict staff 0 text_set ≡ refusal TypeNotAllowed 80
 unfolding class is_again is_dollar is_payload is_position is_set named offence policy_at positional split
 text_set_refused = refl
 
@@ -74,7 +74,7 @@ abbrev pub array_set : Items
 array_set =
     update_by (text (codes "staff")) (node 3 (one (codes "$set") (node 3 (one (codes "a") (node 4 no_items)))))
 
-pub array_set_refused : content_verdict staff array_set ≡ refusal ArrayOnPath 70
+pub array_set_refused : content_verdict staff 0 array_set ≡ refusal ArrayOnPath 70
 unfolding class is_again is_dollar is_position is_set named offence positional split
 array_set_refused = refl
 
@@ -82,7 +82,7 @@ array_set_refused = refl
 abbrev pub number_set : Items
 number_set = update_by (text (codes "staff")) (node 3 (one (codes "$set") (int 1)))
 
-pub number_set_refused : content_verdict staff number_set ≡ refusal BadField 63
+pub number_set_refused : content_verdict staff 0 number_set ≡ refusal BadField 63
 unfolding is_again is_dollar named offence
 number_set_refused = refl
 
@@ -91,7 +91,7 @@ abbrev pub plain_name : Items
 plain_name =
     update_by (text (codes "staff")) (node 3 (item (codes "$set") (node 3 (one (codes "c") (int 1))) (one (codes "x") (int 1))))
 
-pub plain_name_refused : content_verdict staff plain_name ≡ refusal BadField 78
+pub plain_name_refused : content_verdict staff 0 plain_name ≡ refusal BadField 78
 unfolding class is_again is_dollar is_position is_set named offence positional split
 plain_name_refused = refl
 
@@ -99,7 +99,7 @@ plain_name_refused = refl
 abbrev pub pipeline : Items
 pipeline = update_by (text (codes "staff")) (node 4 no_items)
 
-pub pipeline_refused : content_verdict staff pipeline ≡ refusal Pipeline 53
+pub pipeline_refused : content_verdict staff 0 pipeline ≡ refusal Pipeline 53
 unfolding is_again named offence
 pipeline_refused = refl
 
@@ -107,7 +107,7 @@ pipeline_refused = refl
 abbrev pub no_update : Items
 no_update = update_with (text (codes "staff")) (node 3 (one (codes "q") empty))
 
-pub no_update_refused : content_verdict staff no_update ≡ refusal BadField 38
+pub no_update_refused : content_verdict staff 0 no_update ≡ refusal BadField 38
 unfolding is_again named offence
 no_update_refused = refl
 
@@ -116,7 +116,7 @@ abbrev pub update_twice : Items
 update_twice =
     update_with (text (codes "staff")) (node 3 (item (codes "q") empty (item (codes "u") empty (one (codes "u") (node 4 no_items)))))
 
-pub update_twice_refused : content_verdict staff update_twice ≡ refusal BadField 61
+pub update_twice_refused : content_verdict staff 0 update_twice ≡ refusal BadField 61
 unfolding is_again named offence
 update_twice_refused = refl
 
@@ -125,7 +125,7 @@ abbrev pub array_filters : Items
 array_filters =
     update_with (text (codes "staff")) (node 3 (item (codes "q") empty (item (codes "u") empty (one (codes "arrayFilters") (node 4 no_items)))))
 
-pub array_filters_refused : content_verdict staff array_filters ≡ refusal FieldNotAllowed 72
+pub array_filters_refused : content_verdict staff 0 array_filters ≡ refusal FieldNotAllowed 72
 unfolding is_again named offence
 array_filters_refused = refl
 
@@ -134,11 +134,11 @@ abbrev pub unset : Items
 unset =
     update_by (text (codes "staff")) (node 3 (one (codes "$unset") (node 3 (one (codes "a.b") (text [])))))
 
-pub unset_accepted : content_verdict staff unset ≡ None
+pub unset_accepted : content_verdict staff 0 unset ≡ None
 unfolding class is_again is_dollar is_position is_set named offence positional split
 unset_accepted = refl
 
-pub unset_roles : roles staff unset ≡ []
+pub unset_roles : roles staff 0 unset ≡ []
 unfolding is_dollar is_set named
 unset_roles = refl
 
@@ -147,7 +147,7 @@ abbrev pub unset_below : Items
 unset_below =
     update_by (text (codes "staff")) (node 3 (one (codes "$unset") (node 3 (one (codes "a.b.c") (text [])))))
 
-pub unset_below_refused : content_verdict staff unset_below ≡ refusal BelowProtected 76
+pub unset_below_refused : content_verdict staff 0 unset_below ≡ refusal BelowProtected 76
 unfolding class is_again is_dollar is_position is_set named offence positional split
 unset_below_refused = refl
 
@@ -156,7 +156,7 @@ abbrev pub increased : Items
 increased =
     update_by (text (codes "staff")) (node 3 (one (codes "$inc") (node 3 (one (codes "a.b") (int 1)))))
 
-pub increased_refused : content_verdict staff increased ≡ refusal OperatorOnProtected 72
+pub increased_refused : content_verdict staff 0 increased ≡ refusal OperatorOnProtected 72
 unfolding class is_again is_dollar is_position is_set named offence positional split
 increased_refused = refl
 
@@ -165,7 +165,7 @@ abbrev pub increased_below : Items
 increased_below =
     update_by (text (codes "staff")) (node 3 (one (codes "$inc") (node 3 (one (codes "a.b.c") (int 1)))))
 
-pub increased_below_refused : content_verdict staff increased_below ≡ refusal OperatorOnProtected 74
+pub increased_below_refused : content_verdict staff 0 increased_below ≡ refusal OperatorOnProtected 74
 unfolding class is_again is_dollar is_position is_set named offence positional split
 increased_below_refused = refl
 
@@ -174,7 +174,7 @@ abbrev pub renamed_to_clear : Items
 renamed_to_clear =
     update_by (text (codes "staff")) (node 3 (one (codes "$rename") (node 3 (one (codes "a.b") (text (codes "c"))))))
 
-pub renamed_to_clear_refused : content_verdict staff renamed_to_clear ≡ refusal RenameMixed 75
+pub renamed_to_clear_refused : content_verdict staff 0 renamed_to_clear ≡ refusal RenameMixed 75
 unfolding class is_again is_dollar is_position is_set named offence positional renamed split
 renamed_to_clear_refused = refl
 
@@ -183,7 +183,7 @@ abbrev pub renamed_below : Items
 renamed_below =
     update_by (text (codes "staff")) (node 3 (one (codes "$rename") (node 3 (one (codes "a.b.c") (text (codes "d"))))))
 
-pub renamed_below_refused : content_verdict staff renamed_below ≡ refusal RenameMixed 77
+pub renamed_below_refused : content_verdict staff 0 renamed_below ≡ refusal RenameMixed 77
 unfolding class is_again is_dollar is_position is_set named offence positional renamed split
 renamed_below_refused = refl
 
@@ -192,7 +192,7 @@ abbrev pub renamed_to_number : Items
 renamed_to_number =
     update_by (text (codes "staff")) (node 3 (one (codes "$rename") (node 3 (one (codes "a.0.b") (int 1)))))
 
-pub renamed_to_number_refused : content_verdict staff renamed_to_number ≡ refusal BadField 77
+pub renamed_to_number_refused : content_verdict staff 0 renamed_to_number ≡ refusal BadField 77
 unfolding class is_again is_dollar is_position is_set named offence positional renamed split
 renamed_to_number_refused = refl
 
@@ -201,7 +201,7 @@ abbrev pub renamed_to_position : Items
 renamed_to_position =
     update_by (text (codes "staff")) (node 3 (one (codes "$rename") (node 3 (one (codes "c") (text (codes "a.0.b"))))))
 
-pub renamed_to_position_refused : content_verdict staff renamed_to_position ≡ refusal PositionalOnPath 73
+pub renamed_to_position_refused : content_verdict staff 0 renamed_to_position ≡ refusal PositionalOnPath 73
 unfolding class is_again is_dollar is_position is_set named offence positional renamed split
 renamed_to_position_refused = refl
 
@@ -210,11 +210,11 @@ abbrev pub renamed_alike : Items
 renamed_alike =
     update_by (text (codes "pair")) (node 3 (one (codes "$rename") (node 3 (one (codes "x") (text (codes "y"))))))
 
-pub renamed_alike_accepted : content_verdict pair renamed_alike ≡ None
+pub renamed_alike_accepted : content_verdict pair 0 renamed_alike ≡ None
 unfolding class is_again is_dollar is_policy is_position is_set named offence policy_at positional renamed split
 renamed_alike_accepted = refl
 
-pub renamed_alike_roles : roles pair renamed_alike ≡ []
+pub renamed_alike_roles : roles pair 0 renamed_alike ≡ []
 unfolding is_dollar is_set named
 renamed_alike_roles = refl
 
@@ -223,6 +223,6 @@ abbrev pub renamed_otherwise : Items
 renamed_otherwise =
     update_by (text (codes "pair")) (node 3 (one (codes "$rename") (node 3 (one (codes "x") (text (codes "z"))))))
 
-pub renamed_otherwise_refused : content_verdict pair renamed_otherwise ≡ refusal RenameMixed 72
+pub renamed_otherwise_refused : content_verdict pair 0 renamed_otherwise ≡ refusal RenameMixed 72
 unfolding class is_again is_dollar is_policy is_position is_set named offence policy_at positional renamed split
 renamed_otherwise_refused = refl

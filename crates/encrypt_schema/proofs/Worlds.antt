@@ -24,9 +24,10 @@ abbrev mutual
       ∷ (shown_in rows (station rows s (entry name t)) (at + (2 + length name)) t
       ++ shown rows s (at + (2 + length name) + length (value_bytes t)) (elder ++ name ∷ []) is)
 
--- those of a command
-abbrev pub command_shown : List Row → Items → List Visit
-command_shown rows c = command_visit c ∷ shown rows (station rows Outside (command_entry c)) 4 [] c
+-- those of a command that begins at `at`
+abbrev pub command_shown : List Row → ℕ → Items → List Visit
+command_shown rows at c =
+    command_visit c ∷ shown rows (station rows Outside (command_entry c)) (at + 4) [] c
 
 -- the same places, read from a skeleton
 abbrev pub skeleton_visit : Station → List (List ℕ) → ℕ → List ℕ → Skeleton → Visit
@@ -47,10 +48,10 @@ abbrev mutual
       ++ seen rows s (at + (2 + length name) + width_of k) (elder ++ name ∷ []) ks)
 
 -- the same places of a command, read from its skeleton
-abbrev pub command_seen : List Row → Skeletons → List Visit
-command_seen rows ks =
+abbrev pub command_seen : List Row → ℕ → Skeletons → List Visit
+command_seen rows at ks =
     record { parent = Outside; elder = []; entry = entry_in [] (branch 3 ks); start = 0; width = widths_of ks + 5 }
-    ∷ seen rows (station rows Outside (entry_in [] (branch 3 ks))) 4 [] ks
+    ∷ seen rows (station rows Outside (entry_in [] (branch 3 ks))) (at + 4) [] ks
 
 -- a place behind its veil
 abbrev pub veil : List Row → Visit → Visit
@@ -99,17 +100,17 @@ command_veiled : (rows : List Row) (e : Entry) → veiled (station rows Outside 
 command_veiled rows e = ap (λ (b : Bool). cond b (without e) e) (command_without_role rows e)
 
 -- what is shown of a command, behind its veil, is what is seen in its skeleton
-pub command_kept : (rows : List Row) (c : Items)
-    → map (veil rows) (command_shown rows c) ≡ command_seen rows (skeleton rows c)
-command_kept rows c =
+pub command_kept : (rows : List Row) (at : ℕ) (c : Items)
+    → map (veil rows) (command_shown rows at c) ≡ command_seen rows at (skeleton rows c)
+command_kept rows at c =
     let e = command_entry c in
     let u = station rows Outside e in
     let a : e ≡ entry_in [] (branch 3 (skeletons rows u c))
     = ap (λ (ns : List (List ℕ)). record { name = []; tag = 3; names = ns; raw = []; payload = false }) (sym (names_kept rows u c)) in
     let v = command_veiled rows e in
     let w : widths_of (skeletons rows u c) + 5 ≡ length (framed (items_bytes c)) = omega (arith, widths_kept rows u c, framed_length (items_bytes c)) in
-    let rest : map (veil rows) (shown rows u 4 [] c) ≡ seen rows (station rows Outside (entry_in [] (branch 3 (skeletons rows u c)))) 4 [] (skeletons rows u c)
-    = shown_kept rows u 4 [] c ∙ ap (λ (f : Entry). seen rows (station rows Outside f) 4 [] (skeletons rows u c)) a in
+    let rest : map (veil rows) (shown rows u (at + 4) [] c) ≡ seen rows (station rows Outside (entry_in [] (branch 3 (skeletons rows u c)))) (at + 4) [] (skeletons rows u c)
+    = shown_kept rows u (at + 4) [] c ∙ ap (λ (f : Entry). seen rows (station rows Outside f) (at + 4) [] (skeletons rows u c)) a in
     let first : veil rows (command_visit c) ≡ record { parent = Outside; elder = []; entry = entry_in [] (branch 3 (skeletons rows u c)); start = 0; width = widths_of (skeletons rows u c) + 5 }
     = ap (λ (f : Entry). record { parent = Outside; elder = []; entry = f; start = 0; width = length (framed (items_bytes c)) }) (v ∙ a)
     ∙ ap (λ (n : ℕ). record { parent = Outside; elder = []; entry = entry_in [] (branch 3 (skeletons rows u c)); start = 0; width = n }) (sym w) in

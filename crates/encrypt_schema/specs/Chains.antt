@@ -1,10 +1,10 @@
 -- MongoDB commands insert, update, delete and find, by places: what a place is, read from its chain, which is
 -- the command, the place's ancestors and itself. A place is a list of child numbers; the empty one is the
 -- command itself.
-use Rattle.std.specs.Prelude.{ℕ, zero, suc, Bool, false, not, ◌||◌, List, [], ◌∷◌, ◌++◌, length, Option, Some, None, unwrap_or, option_map, option_and_then, flat_map}
+use Rattle.std.specs.Prelude.{ℕ, zero, suc, ◌+◌, Bool, false, not, ◌||◌, List, [], ◌∷◌, ◌++◌, length, Option, Some, None, unwrap_or, option_map, option_and_then, flat_map}
 use Rattle.std.specs.Option.{option_map_or}
 use Rattle.bson_tree.specs.Tree.{Tree, leaf, node, Items, no_items, item}
-use Rattle.bson_tree.specs.Places.{tree_at, start_of, places}
+use Rattle.bson_tree.specs.Places.{tree_at, start_from, places}
 use Rattle.bson_tree.specs.Spelling.{value_bytes}
 use Rattle.encrypt_schema.specs.declared.marks.Mark.{Mark}
 use Rattle.encrypt_schema.specs.declared.marks.Role.{Role}
@@ -12,7 +12,8 @@ use Rattle.encrypt_schema.specs.declared.marks.Role.TheVariants as role
 use Rattle.encrypt_schema.specs.declared.reason.Reason.{Reason}
 use Rattle.encrypt_schema.specs.Row.{Row}
 use Rattle.encrypt_schema.specs.Stations.{Entry, Station, Outside, Store, Compare, station, has_role}
-use Rattle.encrypt_schema.specs.Visits.{entry, Visit, station_of, offence_of, mark_at, Refusal, refusal, or_else}
+use Rattle.encrypt_schema.specs.Offences.{offence}
+use Rattle.encrypt_schema.specs.Visits.{entry, Visit, station_of, mark_at, Refusal, refusal, or_else}
 
 -- what is looked at of an ancestor or of the place: the names of its elder siblings, and itself
 pub record Link : Type 0 where
@@ -57,6 +58,21 @@ abbrev pub last_of : Chain → Link
 last_of (last l) = l
 last_of (onward l rest) = last_of rest
 
+-- the station of the last place of a chain that begins below a value of this station, and its offence
+abbrev pub station_along : List Row → Station → Chain → Station
+station_along rows s links = station rows (parent_along rows s links) (last_of links).entry
+
+abbrev pub offence_along : List Row → Station → Chain → Option Reason
+offence_along rows s links = offence rows (parent_along rows s links) (last_of links).elder (last_of links).entry
+
+-- the station of a place of a command; none where there is no such place
+abbrev pub station_at : List Row → Items → List ℕ → Option Station
+station_at rows c place = option_map (station_along rows Outside) (chain place c)
+
+-- the offence of a place of a command
+abbrev pub offence_at : List Row → Items → List ℕ → Option Reason
+offence_at rows c place = option_and_then (offence_along rows Outside) (chain place c)
+
 -- the length of the value at a place
 abbrev pub width_at : List ℕ → Tree → ℕ
 width_at place t = unwrap_or (option_map (λ value. length (value_bytes value)) (tree_at place t)) 0
@@ -71,24 +87,19 @@ visit_along rows s start width links = record {
   width = width;
 }
 
--- a place of a command, read from its chain; none where there is no such place
-abbrev pub visit_at : List Row → Items → List ℕ → Option Visit
-visit_at rows c place =
-    option_map
-    (visit_along rows Outside (unwrap_or (start_of place c) 0) (width_at place (node 3 c)))
-    (chain place c)
+-- where the value at a place of a command that begins at `at` begins; 0 for the command itself
+abbrev pub start_at : ℕ → List ℕ → Items → ℕ
+start_at at [] c = 0
+start_at at (i ∷ place) c = unwrap_or (start_from i place (at + 4) c) 0
 
--- the station of a place of a command
-abbrev pub station_at : List Row → Items → List ℕ → Option Station
-station_at rows c place = option_map (station_of rows) (visit_at rows c place)
+-- a place of a command that begins at `at`, read from its chain; none where there is no such place
+abbrev pub visit_at : List Row → ℕ → Items → List ℕ → Option Visit
+visit_at rows at c place =
+    option_map (visit_along rows Outside (start_at at place c) (width_at place (node 3 c))) (chain place c)
 
--- the offence of a place of a command
-abbrev pub offence_at : List Row → Items → List ℕ → Option Reason
-offence_at rows c place = option_and_then (offence_of rows) (visit_at rows c place)
-
--- the refusal of a place of a command
-abbrev pub refusal_at : List Row → Items → List ℕ → Option Refusal
-refusal_at rows c place = option_and_then (refusal rows) (visit_at rows c place)
+-- the refusal of a place of a command that begins at `at`
+abbrev pub refusal_at : List Row → ℕ → Items → List ℕ → Option Refusal
+refusal_at rows at c place = option_and_then (refusal rows) (visit_at rows at c place)
 
 -- the first refusal of several
 abbrev pub first_of : List (Option Refusal) → Option Refusal
@@ -125,9 +136,9 @@ site_of rows c place = option_map_or (site_at place) (station_at rows c place) [
 abbrev pub sites : List Row → Items → List Site
 sites rows c = flat_map (site_of rows c) (places c)
 
--- the mark of a place of a command; none where it isn't protected
-abbrev pub mark_of : List Row → Items → List ℕ → List Mark
-mark_of rows c place = option_map_or (λ v. mark_at (station_of rows v) v) (visit_at rows c place) []
+-- the mark of a place of a command that begins at `at`; none where it isn't protected
+abbrev pub mark_of : List Row → ℕ → Items → List ℕ → List Mark
+mark_of rows at c place = option_map_or (λ v. mark_at (station_of rows v) v) (visit_at rows at c place) []
 
 -- the rule and the role of a mark, and of a site
 abbrev pub use_of_mark : Mark → ℕ × Role

@@ -111,9 +111,10 @@ target_of db collections (field ∷ fields) =
     (later_refusal db field.entry.name false fields))
     (view_refusal (is_view (named_by collections (field ∷ fields))) field.start)
 
--- the verdict of the target pass: the command, its database and its collection, with none of its contents
-unfoldable pub target : List ℕ → List Collection → Items → Option Refusal
-target db collections c = target_of db collections (command_fields 4 c)
+-- the verdict of the target pass on a command that begins at `at`: the command, its database and its collection,
+-- with none of its contents
+unfoldable pub target : List ℕ → List Collection → ℕ → Items → Option Refusal
+target db collections at c = target_of db collections (command_fields (at + 4) c)
 
 -- the rules of a collection; none of a view
 abbrev pub rows_in : Option Collection → List Row
@@ -124,6 +125,8 @@ rows_in (Some collection) = if collection.view then [] else collection.rows
 unfoldable pub rows_of : List Collection → Items → List Row
 rows_of collections c = rows_in (named_by collections (command_fields 4 c))
 
--- the verdict on a command: that of the target pass, and where it refuses nothing that of the content pass
-abbrev pub verdict : List ℕ → List Collection → Items → Option Refusal
-verdict db collections c = or_else (target db collections c) (content_verdict (rows_of collections c) c)
+-- the verdict on a command that begins at `at`: that of the target pass, and where it refuses nothing that of the
+-- content pass
+abbrev pub verdict : List ℕ → List Collection → ℕ → Items → Option Refusal
+verdict db collections at c =
+    or_else (target db collections at c) (content_verdict (rows_of collections c) at c)

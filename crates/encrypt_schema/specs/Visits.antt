@@ -78,7 +78,7 @@ abbrev mutual
       ∷ (visits_in rows (station rows parent (entry name t)) (at + (2 + length name)) t
       ++ visits rows parent (at + (2 + length name) + length (value_bytes t)) (elder ++ name ∷ []) is)
 
--- the place of a command itself, which begins at 0
+-- the place of a command itself, which is told at 0, where no value begins
 abbrev pub command_visit : Items → Visit
 command_visit c = record {
   parent = Outside;
@@ -88,9 +88,10 @@ command_visit c = record {
   width = length (value_bytes (node 3 c));
 }
 
--- all places of a command, itself first
-abbrev pub command_visits : List Row → Items → List Visit
-command_visits rows c = command_visit c ∷ visits rows (station rows Outside (command_entry c)) 4 [] c
+-- all places of a command that begins at `at`, itself first
+abbrev pub command_visits : List Row → ℕ → Items → List Visit
+command_visits rows at c =
+    command_visit c ∷ visits rows (station rows Outside (command_entry c)) (at + 4) [] c
 
 -- the station of a place
 abbrev pub station_of : List Row → Visit → Station
@@ -111,9 +112,9 @@ abbrev pub marks : List Row → List Visit → List Mark
 marks rows [] = []
 marks rows (v ∷ vs) = mark_at (station_of rows v) v ++ marks rows vs
 
--- the protected places of a command, in reading order
-abbrev pub roles : List Row → Items → List Mark
-roles rows c = marks rows (command_visits rows c)
+-- the protected places of a command that begins at `at`, in reading order
+abbrev pub roles : List Row → ℕ → Items → List Mark
+roles rows at c = marks rows (command_visits rows at c)
 
 -- the offence of a place
 abbrev pub offence_of : List Row → Visit → Option Reason
@@ -143,7 +144,7 @@ abbrev pub first_refusal : List Row → List Visit → Option Refusal
 first_refusal rows [] = None
 first_refusal rows (v ∷ vs) = or_else (refusal rows v) (first_refusal rows vs)
 
--- the verdict on the contents of a command; without rules nothing is refused
-abbrev pub content_verdict : List Row → Items → Option Refusal
-content_verdict [] c = None
-content_verdict (row ∷ rows) c = first_refusal (row ∷ rows) (command_visits (row ∷ rows) c)
+-- the verdict on the contents of a command that begins at `at`; without rules nothing is refused
+abbrev pub content_verdict : List Row → ℕ → Items → Option Refusal
+content_verdict [] at c = None
+content_verdict (row ∷ rows) at c = first_refusal (row ∷ rows) (command_visits (row ∷ rows) at c)

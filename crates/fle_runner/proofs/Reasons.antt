@@ -226,9 +226,9 @@ places_built : (rows : List Row) (vs : List Visit) → IsBuilt (first_refusal ro
 places_built rows [] = tt
 places_built rows (v ∷ vs) = either_built (refusal rows v) (first_refusal rows vs) (place_built rows v) (places_built rows vs)
 
-pub contents_built : (rows : List Row) (c : Items) → IsBuilt (content_verdict rows c)
+pub contents_built : (rows : List Row) (c : Items) → IsBuilt (content_verdict rows 0 c)
 contents_built [] c = tt
-contents_built (row ∷ rows) c = places_built (row ∷ rows) (command_visits (row ∷ rows) c)
+contents_built (row ∷ rows) c = places_built (row ∷ rows) (command_visits (row ∷ rows) 0 c)
 
 -- nor are the fields by themselves
 later_others : (db command : List ℕ) (seen : Bool) (e : Entry) → Others (later_reasons db command seen e)

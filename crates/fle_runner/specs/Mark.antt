@@ -34,9 +34,10 @@ is_view_reason _ = false
 abbrev pub as_built : Refusal → Refusal
 as_built r = if is_view_reason r.reason then record { reason = reasons.NotBuilt; at = 0 } else r
 
--- why a command of this database isn't marked under these infos: it is of a form that isn't built yet, else the verdict
+-- why a command of this database isn't marked under these infos: it is of a form that isn't built yet, else the
+-- verdict; a document of the stream begins at 0
 unfoldable pub mark_refusal : List Collection → List ℕ → Items → Option Refusal
-mark_refusal infos db c = or_else (unbuilt c) (option_map as_built (verdict db infos c))
+mark_refusal infos db c = or_else (unbuilt c) (option_map as_built (verdict db infos 0 c))
 
 -- a reply of at most 48,000,000 bytes is written
 abbrev pub sized : List ℕ → Verdict
@@ -57,7 +58,7 @@ mark_verdict infos db c = verdict_by c (reply_for infos c) (mark_refusal infos d
 
 -- what a command comes to, whose fields aren't refused, by its contents under these rules
 abbrev pub verdict_under : List Row → Items → Verdict
-verdict_under rows c = verdict_by c (reply_to rows c) (content_verdict rows c)
+verdict_under rows c = verdict_by c (reply_to rows c) (content_verdict rows 0 c)
 
 -- what an insert into this collection comes to, whose fields aren't refused; a view isn't marked yet
 abbrev pub verdict_into : Option Collection → Items → Verdict

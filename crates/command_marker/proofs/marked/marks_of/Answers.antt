@@ -5,5 +5,5 @@ use Rattle.command_marker.proofs.marked.marks_of.Goals as goal
 pub returns-then-len-eq0 : goal.returns-then-len-eq0
 returns-then-len-eq0 c =
     let none : length c.args.rows.now ≡ 0 = omega (arith, c.len.ensures.count, c.if-len-eq0.true) in
-    let told = no_rows c.args.rows.now c.args.command.now.tree none in
+    let told = no_rows c.args.rows.now c.args.command.now none in
     record { marks = (c.new-marks.ensures.empty ∙ told.0, told.1) }

@@ -1,4 +1,4 @@
-use Rattle.std.proofs.Common.{◌≡◌, ◌+◌, ◌∙◌, ℕ, false, codes, Option, Some, sym, ap}
+use Rattle.std.proofs.Common.{◌≡◌, ◌∙◌, ℕ, false, codes, Option, Some, sym, ap}
 use Rattle.bson_codec.specs.Raw.{At}
 use Rattle.encrypt_schema.specs.declared.reason.Reason.{Reason}
 use Rattle.encrypt_schema.specs.Names.{named}
@@ -11,22 +11,22 @@ use Rattle.command_marker.proofs.targeting.target.Goals as goal
 
 pub returns-in_default : goal.returns-in_default
 returns-in_default c = record {
-  aims = target_none c.args.db.now c.args.command.now.tree (sym (ap (λ (a : At). a.tree) c.items-fields.ensures.elements) ∙ c.in_default.ensures.steps.0);
+  aims = target_none c.args.db.now c.args.command.now.start c.args.command.now.tree (sym (ap (λ (a : At). a.tree) c.items-fields.ensures.elements) ∙ c.in_default.ensures.steps.0);
 }
 
 pub returns-in-Some-first_reason : goal.returns-in-Some-first_reason
 returns-in-Some-first_reason c =
     let db = c.args.db.now in
-    let tree = c.args.command.now.tree in
+    let command = c.args.command.now in
     let first = c.in-Some.first in
     let rest = c.next.new.self in
     let is = sym (ap (λ (a : At). a.tree) c.items-fields.ensures.elements) in
-    let four = ap (λ (a : At). a.start) c.items-fields.ensures.elements ∙ ap (λ (n : ℕ). n + 4) c.requires.whole in
+    let begun = ap (λ (a : At). a.start) c.items-fields.ensures.elements in
     let built : is_unbuilt first.name ≡ false = ap is_unbuilt (sym c.name-name.ensures.name) ∙ sym c.is_unbuilt.ensures ∙ c.if-is_unbuilt.false in
     let later = later_refusal db first.name false (command_fields rest.start rest.tree) in
     record {
       aims =
-          target_built db tree c.items-fields.result rest first c.in-Some.ensures.steps is four built
+          target_built db command.start command.tree c.items-fields.result rest first c.in-Some.ensures.steps is begun built
           ∙ ap (λ (r : Option Reason). or_else (refused_at first.start r) later) (sym c.in-Some-first_reason.ensures)
           ∙ ap (λ (n : ℕ). refused_at n (Some c.in-Some-first_reason.reason)) (sym c.start.ensures.start);
     }
@@ -34,18 +34,18 @@ returns-in-Some-first_reason c =
 pub returns-in-Ok : goal.returns-in-Ok
 returns-in-Ok c =
     let db = c.args.db.now in
-    let tree = c.args.command.now.tree in
+    let command = c.args.command.now in
     let first = c.in-Some.first in
     let rest = c.next.new.self in
     let is = sym (ap (λ (a : At). a.tree) c.items-fields.ensures.elements) in
-    let four = ap (λ (a : At). a.start) c.items-fields.ensures.elements ∙ ap (λ (n : ℕ). n + 4) c.requires.whole in
+    let begun = ap (λ (a : At). a.start) c.items-fields.ensures.elements in
     let built : is_unbuilt first.name ≡ false = ap is_unbuilt (sym c.name-name.ensures.name) ∙ sym c.is_unbuilt.ensures ∙ c.if-is_unbuilt.false in
     let fields = command_fields rest.start rest.tree in
     let later = later_refusal db first.name false fields in
     let whole = is ∙ c.in-Some.ensures.steps.0 in
     record {
       aims = (
-        target_built db tree c.items-fields.result rest first c.in-Some.ensures.steps is four built
+        target_built db command.start command.tree c.items-fields.result rest first c.in-Some.ensures.steps is begun built
             ∙ ap (λ (r : Option Reason). or_else (refused_at first.start r) later) (sym c.in_default-first_reason.ensures)
             ∙ ap (λ (n : _). later_refusal db n false fields) (sym c.name-name.ensures.name)
             ∙ c.in-Ok.ensures,
@@ -58,18 +58,18 @@ returns-in-Ok c =
 pub returns-in-Err : goal.returns-in-Err
 returns-in-Err c =
     let db = c.args.db.now in
-    let tree = c.args.command.now.tree in
+    let command = c.args.command.now in
     let first = c.in-Some.first in
     let rest = c.next.new.self in
     let is = sym (ap (λ (a : At). a.tree) c.items-fields.ensures.elements) in
-    let four = ap (λ (a : At). a.start) c.items-fields.ensures.elements ∙ ap (λ (n : ℕ). n + 4) c.requires.whole in
+    let begun = ap (λ (a : At). a.start) c.items-fields.ensures.elements in
     let built : is_unbuilt first.name ≡ false = ap is_unbuilt (sym c.name-name.ensures.name) ∙ sym c.is_unbuilt.ensures ∙ c.if-is_unbuilt.false in
     let fields = command_fields rest.start rest.tree in
     let later = later_refusal db first.name false fields in
     record {
       aims =
-          aims_err db tree _ c.in-Err.fault
-          (target_built db tree c.items-fields.result rest first c.in-Some.ensures.steps is four built
+          aims_err db command _ c.in-Err.fault
+          (target_built db command.start command.tree c.items-fields.result rest first c.in-Some.ensures.steps is begun built
           ∙ ap (λ (r : Option Reason). or_else (refused_at first.start r) later) (sym c.in_default-first_reason.ensures)
           ∙ ap (λ (n : _). later_refusal db n false fields) (sym c.name-name.ensures.name))
           c.in-Err.ensures;

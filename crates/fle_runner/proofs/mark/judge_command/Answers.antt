@@ -11,16 +11,18 @@ pub returns-in-Ok-Collection : goal.returns-in-Ok-Collection
 returns-in-Ok-Collection c =
     let db = c.args.db.now in
     let infos = c.args.infos.now in
-    let tree = c.args.command.now.tree in
+    let command = c.args.command.now in
     let aims = rw c.in-Ok-Collection.field-0-is at c.in-Ok-Collection.ensures.aims in
     let into =
-    insert_told db infos tree c.in-Ok-Collection.name.now aims.0 aims.1 aims.2
-    ∙ ap (λ (o : Option Collection). verdict_into o tree) (sym c.info_of.ensures.named) in
+    insert_told db infos command c.in-Ok-Collection.name.now c.requires.whole aims.0 aims.1 aims.2
+    ∙ ap (λ (o : Option Collection). verdict_into o command.tree) (sym c.info_of.ensures.named) in
     record { judged = subst (λ (v : Verdict). JudgeIs v None None c.judge_insert.result) (sym into) c.judge_insert.ensures.judged }
 
 pub returns-in-Err : goal.returns-in-Err
 returns-in-Err c =
     let db = c.args.db.now in
     let infos = c.args.infos.now in
-    let tree = c.args.command.now.tree in
-    record { judged = c.judge_fault.ensures.judged (mark_verdict infos db tree) (fields_told db infos tree c.in-Err.refusal c.in-Err.ensures.aims) }
+    let command = c.args.command.now in
+    record {
+      judged = c.judge_fault.ensures.judged (mark_verdict infos db command.tree) (fields_told db infos command c.in-Err.refusal c.requires.whole c.in-Err.ensures.aims);
+    }
