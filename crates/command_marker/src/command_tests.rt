@@ -1,7 +1,7 @@
 //! Which values of inserts are marked, and where commands are refused.
 
 use crate::{Target, mark_command, target};
-use bson_codec::check_bson;
+use bson_codec::{RawDoc, check_bson};
 use encrypt_schema::{Mark, MarkFault, Reason, Role, Rows};
 use std::alloc::Global;
 use std::test::Fail;
@@ -31,7 +31,7 @@ const ARRAY: &[u8] =
     b"R\x00\x00\x00\x02insert\x00\x06\x00\x00\x00staff\x00\x04documents\x00$\x00\x00\x00\x030\x00\x1c\x00\x00\x00\x04a\x00\x14\x00\x00\x00\x030\x00\x0c\x00\x00\x00\x10b\x00\x01\x00\x00\x00\x00\x00\x00\x00\x02$db\x00\x03\x00\x00\x00hr\x00\x00";
 
 /// `{insert: "people", documents: [{ssn: null}], $db: "hr"}`.
-const NULL: &[u8] =
+pub(crate) const NULL: &[u8] =
     b"A\x00\x00\x00\x02insert\x00\x07\x00\x00\x00people\x00\x04documents\x00\x12\x00\x00\x00\x030\x00\x0a\x00\x00\x00\x0assn\x00\x00\x00\x02$db\x00\x03\x00\x00\x00hr\x00\x00";
 
 /// `{insert: "people", documents: [{salary: an empty binary of subtype 06}], $db: "hr"}`.
@@ -39,7 +39,7 @@ const SEALED: &[u8] =
     b"I\x00\x00\x00\x02insert\x00\x07\x00\x00\x00people\x00\x04documents\x00\x1a\x00\x00\x00\x030\x00\x12\x00\x00\x00\x05salary\x00\x00\x00\x00\x00\x06\x00\x00\x02$db\x00\x03\x00\x00\x00hr\x00\x00";
 
 /// `{insert: "people", $db: "hr"}`.
-const NO_DOCUMENTS: &[u8] =
+pub(crate) const NO_DOCUMENTS: &[u8] =
     b"$\x00\x00\x00\x02insert\x00\x07\x00\x00\x00people\x00\x02$db\x00\x03\x00\x00\x00hr\x00\x00";
 
 /// `{insert: "people", documents: [], documents: [], $db: "hr"}`.
@@ -51,15 +51,15 @@ const NO_DOCUMENT: &[u8] =
     b";\x00\x00\x00\x02insert\x00\x07\x00\x00\x00people\x00\x04documents\x00\x0c\x00\x00\x00\x100\x00\x01\x00\x00\x00\x00\x02$db\x00\x03\x00\x00\x00hr\x00\x00";
 
 /// `{insert: "people", documents: [], $db: "x"}`.
-const OTHER_DB: &[u8] =
+pub(crate) const OTHER_DB: &[u8] =
     b"3\x00\x00\x00\x02insert\x00\x07\x00\x00\x00people\x00\x04documents\x00\x05\x00\x00\x00\x00\x02$db\x00\x02\x00\x00\x00x\x00\x00";
 
 /// `{ping: 1, $db: "admin"}`.
-const PING: &[u8] =
+pub(crate) const PING: &[u8] =
     b"\x1e\x00\x00\x00\x10ping\x00\x01\x00\x00\x00\x02$db\x00\x06\x00\x00\x00admin\x00\x00";
 
 /// `{aggregate: "people", $db: "hr"}`.
-const AGGREGATE: &[u8] =
+pub(crate) const AGGREGATE: &[u8] =
     b"'\x00\x00\x00\x02aggregate\x00\x07\x00\x00\x00people\x00\x02$db\x00\x03\x00\x00\x00hr\x00\x00";
 
 /// `{insert: "", $db: "hr"}`.
@@ -76,7 +76,7 @@ const TWO_DBS: &[u8] =
 
 /// What becomes of a command.
 #[derive(Clone, Copy, Debug, PartialEq, Eq)]
-enum Outcome {
+pub(crate) enum Outcome {
     /// This many values are marked; the last of them.
     Marked(usize, Option<Mark>),
     /// It is refused for this reason at this offset.
@@ -85,6 +85,7 @@ enum Outcome {
     Passed,
 }
 
+/// The outcome of a refusal.
 fn refusal(fault: MarkFault) -> Result<Outcome, Fail> {
     match fault {
         MarkFault::Refused { reason, at } => Ok(Outcome::Refused(reason, at)),
@@ -92,16 +93,11 @@ fn refusal(fault: MarkFault) -> Result<Outcome, Fail> {
     }
 }
 
-/// What becomes of a command of the database `hr` under a schema.
-fn what_becomes(alloc: Global, schema: &[u8], command: &[u8]) -> Result<Outcome, Fail> {
-    if schema.len() > 1000 || command.len() > 1000 {
-        return Err("a test's document is too long".into());
-    }
-    let rows = Rows::read(alloc, &check_bson(schema)?)?;
-    let command = check_bson(command)?;
+/// What becomes of a command of the database `hr` under these rules.
+pub(crate) fn outcome_of(alloc: Global, rows: &Rows, command: RawDoc<'_>) -> Result<Outcome, Fail> {
     match target(b"hr", &command) {
         Ok(Target::Pass) => Ok(Outcome::Passed),
-        Ok(Target::Collection(_)) => match mark_command(alloc, &rows, command) {
+        Ok(Target::Collection(_)) => match mark_command(alloc, rows, command) {
             Ok(marked) => {
                 let count = marked.marks().len();
                 Ok(Outcome::Marked(count, marked.marks().get(count.saturating_sub(1))))
@@ -112,8 +108,17 @@ fn what_becomes(alloc: Global, schema: &[u8], command: &[u8]) -> Result<Outcome,
     }
 }
 
+/// What becomes of a command of the database `hr` under a schema.
+fn what_becomes(alloc: Global, schema: &[u8], command: &[u8]) -> Result<Outcome, Fail> {
+    if schema.len() > 1000 || command.len() > 1000 {
+        return Err("a test's document is too long".into());
+    }
+    let rows = Rows::read(alloc, &check_bson(schema)?)?;
+    outcome_of(alloc, &rows, check_bson(command)?)
+}
+
 /// One mark of a stored value.
-fn stored(start: u32, end: u32, tag: u8, policy: u32) -> Option<Mark> {
+pub(crate) fn stored(start: u32, end: u32, tag: u8, policy: u32) -> Option<Mark> {
     Some(Mark {
         start,
         end,

@@ -23,4 +23,6 @@ pub use targeting::target;
 #[cfg(test)]
 mod command_tests;
 #[cfg(test)]
+mod inside_tests;
+#[cfg(test)]
 mod tests;

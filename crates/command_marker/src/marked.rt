@@ -39,7 +39,7 @@ impl<'a> Model for Marked<'a> {
 }
 
 impl<'a> Marked<'a> {
-    /// The marks of the protected values, in reading order, by the command's offsets.
+    /// The marks of the protected values, in reading order.
     pub fn marks(&self) -> &Marks
         ensures marks { result.now ≡ roles self.now.rows self.now.command.start self.now.command.tree }
     {
@@ -64,7 +64,7 @@ impl<'a> Marked<'a> {
 /// Marks the protected values of an insert under the rules of its collection; else the first place that is
 /// refused, by the contents of the command. Without rules nothing is marked and nothing is refused.
 ///
-/// The command is an insert, as `target` tells. `Memory` may come at any time.
+/// The command is an insert, as `target` tells; it may stand inside another document. `Memory` may come at any time.
 pub fn mark_command<'a>(
     alloc: Global,
     rows: &'a Rows,

@@ -16,7 +16,8 @@ use encrypt_schema::{MarkFault, Reason, is_named};
 /// `NotACommand` for no field and for a name that isn't known, `BadField` for a collection's name that is no
 /// string or the empty one, for the command's name again, for `$db` again and for a `$db` that is no string,
 /// and `WrongDb` for another database. `NotBuilt` at 0, before all else, for every command but `insert` that is
-/// known. Whether the collection is a view is the caller's to ask. It takes no memory, and never tells `Memory`.
+/// known. Whether the collection is a view is the caller's to ask. The command may stand inside another document. It
+/// takes no memory, and never tells `Memory`.
 pub fn target<'a>(db: &[u8], command: &RawDoc<'a>) -> Result<Target<'a>, MarkFault>
     ensures aims { AimsAt db.now command.now result }
 {

@@ -3,7 +3,7 @@
 
 use crate::command_tests::{NESTED, PEOPLE, STAFF};
 use crate::{Target, mark_command, reply, reply_clear, target};
-use bson_codec::check_bson;
+use bson_codec::{RawDoc, check_bson};
 use encrypt_schema::Rows;
 use std::alloc::Global;
 use std::test::Fail;
@@ -20,7 +20,7 @@ const REPLY: &[u8] =
     b"\xd6\x00\x00\x00\x08hasEncryptionPlaceholders\x00\x01\x08schemaRequiresEncryption\x00\x01\x03result\x00\x86\x00\x00\x00\x02insert\x00\x07\x00\x00\x00people\x00\x04documents\x00W\x00\x00\x00\x030\x00O\x00\x00\x00\x05ssn\x009\x00\x00\x00\x06\x008\x00\x00\x00\x02v\x00\x0c\x00\x00\x00123-45-6789\x00\x10a\x00\x01\x00\x00\x00\x05ki\x00\x10\x00\x00\x00\x04\x00\x11\x223DUFw\x88\x99\xaa\xbb\xcc\xdd\xee\xff\x00\x10n\x00\x01\x00\x00\x00\x00\x00\x02$db\x00\x03\x00\x00\x00hr\x00\x00\x01ok\x00\x00\x00\x00\x00\x00\x00\xf0?\x00";
 
 /// The reply to `NESTED`, 200 bytes.
-const NESTED_REPLY: &[u8] =
+pub(crate) const NESTED_REPLY: &[u8] =
     b"\xc8\x00\x00\x00\x08hasEncryptionPlaceholders\x00\x01\x08schemaRequiresEncryption\x00\x01\x03result\x00x\x00\x00\x00\x02insert\x00\x06\x00\x00\x00staff\x00\x04documents\x00J\x00\x00\x00\x030\x00B\x00\x00\x00\x03a\x00:\x00\x00\x00\x05b\x00-\x00\x00\x00\x06\x00,\x00\x00\x00\x10v\x00\x01\x00\x00\x00\x10a\x00\x01\x00\x00\x00\x05ki\x00\x10\x00\x00\x00\x04\x00\x11\x223DUFw\x88\x99\xaa\xbb\xcc\xdd\xee\xff\x00\x00\x00\x00\x02$db\x00\x03\x00\x00\x00hr\x00\x00\x01ok\x00\x00\x00\x00\x00\x00\x00\xf0?\x00";
 
 /// `{insert: "people", documents: [{ssn: "x", salary: 7, ssn: "yz", n: 1}], $db: "hr"}`.
@@ -39,15 +39,10 @@ const NOTES: &[u8] =
 const NOTES_REPLY: &[u8] =
     b"\x92\x00\x00\x00\x08hasEncryptionPlaceholders\x00\x00\x08schemaRequiresEncryption\x00\x00\x03result\x00B\x00\x00\x00\x02insert\x00\x06\x00\x00\x00notes\x00\x04documents\x00\x14\x00\x00\x00\x030\x00\x0c\x00\x00\x00\x10p\x00\x01\x00\x00\x00\x00\x00\x02$db\x00\x03\x00\x00\x00hr\x00\x00\x01ok\x00\x00\x00\x00\x00\x00\x00\xf0?\x00";
 
-/// The reply to an insert of the database `hr` under a schema.
-fn reply_under(alloc: Global, schema: &[u8], command: &[u8]) -> Result<Vec<u8>, Fail> {
-    if schema.len() > 1000 || command.len() > 1000 {
-        return Err("a test's document is too long".into());
-    }
-    let rows = Rows::read(alloc, &check_bson(schema)?)?;
-    let command = check_bson(command)?;
+/// The reply to an insert of the database `hr` under these rules.
+pub(crate) fn reply_of(alloc: Global, rows: &Rows, command: RawDoc<'_>) -> Result<Vec<u8>, Fail> {
     match target(b"hr", &command) {
-        Ok(Target::Collection(_)) => match mark_command(alloc, &rows, command) {
+        Ok(Target::Collection(_)) => match mark_command(alloc, rows, command) {
             Ok(marked) => match reply(alloc, &marked) {
                 Ok(bytes) => Ok(bytes),
                 Err(_) => Err("no reply".into()),
@@ -56,6 +51,15 @@ fn reply_under(alloc: Global, schema: &[u8], command: &[u8]) -> Result<Vec<u8>, 
         },
         _ => Err("it is no insert".into()),
     }
+}
+
+/// The reply to an insert of the database `hr` under a schema.
+fn reply_under(alloc: Global, schema: &[u8], command: &[u8]) -> Result<Vec<u8>, Fail> {
+    if schema.len() > 1000 || command.len() > 1000 {
+        return Err("a test's document is too long".into());
+    }
+    let rows = Rows::read(alloc, &check_bson(schema)?)?;
+    reply_of(alloc, &rows, check_bson(command)?)
 }
 
 #[test]

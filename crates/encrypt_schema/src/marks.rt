@@ -16,7 +16,8 @@ pub enum Role {
     Compare,
 }
 
-/// A protected value of a command. Offsets count from the first byte of the command.
+/// A protected value of a command. Offsets are those of the bytes that were checked, as in `RawItem::start`: they
+/// count from the command's first byte, unless it stands inside another document.
 #[derive(Clone, Copy, Debug, PartialEq, Eq)]
 pub struct Mark {
     /// The offset of the value's first byte.
@@ -38,7 +39,8 @@ pub enum MarkFault {
     Refused {
         /// The least reason that holds there.
         reason: Reason,
-        /// The offset of the value in the command; 0 for the command itself.
+        /// The offset at which the value begins, as in `RawItem::start`; 0 for the command itself, which is at 0
+        /// wherever it begins, since no value is.
         at: u32,
     },
     /// There was no memory for the marks. It may come at any time.
