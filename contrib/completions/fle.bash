@@ -1,0 +1,10 @@
+# Completion of fle for bash: source this file, or put it where bash-completion looks.
+_fle() {
+  local word=${COMP_WORDS[COMP_CWORD]}
+  case $COMP_CWORD in
+    1) mapfile -t COMPREPLY < <(compgen -W "mark --help --version" -- "$word") ;;
+    3) mapfile -t COMPREPLY < <(compgen -f -- "$word") ;;
+    *) COMPREPLY=() ;;
+  esac
+}
+complete -o filenames -F _fle fle
