@@ -1,0 +1,296 @@
+"""The rules on commands, plainly. Rules are a dictionary from paths (tuples of names) to (algorithm, key, type bytes).
+
+A command's offences are pairs of a place and a reason, in no order: the one that counts is the first place in reading
+order, which is the order of tuples of child numbers, and at one place the least reason.
+"""
+import re
+import struct
+
+from plain.bson import ARRAY, BINARY, DOCUMENT, INT, REGEX, STRING, binary, spell, text, words_of
+
+PASSING = ["ping", "hello", "getMore", "killCursors", "endSessions", "listCollections", "commitTransaction", "abortTransaction"]
+MARKED = ["insert", "update", "delete", "find"]
+UNSTORABLE = (6, 10, 127, 255)
+
+
+class Contents:
+    """One walk over a command's contents: its offences, and the rule of each place that has one."""
+
+    def __init__(self, rules):
+        self.rules, self.offences, self.marks = rules, [], {}
+
+    def refuse(self, place, reason):
+        self.offences.append((place, reason))
+
+    def standing(self, path):
+        """protected, below, above or clear."""
+        if path in self.rules:
+            return "protected"
+        if any(path[: len(rule)] == rule for rule in self.rules):
+            return "below"
+        return "above" if any(rule[: len(path)] == path for rule in self.rules) else "clear"
+
+    def is_positional(self, path):
+        return any(re.fullmatch(r"[0-9]+|\$.*", path[at], re.S) and self.standing(path[:at]) == "above"
+                   and self.standing(path[: at + 1]) == "clear" for at in range(1, len(path)))
+
+    # ---- stored values
+
+    def stored(self, path, place, tag, value):
+        self.marks[place] = path
+        if tag in UNSTORABLE or tag not in self.rules[path][2]:
+            self.refuse(place, 5)
+        if tag == BINARY and value[4] == 6:
+            self.refuse(place, 6)
+
+    def document(self, path, place, elements):
+        for number, (tag, name, value) in enumerate(elements):
+            below, here = path + (name,), place + (number,)
+            standing = self.standing(below)
+            if standing == "protected":
+                self.stored(below, here, tag, value)
+            elif standing == "above" and tag == ARRAY:
+                self.refuse(here, 7)
+            elif standing == "above" and tag == DOCUMENT:
+                self.document(below, here, value)
+
+    # ---- filters
+
+    def compared(self, path, place, tag, value):
+        if path not in self.rules:
+            if tag in (DOCUMENT, ARRAY):
+                self.refuse(place, 12)
+            return
+        self.stored(path, place, tag, value)
+        if self.rules[path][0] == "R":
+            self.refuse(place, 10)
+        if tag == REGEX:
+            self.refuse(place, 11)
+
+    def filter(self, place, elements):
+        for number, (tag, name, value) in enumerate(elements):
+            here, path = place + (number,), tuple(name.split("."))
+            if name in ("$and", "$or", "$nor"):
+                self.documents(here, tag, value, self.filter)
+            elif name == "$comment":
+                continue
+            elif name.startswith("$"):
+                self.refuse(here, 14)
+            elif self.is_positional(path):
+                self.refuse(here, 9)
+            elif self.standing(path) == "below":
+                self.refuse(here, 8)
+            elif self.standing(path) in ("protected", "above"):
+                if is_operators(tag, value):
+                    self.operators(path, here, value)
+                else:
+                    self.compared(path, here, tag, value)
+
+    def documents(self, place, tag, value, judge):
+        if tag != ARRAY:
+            self.refuse(place, 2)
+            return
+        for number, (inner, _, elements) in enumerate(value):
+            if inner == DOCUMENT:
+                judge(place + (number,), elements)
+            else:
+                self.refuse(place + (number,), 2)
+
+    def operators(self, path, place, elements):
+        for number, (tag, name, value) in enumerate(elements):
+            here = place + (number,)
+            if name in ("$eq", "$ne"):
+                self.compared(path, here, tag, value)
+            elif name in ("$in", "$nin"):
+                self.members(path, here, tag, value)
+            elif name == "$not":
+                if is_operators(tag, value):
+                    self.operators(path, here, value)
+                elif tag != REGEX:
+                    self.refuse(here, 2)
+                elif path in self.rules:
+                    self.refuse(here, 11)
+            elif name != "$exists":
+                self.refuse(here, 11)
+
+    def members(self, path, place, tag, value):
+        random = path in self.rules and self.rules[path][0] == "R"
+        if tag != ARRAY:
+            self.refuse(place, 2)
+        if random:
+            self.refuse(place, 10)
+        if tag == ARRAY and not random:
+            for number, (inner, _, member) in enumerate(value):
+                self.compared(path, place + (number,), inner, member)
+
+    # ---- updates
+
+    def update(self, place, elements):
+        if not elements or not elements[0][1].startswith("$"):
+            self.document((), place, elements)
+            return
+        for number, (tag, operator, value) in enumerate(elements):
+            here = place + (number,)
+            if not operator.startswith("$") or tag != DOCUMENT:
+                self.refuse(here, 2)
+                continue
+            for child, (inner, name, argument) in enumerate(value):
+                path = tuple(name.split("."))
+                if self.is_positional(path):
+                    self.refuse(here + (child,), 9)
+                self.argument(operator, path, here + (child,), inner, argument)
+
+    def argument(self, operator, path, place, tag, value):
+        standing = self.standing(path)
+        if operator == "$rename":
+            self.renamed(path, place, tag, value)
+        elif self.is_positional(path):
+            return
+        elif operator in ("$set", "$setOnInsert"):
+            if standing == "protected":
+                self.stored(path, place, tag, value)
+            elif standing == "below":
+                self.refuse(place, 8)
+            elif standing == "above" and tag == ARRAY:
+                self.refuse(place, 7)
+            elif standing == "above" and tag == DOCUMENT:
+                self.document(path, place, value)
+        elif operator == "$unset":
+            if standing == "below":
+                self.refuse(place, 8)
+        elif standing != "clear":
+            self.refuse(place, 11)
+
+    def renamed(self, source, place, tag, value):
+        if tag != STRING:
+            self.refuse(place, 2)
+            return
+        target = tuple(words_of(value).split("."))
+        if self.is_positional(target):
+            self.refuse(place, 9)
+        policies = [(rule[0], rule[1], set(rule[2])) for rule in map(self.rules.get, (source, target)) if rule]
+        both_clear = self.standing(source) == self.standing(target) == "clear"
+        if not both_clear and not (len(policies) == 2 and policies[0] == policies[1]):
+            self.refuse(place, 15)
+
+    # ---- the fields of a command
+
+    def fields(self, place, elements, read, required):
+        """Judges the fields that are read, once each; read is a dictionary from names to what judges them."""
+        for name in required:
+            if all(name != other for _, other, _ in elements):
+                self.refuse(place, 2)
+        seen = set()
+        for number, (tag, name, value) in enumerate(elements):
+            if name in read:
+                if name in seen:
+                    self.refuse(place + (number,), 2)
+                seen.add(name)
+                read[name](place + (number,), tag, value)
+
+    def unusable(self, place, _tag, _value):
+        self.refuse(place, 14)
+
+    def document_or(self, judge, reason=2):
+        def judged(place, tag, value):
+            if tag == DOCUMENT:
+                judge(place, value)
+            else:
+                self.refuse(place, reason)
+        return judged
+
+    def array_of(self, judge):
+        return lambda place, tag, value: self.documents(place, tag, value, judge)
+
+    def replacement(self, place, tag, value):
+        if tag == ARRAY:
+            self.refuse(place, 13)
+        else:
+            self.document_or(self.update)(place, tag, value)
+
+    def projection(self, place, elements):
+        for number, (tag, _, value) in enumerate(elements):
+            single = tag == DOCUMENT and len(value) == 1 and value[0][1] in ("$slice", "$meta")
+            if tag == ARRAY or (tag == DOCUMENT and not single):
+                self.refuse(place + (number,), 14)
+
+    def item_of_updates(self, place, elements):
+        self.fields(place, elements, {"q": self.document_or(self.filter), "u": self.replacement, "arrayFilters": self.unusable,
+                                      "c": self.unusable}, ["q", "u"])
+
+    def item_of_deletes(self, place, elements):
+        self.fields(place, elements, {"q": self.document_or(self.filter)}, ["q"])
+
+    def command(self, elements):
+        stored = lambda place, document: self.document((), place, document)
+        read, required = {
+            "insert": ({"documents": self.array_of(stored)}, ["documents"]),
+            "update": ({"updates": self.array_of(self.item_of_updates), "let": self.unusable}, ["updates"]),
+            "delete": ({"deletes": self.array_of(self.item_of_deletes), "let": self.unusable}, ["deletes"]),
+            "find": ({"filter": self.document_or(self.filter), "projection": self.document_or(self.projection),
+                      "min": self.unusable, "max": self.unusable, "let": self.unusable}, []),
+        }[elements[0][1]]
+        self.fields((), elements, read, required)
+        return self
+
+
+def is_operators(tag, value):
+    return tag == DOCUMENT and bool(value) and value[0][1].startswith("$")
+
+
+def judge_fields(infos, command, db):
+    """The refusal of the command's own fields (place, reason), or None."""
+    if not command:
+        return (), 1
+    tag, first, value = command[0]
+    if first in PASSING:
+        return None
+    if first not in MARKED:
+        return (0,), 1
+    if tag != STRING or value == text(""):
+        return (0,), 2
+    view = infos.get(words_of(value), ({}, False))[1]
+    offences, databases = [((0,), 4)] if view else [], 0
+    for number, (tag, name, inner) in enumerate(command[1:], 1):
+        databases += name == "$db"
+        if name == first or (name == "$db" and (databases > 1 or tag != STRING)):
+            offences.append(((number,), 2))
+        if name == "$db" and inner != text(db):
+            offences.append(((number,), 3))
+    others = [offence for offence in offences if offence[1] != 4]
+    return min(others or offences, default=None)
+
+
+def rules_of(infos, command):
+    return {} if command[0][1] in PASSING else infos.get(words_of(command[0][2]), ({}, False))[0]
+
+
+def judge(infos, command, db):
+    """The refusal of a command (place, reason), or None."""
+    refused = judge_fields(infos, command, db)
+    if refused or not rules_of(infos, command):
+        return refused
+    return min(Contents(rules_of(infos, command)).command(command).offences, default=None)
+
+
+def marked(rules, marks, place, elements):
+    result = []
+    for number, (tag, name, value) in enumerate(elements):
+        here = place + (number,)
+        if here in marks:
+            algorithm, key, _ = rules[marks[here]]
+            fields = [(tag, "v", spell(value)), (INT, "a", struct.pack("<i", "DR".index(algorithm) + 1)), (BINARY, "ki", binary(4, key))]
+            result.append((BINARY, name, binary(6, b"\0" + spell(fields))))
+        elif isinstance(value, list):
+            result.append((tag, name, marked(rules, marks, here, value)))
+        else:
+            result.append((tag, name, value))
+    return result
+
+
+def reply(infos, command):
+    """The marking reply to a command that isn't refused."""
+    rules = rules_of(infos, command)
+    marks = Contents(rules).command(command).marks if rules else {}
+    return spell([(8, "hasEncryptionPlaceholders", bytes([bool(marks)])), (8, "schemaRequiresEncryption", bytes([bool(rules)])),
+                  (DOCUMENT, "result", marked(rules, marks, (), command)), (1, "ok", struct.pack("<d", 1.0))])
