@@ -1,7 +1,7 @@
 -- The lengths of spellings.
-use Rattle.std.proofs.Common.{◌≡◌, ℕ, ◌+◌, List, [], ◌∷◌, ◌++◌, length, arith, length-append}
+use Rattle.std.proofs.Common.{◌≡◌, ℕ, ◌+◌, List, [], ◌∷◌, length, arith}
 use Rattle.std.specs.Prelude.{codes}
-use Rattle.bson_tree.specs.Tree.{Tree, Items, leaf, no_items, item}
+use Rattle.bson_tree.specs.Tree.{Tree, leaf, no_items, item}
 use Rattle.bson_tree.proofs.Sizes.{framed_size, element_size}
 use Rattle.bson_tree.specs.Spelling.{value_bytes, items_bytes}
 use Rattle.encrypt_schema.specs.declared.policy.Policy.{Policy}

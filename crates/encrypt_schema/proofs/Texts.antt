@@ -7,7 +7,8 @@ use Rattle.bson_codec.specs.Layout.{string_bytes, binary_bytes}
 use Rattle.encrypt_schema.specs.Values.{text_in, text_of, uuid_of}
 use Rattle.encrypt_schema.specs.Visits.{holds_payload, is_payload}
 
-text_is : (text : List ℕ) → text_in (string_bytes text) ≡ text
+-- the text in the bytes of a string
+pub text_is : (text : List ℕ) → text_in (string_bytes text) ≡ text
 text_is text =
     let n : length (string_bytes text) - 5 ≡ length text = omega (arith, length-append text (0 ∷ [])) in
     let m : text_in (string_bytes text) ≡ take (length text) (text ++ 0 ∷ []) = ap (λ (k : ℕ). take k (text ++ 0 ∷ [])) n in
