@@ -1,2 +1,3 @@
 pub mod PartWay
 pub mod Pieces
+pub mod Bytes
