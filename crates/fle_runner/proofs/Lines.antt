@@ -2,6 +2,7 @@
 use Rattle.std.proofs.Common.{◌≡◌, ℕ, ◌+◌, ◌<◌, ◌≤◌, Option, Some, Result, Ok, Err, List, [], ◌∷◌, ◌++◌, length, sym, ◌∙◌, ap, arith, append_assoc, length-append, OnOk, OnErr, get_or, take, drop, ◌-◌, codes, decimal}
 use Rattle.std.proofs.lemmas.List.{take_all}
 use Rattle.fle_outside.specs.Counts.{Rose}
+use Rattle.fle_outside.specs.Seen.{SinkSeen}
 use Rattle.fle_outside.specs.Writing.{Puts, WritesWhole}
 use Rattle.fle_outside.specs.declared.answers.Failed.{Failed}
 use Rattle.fle_runner.specs.Line.{dots, place_text}
@@ -23,19 +24,19 @@ falls_then (Ok v) s s1 s2 x y first second = omega (arith, first, second, length
 falls_then (Err e) s s1 s2 x y first second = tt
 
 -- the first bytes are written, and the others after them
-pub then_all : {a b c : Option (List ℕ)} {f f1 f2 s s1 s2 : ℕ} {u : Unit {0}} {r : Result (Unit {0}) Failed} {x y : List ℕ}
-    → WritesWhole a b f f1 s s1 (Ok u) x → WritesWhole b c f1 f2 s1 s2 r y → WritesWhole a c f f2 s s2 r (x ++ y)
-then_all {a} {b} {c} {f} {f1} {f2} {s} {s1} {s2} {u} {r} {x} {y} first second = record {
-  puts = puts_then a b c u r x y first.puts second.puts;
+pub then_all : {a b c : SinkSeen} {u : Unit {0}} {r : Result (Unit {0}) Failed} {x y : List ℕ}
+    → WritesWhole a b (Ok u) x → WritesWhole b c r y → WritesWhole a c r (x ++ y)
+then_all {a} {b} {c} {u} {r} {x} {y} first second = record {
+  puts = puts_then a.told b.told c.told u r x y first.puts second.puts;
   later = omega (arith, first.later, second.later);
-  cause = cause_then r f f1 f2 first.later second.cause;
+  cause = cause_then r a.faults b.faults c.faults first.later second.cause;
   sure = λ enough. second.sure (omega (arith, enough, first.falls, length-append x y));
-  falls = falls_then r s s1 s2 x y first.falls second.falls;
+  falls = falls_then r a.assured b.assured c.assured x y first.falls second.falls;
 }
 
 -- the first bytes are not written whole
-pub stop_all : {a b : Option (List ℕ)} {f f1 s s1 : ℕ} {e : Failed} {x : List ℕ} (y : List ℕ)
-    → WritesWhole a b f f1 s s1 (Err e) x → WritesWhole a b f f1 s s1 (Err e) (x ++ y)
+pub stop_all : {a b : SinkSeen} {e : Failed} {x : List ℕ} (y : List ℕ)
+    → WritesWhole a b (Err e) x → WritesWhole a b (Err e) (x ++ y)
 stop_all {x = x} y first = record {
   puts = (first.puts.0, (first.puts.1.0 ++ y, omega (arith, first.puts.1.1, length-append first.puts.1.0 y), ap (λ (bytes : List ℕ). bytes ++ y) first.puts.1.2 ∙ append_assoc first.puts.0 first.puts.1.0 y), first.puts.2);
   later = first.later;

@@ -1,6 +1,7 @@
 -- How a run of the program ended: one ending for its status, its line, its output and its input.
 use Rattle.std.specs.Prelude.{◌≡◌, ℕ, Option, Result, List, length}
 use Rattle.fle_outside.specs.Counts.{Rose}
+use Rattle.fle_outside.specs.Seen.{SinkSeen}
 use Rattle.fle_outside.specs.Writing.{Gains, WritesWhole}
 use Rattle.fle_outside.specs.declared.answers.Failed.{Failed}
 use Rattle.fle_runner.specs.Codes.{status_of}
@@ -17,7 +18,7 @@ use Rattle.fle_runner.specs.declared.why.Why.TheVariants as whys
 
 pub record Ended (t : Task) (told : List ℕ) (after : Option (List ℕ)) (blocks blocks_after : Option (List Block)) (out out_after : Option (List ℕ))
     (in_faults in_faults_after folder_faults folder_faults_after out_faults out_faults_after : ℕ)
-    (diag diag_after : Option (List ℕ)) (diag_faults diag_faults_after diag_assured diag_assured_after : ℕ) (status : Status) : Type 0 where
+    (diag diag_after : SinkSeen) (status : Status) : Type 0 where
   pub why : Why
   pub count : ℕ
   pub number : ℕ
@@ -27,7 +28,7 @@ pub record Ended (t : Task) (told : List ℕ) (after : Option (List ℕ)) (block
   pub folder_failed : why ≡ whys.FolderFault → Rose folder_faults folder_faults_after
   pub output_failed : why ≡ whys.WriteFault → Rose out_faults out_faults_after
   pub reported : Result (Unit {0}) Failed
-  pub says : WritesWhole diag diag_after diag_faults diag_faults_after diag_assured diag_assured_after reported (line_of why number)
+  pub says : WritesWhole diag diag_after reported (line_of why number)
 
 -- all outputs were written, each with its own blocks
 pub record Whole (o : Outcome) (blocks blocks_after : Option (List Block)) (out out_after : Option (List ℕ)) : Type 0 where

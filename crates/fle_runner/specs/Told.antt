@@ -1,5 +1,6 @@
 -- How a text was written that the program answers by itself.
-use Rattle.std.specs.Prelude.{◌≡◌, ℕ, Option, Result, Ok, Err, List}
+use Rattle.std.specs.Prelude.{◌≡◌, ℕ, Result, Ok, Err, List}
+use Rattle.fle_outside.specs.Seen.{SinkSeen}
 use Rattle.fle_outside.specs.Writing.{WritesWhole}
 use Rattle.fle_outside.specs.declared.answers.Failed.{Failed}
 use Rattle.fle_runner.specs.Codes.{status_of}
@@ -13,10 +14,9 @@ abbrev pub told_why : Result (Unit {0}) Failed → Why
 told_why (Ok _) = whys.Done
 told_why (Err _) = whys.WriteFault
 
-pub record Told (out out_after : Option (List ℕ)) (out_faults out_faults_after out_assured out_assured_after : ℕ)
-    (diag diag_after : Option (List ℕ)) (diag_faults diag_faults_after diag_assured diag_assured_after : ℕ) (text : List ℕ) (status : Status) : Type 0 where
+pub record Told (out out_after diag diag_after : SinkSeen) (text : List ℕ) (status : Status) : Type 0 where
   pub wrote : Result (Unit {0}) Failed
-  pub output : WritesWhole out out_after out_faults out_faults_after out_assured out_assured_after wrote text
+  pub output : WritesWhole out out_after wrote text
   pub answer : status ≡ status_of (told_why wrote)
   pub reported : Result (Unit {0}) Failed
-  pub says : WritesWhole diag diag_after diag_faults diag_faults_after diag_assured diag_assured_after reported (line_of (told_why wrote) 0)
+  pub says : WritesWhole diag diag_after reported (line_of (told_why wrote) 0)

@@ -1,6 +1,6 @@
 //! What the words ask for, done.
 
-ghost use Rattle.std.specs.Prelude.{◌≡◌, ◌≤◌, List, ℕ, Some, None, map, string_bytes};
+ghost use Rattle.std.specs.Prelude.{true, ◌≡◌, ◌≤◌, List, ℕ, Some, None, map, string_bytes};
 ghost use Rattle.fle_outside.specs.Counts.{Rose};
 ghost use Rattle.fle_outside.specs.Files.{Files};
 ghost use Rattle.fle_runner.specs.Did.{Did};
@@ -23,15 +23,15 @@ pub fn act<S: Source, F: Folder, O: Sink>(
     files: &mut F,
     out: &mut O,
 ) -> End
-    ensures did { (all : Files) (told : List ℕ) → F.files files.old ≡ Some all → S.left input.old ≡ Some told
-        → Did (task (map string_bytes words.now) all) told (S.left input.new) None None (O.written out.old) (O.written out.new) result.number result.written result.why }
-    ensures folder_cause { result.why ≡ Why.FolderFault → Rose (F.faults files.old) (F.faults files.new) }
-    ensures folder_sure { F.assured files.old → result.why ≡ Why.FolderFault → ⊥ }
-    ensures in_cause { result.why ≡ Why.ReadFault → Rose (S.faults input.old) (S.faults input.new) }
-    ensures in_sure { S.assured input.old → result.why ≡ Why.ReadFault → ⊥ }
-    ensures out_cause { result.why ≡ Why.WriteFault → Rose (O.faults out.old) (O.faults out.new) }
-    ensures out_sure { (all : Files) (told : List ℕ) → F.files files.old ≡ Some all → S.left input.old ≡ Some told
-        → size_of (outcome_of (task (map string_bytes words.now) all) told).outputs ≤ O.assured out.old → result.why ≡ Why.WriteFault → ⊥ }
+    ensures did { (all : Files) (told : List ℕ) → (F.seen files.old).told ≡ Some all → (S.seen input.old).told ≡ Some told
+        → Did (task (map string_bytes words.now) all) told (S.seen input.new).told None None (O.seen out.old).told (O.seen out.new).told result.number result.written result.why }
+    ensures folder_cause { result.why ≡ Why.FolderFault → Rose (F.seen files.old).faults (F.seen files.new).faults }
+    ensures folder_sure { (F.seen files.old).assured ≡ true → result.why ≡ Why.FolderFault → ⊥ }
+    ensures in_cause { result.why ≡ Why.ReadFault → Rose (S.seen input.old).faults (S.seen input.new).faults }
+    ensures in_sure { (S.seen input.old).assured ≡ true → result.why ≡ Why.ReadFault → ⊥ }
+    ensures out_cause { result.why ≡ Why.WriteFault → Rose (O.seen out.old).faults (O.seen out.new).faults }
+    ensures out_sure { (all : Files) (told : List ℕ) → (F.seen files.old).told ≡ Some all → (S.seen input.old).told ≡ Some told
+        → size_of (outcome_of (task (map string_bytes words.now) all) told).outputs ≤ (O.seen out.old).assured → result.why ≡ Why.WriteFault → ⊥ }
     ensures no_entropy { result.why ≡ Why.EntropyFault → ⊥ }
 {
     match read_words(words) {

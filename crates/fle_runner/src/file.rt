@@ -1,6 +1,6 @@
 //! Named files, loaded whole.
 
-ghost use Rattle.std.specs.Prelude.{◌≡◌, ◌^◌, ◌<◌, ◌≤◌, IfOk, IfErr, Err, Some, vec_len};
+ghost use Rattle.std.specs.Prelude.{true, ◌≡◌, ◌^◌, ◌<◌, ◌≤◌, IfOk, IfErr, Err, Some, vec_len};
 ghost use Rattle.fle_outside.specs.Counts.{Rose};
 ghost use Rattle.fle_outside.specs.Files.{Files, file_of};
 ghost use Rattle.fle_runner.specs.Files.{FileIs, LoadIs, IsOfFiles};
@@ -32,13 +32,13 @@ pub fn load_file<F: Folder>(
     limit: usize,
 ) -> Result<Vec<u8>, Why>
     requires { limit < 2 ^ 40 }
-    ensures load { (all : Files) → F.files files.old ≡ Some all → LoadIs number limit (file_of all name.now) result }
+    ensures load { (all : Files) → (F.seen files.old).told ≡ Some all → LoadIs number limit (file_of all name.now) result }
     ensures small { IfOk result (λ bytes. vec_len bytes ≤ limit) }
     ensures kind { IfErr result IsOfFiles }
-    ensures same { F.files files.new ≡ F.files files.old }
-    ensures later { F.faults files.old ≤ F.faults files.new }
-    ensures cause { IfErr result (λ why. why ≡ Why.FolderFault → Rose (F.faults files.old) (F.faults files.new)) }
-    ensures sure { F.assured files.old → IfErr result (λ why. why ≡ Why.FolderFault → ⊥) × F.assured files.new }
+    ensures same { (F.seen files.new).told ≡ (F.seen files.old).told }
+    ensures later { (F.seen files.old).faults ≤ (F.seen files.new).faults }
+    ensures cause { IfErr result (λ why. why ≡ Why.FolderFault → Rose (F.seen files.old).faults (F.seen files.new).faults) }
+    ensures sure { (F.seen files.old).assured ≡ true → IfErr result (λ why. why ≡ Why.FolderFault → ⊥) × ((F.seen files.new).assured ≡ true) }
 {
     match read_file(alloc, files, name, limit) {
         Ok(bytes) => {
@@ -61,11 +61,11 @@ fn read_file<F: Folder>(
     limit: usize,
 ) -> Result<Vec<u8>, FileStop>
     requires { limit < 2 ^ 40 }
-    ensures file { (all : Files) → F.files files.old ≡ Some all → FileIs limit (file_of all name.now) result }
-    ensures same { F.files files.new ≡ F.files files.old }
-    ensures later { F.faults files.old ≤ F.faults files.new }
-    ensures cause { result ≡ Err FileStop.Failed → Rose (F.faults files.old) (F.faults files.new) }
-    ensures sure { F.assured files.old → (result ≡ Err FileStop.Failed → ⊥) × F.assured files.new }
+    ensures file { (all : Files) → (F.seen files.old).told ≡ Some all → FileIs limit (file_of all name.now) result }
+    ensures same { (F.seen files.new).told ≡ (F.seen files.old).told }
+    ensures later { (F.seen files.old).faults ≤ (F.seen files.new).faults }
+    ensures cause { result ≡ Err FileStop.Failed → Rose (F.seen files.old).faults (F.seen files.new).faults }
+    ensures sure { (F.seen files.old).assured ≡ true → (result ≡ Err FileStop.Failed → ⊥) × ((F.seen files.new).assured ≡ true) }
 {
     let mut bytes = Vec::new(alloc);
     let mut piece = [0u8; PIECE];

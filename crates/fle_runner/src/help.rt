@@ -31,8 +31,7 @@ status: 0 done, 1 refused, 2 words, 3 malformed input, 4 file at fault, 5 read f
 
 /// Writes a text to `out`; where that fails, the status and the line say so.
 pub fn tell<O: Sink, G: Sink>(out: &mut O, diag: &mut G, text: &str) -> Status
-    ensures { Told (O.written out.old) (O.written out.new) (O.faults out.old) (O.faults out.new) (O.assured out.old) (O.assured out.new)
-        (G.written diag.old) (G.written diag.new) (G.faults diag.old) (G.faults diag.new) (G.assured diag.old) (G.assured diag.new) text.now result }
+    ensures told { Told (O.seen out.old) (O.seen out.new) (G.seen diag.old) (G.seen diag.new) text.now result }
 {
     let wrote = write_whole(out, text.as_bytes());
     report(diag, &End::unread(why_told(wrote)))

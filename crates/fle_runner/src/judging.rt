@@ -101,11 +101,11 @@ fn judge_document<J: Judge, O: Sink>(
     ensures turn { (course : Course) (most : List ℕ → ℕ) (taken : ℕ) (told : List ℕ) (after : Option (List ℕ))
         → course taken told ≡ judged (J.verdict judge.old document.now.tree) size (course (taken + size) (drop size told))
         → size ≤ most told → after ≡ Some (drop size told)
-        → TurnOf course most taken told after None None (O.written out.old) (O.written out.new) 0 0 (O.assured out.old) (O.assured out.new) result }
+        → TurnOf course most taken told after None None (O.seen out.old).told (O.seen out.new).told 0 0 (O.seen out.old).assured (O.seen out.new).assured result }
     ensures no_read { result ≡ Turn.Stopped Why.ReadFault → ⊥ }
-    ensures out_later { O.faults out.old ≤ O.faults out.new }
-    ensures out_cause { result ≡ Turn.Stopped Why.WriteFault → Rose (O.faults out.old) (O.faults out.new) }
-    ensures out_sure { size_in (J.verdict judge.old document.now.tree) ≤ O.assured out.old → result ≡ Turn.Stopped Why.WriteFault → ⊥ }
+    ensures out_later { (O.seen out.old).faults ≤ (O.seen out.new).faults }
+    ensures out_cause { result ≡ Turn.Stopped Why.WriteFault → Rose (O.seen out.old).faults (O.seen out.new).faults }
+    ensures out_sure { size_in (J.verdict judge.old document.now.tree) ≤ (O.seen out.old).assured → result ≡ Turn.Stopped Why.WriteFault → ⊥ }
 {
     match judge.judge(alloc, document) {
         Judged::Written(output) => match write_whole(out, &output) {

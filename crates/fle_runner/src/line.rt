@@ -13,7 +13,7 @@ use itoa::Buffer;
 /// Writes the line of a run that ended for this reason, with this document's number: none where
 /// everything was done.
 pub fn put_end<G: Sink>(diag: &mut G, why: &Why, number: u64) -> Result<(), Failed>
-    ensures { WritesWhole (G.written diag.old) (G.written diag.new) (G.faults diag.old) (G.faults diag.new) (G.assured diag.old) (G.assured diag.new) result (line_of why.now number) }
+    ensures wrote { WritesWhole (G.seen diag.old) (G.seen diag.new) result (line_of why.now number) }
 {
     let status = why.status().code();
     match why {
@@ -49,7 +49,7 @@ fn put_line<G: Sink>(
     reason: u8,
     place: &[u32],
 ) -> Result<(), Failed>
-    ensures { WritesWhole (G.written diag.old) (G.written diag.new) (G.faults diag.old) (G.faults diag.new) (G.assured diag.old) (G.assured diag.new) result (line_text status number reason place.now) }
+    ensures wrote { WritesWhole (G.seen diag.old) (G.seen diag.new) result (line_text status number reason place.now) }
 {
     match put_head(diag, status, number, reason) {
         Ok(()) => put_tail(diag, place),
@@ -64,7 +64,7 @@ fn put_fault<G: Sink>(
     number: u64,
     fault: &BsonFault,
 ) -> Result<(), Failed>
-    ensures { WritesWhole (G.written diag.old) (G.written diag.new) (G.faults diag.old) (G.faults diag.new) (G.assured diag.old) (G.assured diag.new) result (line_text status number (kind_number fault.now.kind) (fault.now.offset ∷ [])) }
+    ensures wrote { WritesWhole (G.seen diag.old) (G.seen diag.new) result (line_text status number (kind_number fault.now.kind) (fault.now.offset ∷ [])) }
 {
     match put_head(diag, status, number, fault.kind.number()) {
         Ok(()) => put_offset(diag, fault.offset),
@@ -74,7 +74,7 @@ fn put_fault<G: Sink>(
 
 /// Writes an offset and the end of the line.
 fn put_offset<G: Sink>(diag: &mut G, offset: usize) -> Result<(), Failed>
-    ensures { WritesWhole (G.written diag.old) (G.written diag.new) (G.faults diag.old) (G.faults diag.new) (G.assured diag.old) (G.assured diag.new) result (tail_text (offset ∷ [])) }
+    ensures wrote { WritesWhole (G.seen diag.old) (G.seen diag.new) result (tail_text (offset ∷ [])) }
 {
     let mut buffer = Buffer::new();
     match write_whole(diag, buffer.format(offset).as_bytes()) {
@@ -85,7 +85,7 @@ fn put_offset<G: Sink>(diag: &mut G, offset: usize) -> Result<(), Failed>
 
 /// Writes the line up to the place.
 fn put_head<G: Sink>(diag: &mut G, status: u8, number: u64, reason: u8) -> Result<(), Failed>
-    ensures { WritesWhole (G.written diag.old) (G.written diag.new) (G.faults diag.old) (G.faults diag.new) (G.assured diag.old) (G.assured diag.new) result (head_text status number reason) }
+    ensures wrote { WritesWhole (G.seen diag.old) (G.seen diag.new) result (head_text status number reason) }
 {
     let mut s = Buffer::new();
     let mut d = Buffer::new();
@@ -98,7 +98,7 @@ fn put_head<G: Sink>(diag: &mut G, status: u8, number: u64, reason: u8) -> Resul
 
 /// Writes the place and the end of the line.
 fn put_tail<G: Sink>(diag: &mut G, place: &[u32]) -> Result<(), Failed>
-    ensures { WritesWhole (G.written diag.old) (G.written diag.new) (G.faults diag.old) (G.faults diag.new) (G.assured diag.old) (G.assured diag.new) result (tail_text place.now) }
+    ensures wrote { WritesWhole (G.seen diag.old) (G.seen diag.new) result (tail_text place.now) }
 {
     match put_place(diag, place) {
         Ok(()) => write_whole(diag, b"\n"),
@@ -108,7 +108,7 @@ fn put_tail<G: Sink>(diag: &mut G, place: &[u32]) -> Result<(), Failed>
 
 /// Writes a place: `-` for the document itself, else its child numbers joined by dots.
 fn put_place<G: Sink>(diag: &mut G, place: &[u32]) -> Result<(), Failed>
-    ensures { WritesWhole (G.written diag.old) (G.written diag.new) (G.faults diag.old) (G.faults diag.new) (G.assured diag.old) (G.assured diag.new) result (place_text place.now) }
+    ensures wrote { WritesWhole (G.seen diag.old) (G.seen diag.new) result (place_text place.now) }
 {
     match place {
         [] => write_whole(diag, b"-"),
@@ -124,7 +124,7 @@ fn put_place<G: Sink>(diag: &mut G, place: &[u32]) -> Result<(), Failed>
 
 /// Writes child numbers with a dot before each.
 fn put_dots<G: Sink>(diag: &mut G, place: &[u32]) -> Result<(), Failed>
-    ensures { WritesWhole (G.written diag.old) (G.written diag.new) (G.faults diag.old) (G.faults diag.new) (G.assured diag.old) (G.assured diag.new) result (dots place.now) }
+    ensures wrote { WritesWhole (G.seen diag.old) (G.seen diag.new) result (dots place.now) }
 {
     match place {
         [] => Ok(()),

@@ -1,6 +1,6 @@
 //! The next document of a stream.
 
-ghost use Rattle.std.specs.Prelude.{◌≡◌, ◌+◌, ◌^◌, ◌<◌, ◌≤◌, ◌++◌, List, ℕ, Some, length};
+ghost use Rattle.std.specs.Prelude.{true, ◌≡◌, ◌+◌, ◌^◌, ◌<◌, ◌≤◌, ◌++◌, List, ℕ, Some, length};
 ghost use Rattle.std.specs.Int.{from_le_bytes, w32};
 ghost use Rattle.fle_outside.specs.Counts.{Rose};
 ghost use Rattle.fle_outside.specs.Filling.{FillTakes, FillWithin};
@@ -33,11 +33,11 @@ pub enum Next {
 
 /// Reads the bytes of the next document of a stream, and no byte behind it. What they spell isn't judged.
 pub fn next_document<S: Source>(alloc: Global, source: &mut S) -> Next
-    ensures next { (told : List ℕ) → S.left source.old ≡ Some told → NextIs told (S.left source.new) result }
+    ensures next { (told : List ℕ) → (S.seen source.old).told ≡ Some told → NextIs told (S.seen source.new).told result }
     ensures sound { NextSound result }
-    ensures later { S.faults source.old ≤ S.faults source.new }
-    ensures cause { result ≡ Next.Failed → Rose (S.faults source.old) (S.faults source.new) }
-    ensures sure { S.assured source.old → (result ≡ Next.Failed → ⊥) × S.assured source.new }
+    ensures later { (S.seen source.old).faults ≤ (S.seen source.new).faults }
+    ensures cause { result ≡ Next.Failed → Rose (S.seen source.old).faults (S.seen source.new).faults }
+    ensures sure { (S.seen source.old).assured ≡ true → (result ≡ Next.Failed → ⊥) × ((S.seen source.new).assured ≡ true) }
 {
     let mut head = [0u8; 4];
     match fill_piece(source, &mut head) {
@@ -58,11 +58,11 @@ fn next_body<S: Source>(alloc: Global, source: &mut S, head: &[u8], size: usize)
     requires says { from_le_bytes w32 head.now ≡ size }
     requires least { 5 ≤ size }
     requires most { size ≤ 2 ^ 24 }
-    ensures next { (told : List ℕ) → S.left source.old ≡ Some told → NextIs (head.now ++ told) (S.left source.new) result }
+    ensures next { (told : List ℕ) → (S.seen source.old).told ≡ Some told → NextIs (head.now ++ told) (S.seen source.new).told result }
     ensures sound { NextSound result }
-    ensures later { S.faults source.old ≤ S.faults source.new }
-    ensures cause { result ≡ Next.Failed → Rose (S.faults source.old) (S.faults source.new) }
-    ensures sure { S.assured source.old → (result ≡ Next.Failed → ⊥) × S.assured source.new }
+    ensures later { (S.seen source.old).faults ≤ (S.seen source.new).faults }
+    ensures cause { result ≡ Next.Failed → Rose (S.seen source.old).faults (S.seen source.new).faults }
+    ensures sure { (S.seen source.old).assured ≡ true → (result ≡ Next.Failed → ⊥) × ((S.seen source.new).assured ≡ true) }
 {
     match vec![in alloc; 0u8; size] {
         Err(_) => Next::Memory,
@@ -77,11 +77,11 @@ fn next_body<S: Source>(alloc: Global, source: &mut S, head: &[u8], size: usize)
 /// Fills the buffer of a document, whose first bytes are read.
 fn fill_document<S: Source>(source: &mut S, head: &[u8], document: &mut [u8]) -> Fill
     requires { length head.now ≤ length document.old }
-    ensures bytes { (told : List ℕ) → S.left source.old ≡ Some told → FillTakes (head.now ++ told) (S.left source.new) result document.new }
+    ensures bytes { (told : List ℕ) → (S.seen source.old).told ≡ Some told → FillTakes (head.now ++ told) (S.seen source.new).told result document.new }
     ensures within { FillWithin result (length document.new) }
-    ensures later { S.faults source.old ≤ S.faults source.new }
-    ensures cause { result ≡ Fill.Failed → Rose (S.faults source.old) (S.faults source.new) }
-    ensures sure { S.assured source.old → (result ≡ Fill.Failed → ⊥) × S.assured source.new }
+    ensures later { (S.seen source.old).faults ≤ (S.seen source.new).faults }
+    ensures cause { result ≡ Fill.Failed → Rose (S.seen source.old).faults (S.seen source.new).faults }
+    ensures sure { (S.seen source.old).assured ≡ true → (result ≡ Fill.Failed → ⊥) × ((S.seen source.new).assured ≡ true) }
 {
     let (front, rest) = document.split_at_mut(head.len());
     front.copy_from_slice(head);

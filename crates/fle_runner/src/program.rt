@@ -1,6 +1,6 @@
 //! The program over any objects of the outside.
 
-ghost use Rattle.std.specs.Prelude.{◌≡◌, ◌≤◌, ◌⊎◌, List, ℕ, Result, Some, None, map, string_bytes};
+ghost use Rattle.std.specs.Prelude.{true, ◌≡◌, ◌≤◌, ◌⊎◌, List, ℕ, Result, Some, None, map, string_bytes};
 ghost use Rattle.fle_outside.specs.declared.answers.Failed.{Failed};
 ghost use Rattle.fle_outside.specs.Counts.{Rose};
 ghost use Rattle.fle_outside.specs.Files.{Files};
@@ -30,22 +30,22 @@ pub fn fle<S: Source, F: Folder, O: Sink, G: Sink>(
     diag: &mut G,
 ) -> Status
     // One ending explains the status, the line, what was written and what the input has left.
-    ensures ended { (all : Files) (told : List ℕ) → F.files files.old ≡ Some all → S.left input.old ≡ Some told
-        → Ended (task (map string_bytes words.now) all) told (S.left input.new) None None (O.written out.old) (O.written out.new)
-        (S.faults input.old) (S.faults input.new) (F.faults files.old) (F.faults files.new) (O.faults out.old) (O.faults out.new)
-        (G.written diag.old) (G.written diag.new) (G.faults diag.old) (G.faults diag.new) (G.assured diag.old) (G.assured diag.new) result }
+    ensures ended { (all : Files) (told : List ℕ) → (F.seen files.old).told ≡ Some all → (S.seen input.old).told ≡ Some told
+        → Ended (task (map string_bytes words.now) all) told (S.seen input.new).told None None (O.seen out.old).told (O.seen out.new).told
+        (S.seen input.old).faults (S.seen input.new).faults (F.seen files.old).faults (F.seen files.new).faults (O.seen out.old).faults (O.seen out.new).faults
+        (G.seen diag.old) (G.seen diag.new) result }
     // Where no count rose and memory lasted, the status is that of the outcome.
-    ensures settled { (all : Files) (told : List ℕ) → F.files files.old ≡ Some all → S.left input.old ≡ Some told
-        → (Rose (S.faults input.old) (S.faults input.new) → ⊥) → (Rose (F.faults files.old) (F.faults files.new) → ⊥) → (Rose (O.faults out.old) (O.faults out.new) → ⊥)
+    ensures settled { (all : Files) (told : List ℕ) → (F.seen files.old).told ≡ Some all → (S.seen input.old).told ≡ Some told
+        → (Rose (S.seen input.old).faults (S.seen input.new).faults → ⊥) → (Rose (F.seen files.old).faults (F.seen files.new).faults → ⊥) → (Rose (O.seen out.old).faults (O.seen out.new).faults → ⊥)
         → (result ≡ Status.Memory → ⊥) → result ≡ status_of (outcome_of (task (map string_bytes words.now) all) told).why }
     // Where the status is no fault and no want of memory, every output was written whole.
-    ensures whole { (all : Files) (told : List ℕ) → F.files files.old ≡ Some all → S.left input.old ≡ Some told → IsSettled result
-        → Whole (outcome_of (task (map string_bytes words.now) all) told) None None (O.written out.old) (O.written out.new) }
-    ensures read_cause { result ≡ Status.ReadFault → Rose (S.faults input.old) (S.faults input.new) ⊎ Rose (F.faults files.old) (F.faults files.new) }
-    ensures read_sure { S.assured input.old → F.assured files.old → result ≡ Status.ReadFault → ⊥ }
-    ensures write_cause { result ≡ Status.WriteFault → Rose (O.faults out.old) (O.faults out.new) }
-    ensures write_sure { (all : Files) (told : List ℕ) → F.files files.old ≡ Some all → S.left input.old ≡ Some told
-        → size_of (outcome_of (task (map string_bytes words.now) all) told).outputs ≤ O.assured out.old → result ≡ Status.WriteFault → ⊥ }
+    ensures whole { (all : Files) (told : List ℕ) → (F.seen files.old).told ≡ Some all → (S.seen input.old).told ≡ Some told → IsSettled result
+        → Whole (outcome_of (task (map string_bytes words.now) all) told) None None (O.seen out.old).told (O.seen out.new).told }
+    ensures read_cause { result ≡ Status.ReadFault → Rose (S.seen input.old).faults (S.seen input.new).faults ⊎ Rose (F.seen files.old).faults (F.seen files.new).faults }
+    ensures read_sure { (S.seen input.old).assured ≡ true → (F.seen files.old).assured ≡ true → result ≡ Status.ReadFault → ⊥ }
+    ensures write_cause { result ≡ Status.WriteFault → Rose (O.seen out.old).faults (O.seen out.new).faults }
+    ensures write_sure { (all : Files) (told : List ℕ) → (F.seen files.old).told ≡ Some all → (S.seen input.old).told ≡ Some told
+        → size_of (outcome_of (task (map string_bytes words.now) all) told).outputs ≤ (O.seen out.old).assured → result ≡ Status.WriteFault → ⊥ }
     ensures no_entropy_fault { result ≡ Status.EntropyFault → ⊥ }
 {
     let end = act(alloc, words, input, files, out);
@@ -55,7 +55,7 @@ pub fn fle<S: Source, F: Folder, O: Sink, G: Sink>(
 /// Writes the line of an end, and answers its status.
 pub fn report<G: Sink>(diag: &mut G, end: &End) -> Status
     ensures status { result ≡ status_of end.now.why }
-    ensures says { (r : Result (Unit {0}) Failed) × WritesWhole (G.written diag.old) (G.written diag.new) (G.faults diag.old) (G.faults diag.new) (G.assured diag.old) (G.assured diag.new) r (line_of end.now.why end.now.number) }
+    ensures says { (r : Result (Unit {0}) Failed) × WritesWhole (G.seen diag.old) (G.seen diag.new) r (line_of end.now.why end.now.number) }
 {
     // Where the line can't be written, the status stays.
     let _ = put_end(diag, &end.why, end.number);

@@ -1,6 +1,6 @@
 //! Verbs that judge each document of the input.
 
-ghost use Rattle.std.specs.Prelude.{◌≡◌, ◌≤◌, List, ℕ, Some, None};
+ghost use Rattle.std.specs.Prelude.{true, ◌≡◌, ◌≤◌, List, ℕ, Some, None};
 ghost use Rattle.fle_outside.specs.Counts.{Rose};
 ghost use Rattle.fle_runner.specs.Did.{Did};
 ghost use Rattle.fle_runner.specs.Plan.{size_of};
@@ -21,14 +21,14 @@ pub fn judge_stream<J: Judge + Drop, S: Source, O: Sink>(
     input: &mut S,
     out: &mut O,
 ) -> End
-    ensures did { (told : List ℕ) → S.left input.old ≡ Some told
-        → Did (each (J.verdict judge)) told (S.left input.new) None None (O.written out.old) (O.written out.new) result.number result.written result.why }
+    ensures did { (told : List ℕ) → (S.seen input.old).told ≡ Some told
+        → Did (each (J.verdict judge)) told (S.seen input.new).told None None (O.seen out.old).told (O.seen out.new).told result.number result.written result.why }
     ensures kind { IsOfStream result.why }
-    ensures in_cause { result.why ≡ Why.ReadFault → Rose (S.faults input.old) (S.faults input.new) }
-    ensures in_sure { S.assured input.old → result.why ≡ Why.ReadFault → ⊥ }
-    ensures out_cause { result.why ≡ Why.WriteFault → Rose (O.faults out.old) (O.faults out.new) }
-    ensures out_sure { (told : List ℕ) → S.left input.old ≡ Some told
-        → size_of (outcome_of (each (J.verdict judge)) told).outputs ≤ O.assured out.old → result.why ≡ Why.WriteFault → ⊥ }
+    ensures in_cause { result.why ≡ Why.ReadFault → Rose (S.seen input.old).faults (S.seen input.new).faults }
+    ensures in_sure { (S.seen input.old).assured ≡ true → result.why ≡ Why.ReadFault → ⊥ }
+    ensures out_cause { result.why ≡ Why.WriteFault → Rose (O.seen out.old).faults (O.seen out.new).faults }
+    ensures out_sure { (told : List ℕ) → (S.seen input.old).told ≡ Some told
+        → size_of (outcome_of (each (J.verdict judge)) told).outputs ≤ (O.seen out.old).assured → result.why ≡ Why.WriteFault → ⊥ }
 {
     let mut verb = Judging { judge };
     let stop = run_turns(alloc, &mut verb, input, out);

@@ -1,6 +1,6 @@
 //! The loop of every verb that reads the input.
 
-ghost use Rattle.std.specs.Prelude.{◌≡◌, ◌+◌, ◌^◌, ◌<◌, ◌≤◌, List, ℕ, Some, None};
+ghost use Rattle.std.specs.Prelude.{true, ◌≡◌, ◌+◌, ◌^◌, ◌<◌, ◌≤◌, List, ℕ, Some, None};
 ghost use Rattle.fle_outside.specs.Counts.{Rose};
 ghost use Rattle.fle_runner.specs.Plan.{size_of};
 ghost use Rattle.fle_runner.specs.Outcome.{Course};
@@ -41,15 +41,15 @@ pub trait Verb {
         ensures same_most { most self.new ≡ most self.old }
         ensures progress { (n : ℕ) → result ≡ Turn.Wrote n → (taken < 2 ^ 40) × (0 < n) × (n ≤ 2 ^ 26) }
         ensures kind { (why : Why) → result ≡ Turn.Stopped why → IsOfStream why }
-        ensures turn { (told : List ℕ) → S.left input.old ≡ Some told
-            → TurnOf (course self.old) (most self.old) taken told (S.left input.new) None None (O.written out.old) (O.written out.new) 0 0 (O.assured out.old) (O.assured out.new) result }
-        ensures in_later { S.faults input.old ≤ S.faults input.new }
-        ensures in_cause { result ≡ Turn.Stopped Why.ReadFault → Rose (S.faults input.old) (S.faults input.new) }
-        ensures in_sure { S.assured input.old → (result ≡ Turn.Stopped Why.ReadFault → ⊥) × S.assured input.new }
-        ensures out_later { O.faults out.old ≤ O.faults out.new }
-        ensures out_cause { result ≡ Turn.Stopped Why.WriteFault → Rose (O.faults out.old) (O.faults out.new) }
-        ensures out_sure { (told : List ℕ) → S.left input.old ≡ Some told
-            → size_of (course self.old taken told).outputs ≤ O.assured out.old → result ≡ Turn.Stopped Why.WriteFault → ⊥ };
+        ensures turn { (told : List ℕ) → (S.seen input.old).told ≡ Some told
+            → TurnOf (course self.old) (most self.old) taken told (S.seen input.new).told None None (O.seen out.old).told (O.seen out.new).told 0 0 (O.seen out.old).assured (O.seen out.new).assured result }
+        ensures in_later { (S.seen input.old).faults ≤ (S.seen input.new).faults }
+        ensures in_cause { result ≡ Turn.Stopped Why.ReadFault → Rose (S.seen input.old).faults (S.seen input.new).faults }
+        ensures in_sure { (S.seen input.old).assured ≡ true → (result ≡ Turn.Stopped Why.ReadFault → ⊥) × ((S.seen input.new).assured ≡ true) }
+        ensures out_later { (O.seen out.old).faults ≤ (O.seen out.new).faults }
+        ensures out_cause { result ≡ Turn.Stopped Why.WriteFault → Rose (O.seen out.old).faults (O.seen out.new).faults }
+        ensures out_sure { (told : List ℕ) → (S.seen input.old).told ≡ Some told
+            → size_of (course self.old taken told).outputs ≤ (O.seen out.old).assured → result ≡ Turn.Stopped Why.WriteFault → ⊥ };
 }
 
 /// How a verb's run over the input ended.
@@ -68,17 +68,17 @@ pub fn run_turns<T: Verb, S: Source, O: Sink>(
     input: &mut S,
     out: &mut O,
 ) -> Stop
-    ensures ran { (told : List ℕ) → S.left input.old ≡ Some told
-        → Ran (T.course verb.old 0 told) told (S.left input.new) (T.most verb.old) None None (O.written out.old) (O.written out.new) result.written result.why }
+    ensures ran { (told : List ℕ) → (S.seen input.old).told ≡ Some told
+        → Ran (T.course verb.old 0 told) told (S.seen input.new).told (T.most verb.old) None None (O.seen out.old).told (O.seen out.new).told result.written result.why }
     ensures few { result.written < 2 ^ 41 }
     ensures kind { IsOfStream result.why }
-    ensures in_later { S.faults input.old ≤ S.faults input.new }
-    ensures in_cause { result.why ≡ Why.ReadFault → Rose (S.faults input.old) (S.faults input.new) }
-    ensures in_sure { S.assured input.old → result.why ≡ Why.ReadFault → ⊥ }
-    ensures out_later { O.faults out.old ≤ O.faults out.new }
-    ensures out_cause { result.why ≡ Why.WriteFault → Rose (O.faults out.old) (O.faults out.new) }
-    ensures out_sure { (told : List ℕ) → S.left input.old ≡ Some told
-        → size_of (T.course verb.old 0 told).outputs ≤ O.assured out.old → result.why ≡ Why.WriteFault → ⊥ }
+    ensures in_later { (S.seen input.old).faults ≤ (S.seen input.new).faults }
+    ensures in_cause { result.why ≡ Why.ReadFault → Rose (S.seen input.old).faults (S.seen input.new).faults }
+    ensures in_sure { (S.seen input.old).assured ≡ true → result.why ≡ Why.ReadFault → ⊥ }
+    ensures out_later { (O.seen out.old).faults ≤ (O.seen out.new).faults }
+    ensures out_cause { result.why ≡ Why.WriteFault → Rose (O.seen out.old).faults (O.seen out.new).faults }
+    ensures out_sure { (told : List ℕ) → (S.seen input.old).told ≡ Some told
+        → size_of (T.course verb.old 0 told).outputs ≤ (O.seen out.old).assured → result.why ≡ Why.WriteFault → ⊥ }
 {
     let mut taken: u64 = 0;
     let mut written: u64 = 0;

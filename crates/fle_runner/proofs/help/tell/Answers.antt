@@ -5,10 +5,10 @@ pub returns : goal.returns
 returns g c =
     let says = rw (c.unread.ensures, c.why_told.ensures) at c.report.ensures.says in
     let status = rw (c.unread.ensures, c.why_told.ensures) at c.report.ensures.status in
-    record {
+    record { told = record {
       wrote = c.write_whole-wrote.result;
-      output = rw c.as_bytes.ensures.value at c.write_whole-wrote.ensures;
+      output = rw c.as_bytes.ensures.value at c.write_whole-wrote.ensures.wrote;
       answer = status;
       reported = says.0;
       says = says.1;
-    }
+    } }

@@ -5,7 +5,7 @@ use Rattle.fle_runner.proofs.Lines.{then_all, stop_all}
 use Rattle.fle_runner.proofs.line.put_fault.Goals as goal
 
 pub returns-in-Ok : goal.returns-in-Ok
-returns-in-Ok g c = rw (← c.number.ensures.number) (then_all c.in-Ok.ensures c.put_offset.ensures)
+returns-in-Ok g c = record { wrote = rw (← c.number.ensures.number) (then_all c.in-Ok.ensures.wrote c.put_offset.ensures.wrote) }
 
 pub returns-in-Err : goal.returns-in-Err
-returns-in-Err g c = rw (← c.number.ensures.number) (stop_all (tail_text (c.args.fault.now.offset ∷ [])) c.in-Err.ensures)
+returns-in-Err g c = record { wrote = rw (← c.number.ensures.number) (stop_all (tail_text (c.args.fault.now.offset ∷ [])) c.in-Err.ensures.wrote) }

@@ -38,4 +38,4 @@ returns-in-Ended-clause-next g c = λ told is.
 pub returns-in-Ok-2-clause-next : goal.returns-in-Ok-2-clause-next
 returns-in-Ok-2-clause-next g c = λ told is.
     let read = head_read told c.fill_piece.new.piece _ (from_le_bytes w32 c.fill_piece.new.piece) c.fill_piece.auto.piece refl (c.in-Whole.ensures.bytes told is) in
-    subst (λ (x : List ℕ). NextIs x (g.S.Source.left c.next_body.new.source) c.next_body.result) read.is (c.next_body.ensures.next (drop 4 told) read.left)
+    subst (λ (x : List ℕ). NextIs x (g.S.Source.seen c.next_body.new.source).told c.next_body.result) read.is (c.next_body.ensures.next (drop 4 told) read.left)

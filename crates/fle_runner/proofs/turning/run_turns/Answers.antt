@@ -14,7 +14,7 @@ loop-n-init g c = record {
   in_later = omega arith;
   out_later = omega arith;
   sure = λ assured. assured;
-  going = λ told is. begins (g.T.Verb.course c.args.verb.now) told _ None (g.O.Sink.written c.args.out.now) 0 (g.O.Sink.assured c.args.out.now) is;
+  going = λ told is. begins (g.T.Verb.course c.args.verb.now) told _ None (g.O.Sink.seen c.args.out.now).told 0 (g.O.Sink.seen c.args.out.now).assured is;
 }
 
 pub loop-n-preserved : goal.loop-n-preserved

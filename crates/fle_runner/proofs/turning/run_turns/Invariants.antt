@@ -1,5 +1,5 @@
 -- The outputs so far are written; what comes of the bytes that are left comes of all.
-use Rattle.std.proofs.Common.{◌≡◌, ◌-◌, ◌^◌, ◌<◌, ◌≤◌, List, ℕ, Some, None}
+use Rattle.std.proofs.Common.{true, ◌≡◌, ◌-◌, ◌^◌, ◌<◌, ◌≤◌, List, ℕ, Some, None}
 use Rattle.fle_runner.proofs.Turnings.{Going}
 use Rattle.fle_runner.proofs.turning.run_turns.Given as goal
 
@@ -9,11 +9,11 @@ invariant-loop-n g l = record {
   small : l.taken < 2 ^ 41;
   same_course : g.T.Verb.course l.verb ≡ g.T.Verb.course l.fn.verb;
   same_most : g.T.Verb.most l.verb ≡ g.T.Verb.most l.fn.verb;
-  in_later : g.S.Source.faults l.fn.input ≤ g.S.Source.faults l.input;
-  out_later : g.O.Sink.faults l.fn.out ≤ g.O.Sink.faults l.out;
-  sure : g.S.Source.assured l.fn.input → g.S.Source.assured l.input;
-  going : (told : List ℕ) → g.S.Source.left l.fn.input ≡ Some told
-      → Going (g.T.Verb.course l.fn.verb) told (g.S.Source.left l.input) None None (g.O.Sink.written l.fn.out) (g.O.Sink.written l.out) 0 0 (g.O.Sink.assured l.fn.out) (g.O.Sink.assured l.out) l.written l.taken;
+  in_later : (g.S.Source.seen l.fn.input).faults ≤ (g.S.Source.seen l.input).faults;
+  out_later : (g.O.Sink.seen l.fn.out).faults ≤ (g.O.Sink.seen l.out).faults;
+  sure : (g.S.Source.seen l.fn.input).assured ≡ true → (g.S.Source.seen l.input).assured ≡ true;
+  going : (told : List ℕ) → (g.S.Source.seen l.fn.input).told ≡ Some told
+      → Going (g.T.Verb.course l.fn.verb) told (g.S.Source.seen l.input).told None None (g.O.Sink.seen l.fn.out).told (g.O.Sink.seen l.out).told 0 0 (g.O.Sink.seen l.fn.out).assured (g.O.Sink.seen l.out).assured l.written l.taken;
 }
 
 abbrev pub decreases-loop-n : goal.decreases-loop-n
