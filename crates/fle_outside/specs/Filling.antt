@@ -19,8 +19,12 @@ FillWithin fills.Failed size = Unit {0}
 abbrev pub RoseBy : ℕ → ℕ → ℕ → Type 0
 RoseBy before after n = (min (before + n) (2 ^ 64 - 1) ≤ after) × (after ≤ before + n)
 
+-- it rose by at most n
+abbrev pub RoseWithin : ℕ → ℕ → ℕ → Type 0
+RoseWithin before after n = (min before (2 ^ 64 - 1) ≤ after) × (after ≤ before + n)
+
 -- the bytes that a source handed out, told or not: as many as the answer says, and by a failure at most the piece's length
 abbrev pub FillCounts : ℕ → ℕ → Fill → ℕ → Type 0
 FillCounts before after fills.Whole size = RoseBy before after size
 FillCounts before after (fills.Ended n) size = RoseBy before after n
-FillCounts before after fills.Failed size = after ≤ before + size
+FillCounts before after fills.Failed size = RoseWithin before after size

@@ -30,4 +30,4 @@ returns-clause-bytes g c = λ told is.
 pub returns-in-Failed-clause-counts : goal.returns-in-Failed-clause-counts
 returns-in-Failed-clause-counts g c =
     let size = length-put_mid-≤ c.loop-at.at (length c.loop-at.piece - c.loop-at.at) 0 c.loop-at.piece c.read.new.piece c.loop-at.invariant.within (omega arith) in
-    omega (arith, size, c.loop-at.invariant.counted.1, c.in-Failed.ensures.counts)
+    (omega (arith, c.loop-at.invariant.counted.0, c.in-Failed.ensures.counts), omega (arith, size, c.loop-at.invariant.counted.1, c.in-Failed.ensures.counts))
