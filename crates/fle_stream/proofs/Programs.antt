@@ -5,9 +5,12 @@ use Rattle.fle_outside.proofs.Drawings.{draws_none}
 use Rattle.fle_stream.specs.Did.{Did}
 use Rattle.fle_stream.specs.Ended.{EndsAs}
 use Rattle.fle_stream.specs.Files.{LoadIs}
+use Rattle.bson_tree.specs.Tree.{Items}
+use Rattle.fle_stream.specs.Plan.{Verdict}
+use Rattle.fle_stream.specs.Turn.{IsOfStream}
 use Rattle.fle_stream.specs.Outcome.{Outcome, finished}
 use Rattle.fle_stream.specs.Run.{EndsIn, Ran}
-use Rattle.fle_stream.specs.Task.{Task, fails, outcome_of, most_of, with_file}
+use Rattle.fle_stream.specs.Task.{Task, each, fails, outcome_of, most_of, with_file}
 use Rattle.fle_stream.specs.declared.why.Finish.{Finish}
 use Rattle.fle_stream.specs.declared.why.Cut.TheVariants as cuts
 use Rattle.fle_stream.specs.declared.why.Why.{Why}
@@ -79,3 +82,12 @@ ends_load number limit file (whys.Cut cuts.Memory) next is = tt
 ends_load number limit file (whys.Cut cuts.Input) next is = absurd is
 ends_load number limit file (whys.Cut cuts.Output) next is = absurd is
 ends_load number limit file (whys.Cut cuts.Entropy) next is = absurd is
+
+-- a stream was judged
+pub ends_each : (v : Items → Verdict) (why : Why) → IsOfStream why → EndsAs (each v) why
+ends_each v (whys.Finished finish) kind = kind
+ends_each v (whys.Cut cuts.Folder) kind = tt
+ends_each v (whys.Cut cuts.Input) kind = kind
+ends_each v (whys.Cut cuts.Output) kind = kind
+ends_each v (whys.Cut cuts.Entropy) kind = kind
+ends_each v (whys.Cut cuts.Memory) kind = tt
