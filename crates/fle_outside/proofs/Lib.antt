@@ -1,2 +1,4 @@
 pub mod PartWay
 pub mod Pieces
+pub mod Bytes
+pub mod Drawings

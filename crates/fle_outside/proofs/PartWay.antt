@@ -2,20 +2,21 @@
 use denote.Ref.{Bor}
 use Rattle.std.proofs.Common.{get_or, drop-cons, add-one, ◌≡◌, ℕ, ◌+◌, ◌<◌, ◌≤◌, Option, Some, Ok, Err, List, [], ◌++◌, length, take, drop, refl, sym, ◌∙◌, ap, arith, append_assoc, append-nil, length-append, length-take-le, take-append-drop}
 use Rattle.fle_outside.specs.Writes.{WriteTakes, WriteCause, WriteAssured}
+use Rattle.fle_outside.specs.Seen.{SinkSeen}
 use Rattle.fle_outside.specs.Writing.{Gains, WritesWhole, joined}
 use Rattle.fle_outside.specs.declared.answers.WriteAnswer.TheVariants as writes
 use Rattle.fle_outside.specs.declared.answers.Failed.{Failed}
 
-pub record PartWay (before now : Option (List ℕ)) (faults faults_now assured assured_now : ℕ) (whole left : List ℕ) : Type 0 where
+pub record PartWay (before now : SinkSeen) (whole left : List ℕ) : Type 0 where
   pub put : List ℕ
   pub split : whole ≡ put ++ left
-  pub gains : Gains before now put
-  pub later : faults ≤ faults_now
-  pub falls : assured ≤ assured_now + length put
+  pub gains : Gains before.told now.told put
+  pub later : before.faults ≤ now.faults
+  pub falls : before.assured ≤ now.assured + length put
 
 -- nothing is written yet
-pub part_begin : (before : Option (List ℕ)) (faults assured : ℕ) (bytes : List ℕ) → PartWay before before faults faults assured assured bytes bytes
-part_begin before faults assured bytes = record {
+pub part_begin : (before : SinkSeen) (bytes : List ℕ) → PartWay before before bytes bytes
+part_begin before bytes = record {
   put = [];
   split = refl;
   gains = λ w is. is ∙ ap (λ (x : List ℕ). Some x) (sym (append-nil w));
@@ -29,26 +30,26 @@ gains_more before now new put left n gains takes w is =
     let step = rw (gains w is) at takes in
     step ∙ ap (λ (x : List ℕ). Some x) (append_assoc w put (take n left))
 
-pub part_took : {before now new : Option (List ℕ)} {faults faults_now faults_new assured assured_now assured_new : ℕ} {whole left : List ℕ} (n : ℕ)
-    → PartWay before now faults faults_now assured assured_now whole left
-    → WriteTakes now new (writes.Took n) left → n ≤ length left → faults_now ≤ faults_new → assured_now ≤ assured_new + n
-    → PartWay before new faults faults_new assured assured_new whole (drop n left)
-part_took {before} {now} {new} {faults} {faults_now} {faults_new} {assured} {assured_now} {assured_new} {whole} {left} n way takes within later falls =
+pub part_took : {before now new : SinkSeen} {whole left : List ℕ} (n : ℕ)
+    → PartWay before now whole left
+    → WriteTakes now.told new.told (writes.Took n) left → n ≤ length left → now.faults ≤ new.faults → now.assured ≤ new.assured + n
+    → PartWay before new whole (drop n left)
+part_took {before} {now} {new} {whole} {left} n way takes within later falls =
     let size : length (take n left) ≡ n = length-take-le n left within in
     record {
       put = way.put ++ take n left;
       split = way.split ∙ (ap (λ (x : List ℕ). way.put ++ x) (sym (take-append-drop n left)) ∙ sym (append_assoc way.put (take n left) (drop n left)));
-      gains = gains_more before now new way.put left n way.gains takes;
+      gains = gains_more before.told now.told new.told way.put left n way.gains takes;
       later = omega (arith, way.later);
       falls = omega (arith, way.falls, length-append way.put (take n left), size);
     }
 
 -- a write failed
-pub part_stop : {before now new : Option (List ℕ)} {faults faults_now faults_new assured assured_now assured_new : ℕ} {whole left : List ℕ}
-    → PartWay before now faults faults_now assured assured_now whole left
-    → WriteTakes now new writes.Failed left → 0 < length left → WriteCause faults_now faults_new writes.Failed → WriteAssured assured_now assured_new writes.Failed
-    → (f : Failed) → WritesWhole before new faults faults_new assured assured_new (Err f) whole
-part_stop {before} {now} {new} {faults} {faults_now} {faults_new} {assured} {assured_now} {assured_new} {whole} {left} way takes more cause sure f = record {
+pub part_stop : {before now new : SinkSeen} {whole left : List ℕ}
+    → PartWay before now whole left
+    → WriteTakes now.told new.told writes.Failed left → 0 < length left → WriteCause now.faults new.faults writes.Failed → WriteAssured now.assured new.assured writes.Failed
+    → (f : Failed) → WritesWhole before new (Err f) whole
+part_stop {before} {now} {new} {whole} {left} way takes more cause sure f = record {
   puts = (way.put, (left, more, way.split), λ w is. rw (way.gains w is) at takes);
   later = omega (arith, way.later, cause.later);
   cause = omega (arith, way.later, cause.failed refl);
@@ -57,9 +58,9 @@ part_stop {before} {now} {new} {faults} {faults_now} {faults_new} {assured} {ass
 }
 
 -- all of them are written
-pub part_end : {before now : Option (List ℕ)} {faults faults_now assured assured_now : ℕ} {whole : List ℕ}
-    → PartWay before now faults faults_now assured assured_now whole []
-    → WritesWhole before now faults faults_now assured assured_now (Ok tt) whole
+pub part_end : {before now : SinkSeen} {whole : List ℕ}
+    → PartWay before now whole []
+    → WritesWhole before now (Ok tt) whole
 part_end {whole = whole} way =
     let all : whole ≡ way.put = way.split ∙ append-nil way.put in
     record {
@@ -71,10 +72,10 @@ part_end {whole = whole} way =
     }
 
 -- one more part is written
-pub part_put : {before now new : Option (List ℕ)} {faults faults_now faults_new assured assured_now assured_new : ℕ} {whole left part rest : List ℕ} {u : Unit {0}}
-    → PartWay before now faults faults_now assured assured_now whole left → left ≡ part ++ rest
-    → WritesWhole now new faults_now faults_new assured_now assured_new (Ok u) part
-    → PartWay before new faults faults_new assured assured_new whole rest
+pub part_put : {before now new : SinkSeen} {whole left part rest : List ℕ} {u : Unit {0}}
+    → PartWay before now whole left → left ≡ part ++ rest
+    → WritesWhole now new (Ok u) part
+    → PartWay before new whole rest
 part_put {part = part} {rest = rest} way is wrote = record {
   put = way.put ++ part;
   split = way.split ∙ (ap (λ (x : List ℕ). way.put ++ x) is ∙ sym (append_assoc way.put part rest));
@@ -84,11 +85,11 @@ part_put {part = part} {rest = rest} way is wrote = record {
 }
 
 -- one more part is not written whole
-pub part_put_stop : {before now new : Option (List ℕ)} {faults faults_now faults_new assured assured_now assured_new : ℕ} {whole left part : List ℕ} {f : Failed} (rest : List ℕ)
-    → PartWay before now faults faults_now assured assured_now whole left → left ≡ part ++ rest
-    → WritesWhole now new faults_now faults_new assured_now assured_new (Err f) part
-    → WritesWhole before new faults faults_new assured assured_new (Err f) whole
-part_put_stop {assured_now = assured_now} {whole = whole} {left = left} {part = part} rest way is wrote =
+pub part_put_stop : {before now new : SinkSeen} {whole left part : List ℕ} {f : Failed} (rest : List ℕ)
+    → PartWay before now whole left → left ≡ part ++ rest
+    → WritesWhole now new (Err f) part
+    → WritesWhole before new (Err f) whole
+part_put_stop {now = now} {whole = whole} {left = left} {part = part} rest way is wrote =
     let cut = wrote.puts.1.2 in
     record {
       puts = (
@@ -103,7 +104,7 @@ part_put_stop {assured_now = assured_now} {whole = whole} {left = left} {part = 
       later = omega (arith, way.later, wrote.later);
       cause = omega (arith, way.later, wrote.cause);
       sure = λ enough.
-          let short : length part ≤ assured_now = omega (arith, enough, way.falls, ap length way.split, length-append way.put left, ap length is, length-append part rest) in
+          let short : length part ≤ now.assured = omega (arith, enough, way.falls, ap length way.split, length-append way.put left, ap length is, length-append part rest) in
           wrote.sure short;
       falls = tt;
     }

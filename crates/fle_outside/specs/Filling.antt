@@ -1,5 +1,5 @@
 -- What filling a piece takes from a source that tells what it has left.
-use Rattle.std.specs.Prelude.{◌≡◌, ℕ, ◌<◌, ◌≤◌, Option, Some, List, [], ◌++◌, length, drop}
+use Rattle.std.specs.Prelude.{◌≡◌, ℕ, ◌+◌, ◌-◌, ◌^◌, ◌<◌, ◌≤◌, min, Option, Some, List, [], ◌++◌, length, drop}
 use Rattle.fle_outside.specs.declared.filling.Fill.{Fill}
 use Rattle.fle_outside.specs.declared.filling.Fill.TheVariants as fills
 
@@ -14,3 +14,17 @@ abbrev pub FillWithin : Fill → ℕ → Type 0
 FillWithin fills.Whole size = Unit {0}
 FillWithin (fills.Ended n) size = n < size
 FillWithin fills.Failed size = Unit {0}
+
+-- a count of bytes, which stands still at its last value, rose by n
+abbrev pub RoseBy : ℕ → ℕ → ℕ → Type 0
+RoseBy before after n = (min (before + n) (2 ^ 64 - 1) ≤ after) × (after ≤ before + n)
+
+-- it rose by at most n
+abbrev pub RoseWithin : ℕ → ℕ → ℕ → Type 0
+RoseWithin before after n = (min before (2 ^ 64 - 1) ≤ after) × (after ≤ before + n)
+
+-- the bytes that a source handed out, told or not: as many as the answer says, and by a failure at most the piece's length
+abbrev pub FillCounts : ℕ → ℕ → Fill → ℕ → Type 0
+FillCounts before after fills.Whole size = RoseBy before after size
+FillCounts before after (fills.Ended n) size = RoseBy before after n
+FillCounts before after fills.Failed size = RoseWithin before after size

@@ -5,3 +5,6 @@ pub mod Writes
 pub mod Memory
 pub mod Filling
 pub mod Writing
+pub mod Blocks
+pub mod Seen
+pub mod Drawing

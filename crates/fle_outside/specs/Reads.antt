@@ -1,5 +1,5 @@
 -- What one read of a source says, by its answer.
-use Rattle.std.specs.Prelude.{◌≡◌, ℕ, ◌<◌, ◌≤◌, Option, Some, None, List, [], ◌++◌, take, drop}
+use Rattle.std.specs.Prelude.{◌≡◌, ℕ, ◌+◌, ◌-◌, ◌^◌, ◌<◌, ◌≤◌, min, Option, Some, None, List, [], ◌++◌, take, drop}
 use Rattle.fle_outside.specs.Counts.{Rose}
 use Rattle.fle_outside.specs.declared.answers.ReadAnswer.{ReadAnswer}
 use Rattle.fle_outside.specs.declared.answers.ReadAnswer.TheVariants as reads
@@ -16,6 +16,12 @@ ReadTakes None after answer piece = after ≡ None
 ReadTakes (Some bytes) after (reads.Took n) piece = (bytes ≡ take n piece ++ drop n bytes) × (after ≡ Some (drop n bytes))
 ReadTakes (Some bytes) after reads.End piece = (bytes ≡ []) × (after ≡ Some bytes)
 ReadTakes (Some bytes) after reads.Failed piece = after ≡ Some bytes
+
+-- the bytes that a source handed out so far, up to the last number
+abbrev pub taken_by : ℕ → ReadAnswer → ℕ
+taken_by taken (reads.Took n) = min (taken + n) (2 ^ 64 - 1)
+taken_by taken reads.End = taken
+taken_by taken reads.Failed = taken
 
 -- the count of faults never falls, and a failure raises it
 pub record ReadCause (before now : ℕ) (answer : ReadAnswer) : Type 0 where

@@ -2,6 +2,7 @@
 use Rattle.std.specs.Prelude.{◌≡◌, ℕ, ◌+◌, ◌<◌, ◌≤◌, Option, Some, Result, Ok, Err, List, [], ◌∷◌, ◌++◌, length, OnOk, OnErr, IsOk}
 use denote.Ref.{Bor}
 use Rattle.fle_outside.specs.Counts.{Rose}
+use Rattle.fle_outside.specs.Seen.{SinkSeen}
 use Rattle.fle_outside.specs.declared.answers.Failed.{Failed}
 
 -- a front of the bytes that isn't all of them
@@ -18,12 +19,12 @@ Puts before after (Ok _) bytes = Gains before after bytes
 Puts before after (Err _) bytes = (front : List ℕ) × IsProperPrefix front bytes × Gains before after front
 
 -- writing these bytes whole: what was gained; a failure comes only where the count rose, and never where the sink is assured of their number
-pub record WritesWhole (before after : Option (List ℕ)) (faults faults_after assured assured_after : ℕ) (result : Result (Unit {0}) Failed) (bytes : List ℕ) : Type 0 where
-  pub puts : Puts before after result bytes
-  pub later : faults ≤ faults_after
-  pub cause : OnErr result (Rose faults faults_after)
-  pub sure : length bytes ≤ assured → IsOk result
-  pub falls : OnOk result (assured ≤ assured_after + length bytes)
+pub record WritesWhole (before after : SinkSeen) (result : Result (Unit {0}) Failed) (bytes : List ℕ) : Type 0 where
+  pub puts : Puts before.told after.told result bytes
+  pub later : before.faults ≤ after.faults
+  pub cause : OnErr result (Rose before.faults after.faults)
+  pub sure : length bytes ≤ before.assured → IsOk result
+  pub falls : OnOk result (before.assured ≤ after.assured + length bytes)
 
 -- parts, one after another
 abbrev pub joined : List (Bor (List ℕ)) → List ℕ

@@ -1,7 +1,7 @@
 //! A folder in memory.
 
-ghost use Rattle.std.specs.Prelude.{◌≡◌, ◌+◌, ◌-◌, ◌<◌, ◌≤◌, length, map, [], Some};
-ghost use Rattle.fle_outside.specs.Memory.{entry, HasDistinctNames, FolderState, file_answer, after_file};
+ghost use Rattle.std.specs.Prelude.{◌≡◌, ◌+◌, ◌-◌, ◌<◌, ◌≤◌, true, length, map, Some};
+ghost use Rattle.fle_outside.specs.Memory.{entry, HasDistinctNames, file_answer, after_file, folder_seen};
 ghost use Rattle.fle_outside.specs.Files.{Files, FileWithin, FileGives, FileCause, file_of, GivesAt, answer_at, IsFile};
 
 use crate::answers::FileAnswer;
@@ -45,11 +45,7 @@ impl MemFolder {
 }
 
 impl Folder for MemFolder {
-    ghost files = { λ s. Some s.files };
-
-    ghost faults = { λ s. s.faults };
-
-    ghost assured = { λ s. s.failing ≡ [] };
+    ghost seen = { folder_seen };
 
     fn read_at(&mut self, name: &str, at: u64, piece: &mut [u8]) -> FileAnswer
         requires { 0 < length piece.old }
@@ -57,7 +53,7 @@ impl Folder for MemFolder {
         ensures bytes { FileGives (Some self.old.files) name.now at result piece.new }
         ensures same { Some self.new.files ≡ Some self.old.files }
         ensures cause { FileCause self.old.faults self.new.faults result }
-        ensures sure { self.old.failing ≡ [] → (result ≡ FileAnswer.Failed → ⊥) × (self.new.failing ≡ []) }
+        ensures sure { (folder_seen self.old).assured ≡ true → (result ≡ FileAnswer.Failed → ⊥) × ((folder_seen self.new).assured ≡ true) }
         ensures exact { result ≡ file_answer self.old name.now at (length piece.new) }
         ensures state { self.new ≡ after_file self.old result }
     {

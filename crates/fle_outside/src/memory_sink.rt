@@ -1,7 +1,7 @@
 //! A sink in memory.
 
 ghost use Rattle.std.specs.Prelude.{◌≡◌, ◌<◌, ◌≤◌, length, [], IfOk, Some};
-ghost use Rattle.fle_outside.specs.Memory.{SinkState, write_answer, after_write, room_assured};
+ghost use Rattle.fle_outside.specs.Memory.{SinkState, write_answer, after_write, room_assured, sink_seen};
 ghost use Rattle.fle_outside.specs.Writes.{WriteWithin, WriteTakes, WriteCause, WriteAssured};
 
 use crate::answers::{Memory, WriteAnswer};
@@ -69,11 +69,7 @@ impl MemSink {
 }
 
 impl Sink for MemSink {
-    ghost written = { λ s. Some s.written };
-
-    ghost faults = { λ s. s.faults };
-
-    ghost assured = { room_assured };
+    ghost seen = { sink_seen };
 
     fn write(&mut self, piece: &[u8]) -> WriteAnswer
         requires { 0 < length piece.now }

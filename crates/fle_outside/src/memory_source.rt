@@ -1,8 +1,8 @@
 //! A source in memory.
 
-ghost use Rattle.std.specs.Prelude.{◌≡◌, ◌+◌, ◌-◌, ◌<◌, ◌≤◌, vec_len, length, drop, min, [], Some};
-ghost use Rattle.fle_outside.specs.Memory.{SourceState, read_answer, after_read};
-ghost use Rattle.fle_outside.specs.Reads.{ReadWithin, ReadTakes, ReadCause};
+ghost use Rattle.std.specs.Prelude.{◌≡◌, ◌<◌, true, length, Some};
+ghost use Rattle.fle_outside.specs.Memory.{read_answer, after_read, source_seen};
+ghost use Rattle.fle_outside.specs.Reads.{ReadWithin, ReadTakes, ReadCause, taken_by};
 
 use crate::answers::ReadAnswer;
 use crate::counts::call_fails;
@@ -10,12 +10,13 @@ use crate::source::Source;
 use std::marker::Model;
 
 /// Bytes in memory that are handed out in small steps, and whose calls fail where a list says so.
-/// Contracts see what is left, the step, the numbers of the calls that are to fail, the number of
+/// Contracts see what is left, how many bytes it handed out, the step, the numbers of the calls that are to fail, the number of
 /// the next call and the count of faults.
 #[derive(Drop)]
 pub struct MemSource {
     bytes: Vec<u8>,
     at: usize,
+    taken: u64,
     step: usize,
     failing: Vec<u64>,
     calls: u64,
@@ -28,7 +29,7 @@ impl Model for MemSource {
 
     ghost Value = { SourceState };
 
-    ghost view = { λ s. record { left = drop s.at s.bytes.items; step = s.step; failing = s.failing.items; calls = s.calls; faults = s.faults } };
+    ghost view = { λ s. record { left = drop s.at s.bytes.items; taken = s.taken; step = s.step; failing = s.failing.items; calls = s.calls; faults = s.faults } };
 
     ghost invariant = { λ s. (s.at ≤ vec_len s.bytes) × (0 < s.step) };
 }
@@ -38,11 +39,12 @@ impl MemSource {
     /// in `failing`, counted from 0, fail. It is assured of never failing where that list is empty.
     pub fn new(bytes: Vec<u8>, step: usize, failing: Vec<u64>) -> MemSource
         requires { 0 < step }
-        ensures { result ≡ record { left = bytes.items; step = step; failing = failing.items; calls = 0; faults = 0 } }
+        ensures { result ≡ record { left = bytes.items; taken = 0; step = step; failing = failing.items; calls = 0; faults = 0 } }
     {
         MemSource {
             bytes,
             at: 0,
+            taken: 0,
             step,
             failing,
             calls: 0,
@@ -52,18 +54,15 @@ impl MemSource {
 }
 
 impl Source for MemSource {
-    ghost left = { λ s. Some s.left };
-
-    ghost faults = { λ s. s.faults };
-
-    ghost assured = { λ s. s.failing ≡ [] };
+    ghost seen = { source_seen };
 
     fn read(&mut self, piece: &mut [u8]) -> ReadAnswer
         requires { 0 < length piece.old }
         ensures within { ReadWithin result (length piece.new) }
         ensures bytes { ReadTakes (Some self.old.left) (Some self.new.left) result piece.new }
+        ensures counts { self.new.taken ≡ taken_by self.old.taken result }
         ensures cause { ReadCause self.old.faults self.new.faults result }
-        ensures sure { self.old.failing ≡ [] → (result ≡ ReadAnswer.Failed → ⊥) × (self.new.failing ≡ []) }
+        ensures sure { (source_seen self.old).assured ≡ true → (result ≡ ReadAnswer.Failed → ⊥) × ((source_seen self.new).assured ≡ true) }
         ensures exact { result ≡ read_answer self.old (length piece.new) }
         ensures state { self.new ≡ after_read self.old result }
     {
@@ -80,6 +79,7 @@ impl Source for MemSource {
         let n = piece.len().min(self.step.min(left.len()));
         piece[..n].copy_from_slice(&left[..n]);
         self.at += n;
+        self.taken = self.taken.saturating_add(n as u64);
         ReadAnswer::Took(n)
     }
 }

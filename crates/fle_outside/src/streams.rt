@@ -1,6 +1,6 @@
 //! The system's standard input, standard output and standard error.
 
-ghost use Rattle.std.specs.Prelude.{◌≡◌, ◌<◌, length, None};
+ghost use Rattle.std.specs.Prelude.{◌≡◌, ◌<◌, false, length, None};
 ghost use Rattle.fle_outside.specs.Reads.{ReadWithin, ReadCause};
 ghost use Rattle.fle_outside.specs.Writes.{WriteWithin, WriteCause};
 
@@ -10,12 +10,13 @@ use crate::source::Source;
 use std::io::{ErrorKind, Read, Write};
 
 /// How often a call is made again that a signal cut off.
-const TURNS: u64 = u64::MAX;
+pub(crate) const TURNS: u64 = u64::MAX;
 
 /// Standard input, or another reader of the system. It tells nothing and is assured of nothing.
 #[derive(Drop)]
 pub struct StdinSource<R> {
     reader: R,
+    taken: u64,
     faults: u64,
 }
 
@@ -36,9 +37,13 @@ pub struct StderrSink<W> {
 impl<R: Read> StdinSource<R> {
     /// A source over this reader, with no fault so far.
     pub fn new(reader: R) -> StdinSource<R>
-        ensures { result ≡ record { reader = reader; faults = 0 } }
+        ensures { result ≡ record { reader = reader; taken = 0; faults = 0 } }
     {
-        StdinSource { reader, faults: 0 }
+        StdinSource {
+            reader,
+            taken: 0,
+            faults: 0,
+        }
     }
 }
 
@@ -61,23 +66,19 @@ impl<W: Write> StderrSink<W> {
 }
 
 impl<R: Read> Source for StdinSource<R> {
-    ghost left = { λ _. None };
-
-    ghost faults = { λ s. s.faults };
-
-    ghost assured = { λ _. ⊥ };
+    ghost seen = { λ s. record { told = None; taken = s.taken; faults = s.faults; assured = false } };
 
     fn read(&mut self, piece: &mut [u8]) -> ReadAnswer {
-        read_some(&mut self.reader, &mut self.faults, piece)
+        let answer = read_some(&mut self.reader, &mut self.faults, piece);
+        if let ReadAnswer::Took(n) = answer {
+            self.taken = self.taken.saturating_add(n as u64);
+        }
+        answer
     }
 }
 
 impl<W: Write> Sink for StdoutSink<W> {
-    ghost written = { λ _. None };
-
-    ghost faults = { λ s. s.faults };
-
-    ghost assured = { λ _. 0 };
+    ghost seen = { λ s. record { told = None; faults = s.faults; assured = 0 } };
 
     fn write(&mut self, piece: &[u8]) -> WriteAnswer {
         write_some(&mut self.writer, &mut self.faults, piece)
@@ -85,11 +86,7 @@ impl<W: Write> Sink for StdoutSink<W> {
 }
 
 impl<W: Write> Sink for StderrSink<W> {
-    ghost written = { λ _. None };
-
-    ghost faults = { λ s. s.faults };
-
-    ghost assured = { λ _. 0 };
+    ghost seen = { λ s. record { told = None; faults = s.faults; assured = 0 } };
 
     fn write(&mut self, piece: &[u8]) -> WriteAnswer {
         write_some(&mut self.writer, &mut self.faults, piece)

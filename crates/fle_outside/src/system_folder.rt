@@ -1,10 +1,12 @@
 //! The system's files.
 
-ghost use Rattle.std.specs.Prelude.{◌≡◌, None};
+ghost use Rattle.std.specs.Prelude.{◌≡◌, ◌<◌, false, length, None};
+ghost use Rattle.fle_outside.specs.Files.{FileWithin, FileCause};
 ghost use Rattle.std.specs.Io.{ReadsAtMost};
 
 use crate::answers::FileAnswer;
 use crate::folder::Folder;
+use crate::streams::TURNS;
 use std::fs;
 use std::io::{ErrorKind, Read, Result, Seek, SeekFrom};
 use std::rt::Files;
@@ -28,23 +30,40 @@ impl<'a, R: Files> FileFolder<'a, R> {
 }
 
 impl<R: Files> Folder for FileFolder<'_, R> {
-    ghost files = { λ _. None };
-
-    ghost faults = { λ s. s.faults };
-
-    ghost assured = { λ _. ⊥ };
+    ghost seen = { λ s. record { told = None; faults = s.faults; assured = false } };
 
     fn read_at(&mut self, name: &str, at: u64, piece: &mut [u8]) -> FileAnswer {
-        match read_file_at(self.runtime, name, at, piece) {
-            Ok(0) => FileAnswer::End,
-            Ok(n) => FileAnswer::Took(n),
-            Err(error) if error.kind() == ErrorKind::NotFound => FileAnswer::Missing,
-            Err(_) => {
-                self.faults = self.faults.saturating_add(1);
-                FileAnswer::Failed
+        read_file(self.runtime, &mut self.faults, name, at, piece)
+    }
+}
+
+/// Reads once, counts each error but that of a file that isn't there, and reads again after one that
+/// came from a signal.
+fn read_file<R: Files>(
+    runtime: &R,
+    faults: &mut u64,
+    name: &str,
+    at: u64,
+    piece: &mut [u8],
+) -> FileAnswer
+    requires { 0 < length piece.old }
+    ensures within { FileWithin result (length piece.new) }
+    ensures cause { FileCause faults.old faults.new result }
+{
+    for _turn in 0..TURNS {
+        match read_file_at(runtime, name, at, piece) {
+            Ok(0) => return FileAnswer::End,
+            Ok(n) => return FileAnswer::Took(n),
+            Err(error) if error.kind() == ErrorKind::NotFound => return FileAnswer::Missing,
+            Err(error) => {
+                *faults = faults.saturating_add(1);
+                if error.kind() != ErrorKind::Interrupted {
+                    return FileAnswer::Failed;
+                }
             }
         }
     }
+    FileAnswer::Failed
 }
 
 /// Opens the file, goes to the place and reads once.

@@ -1,8 +1,9 @@
 //! What no clause says: that each call can succeed, and what the system's streams and files do.
 
 use super::*;
-use std::fs;
+use std::io::{ErrorKind, Read};
 use std::test::Fail;
+use std::{fs, io};
 
 #[test]
 fn source_hands_out_its_bytes_in_steps(rt: HostRuntime) -> Result<(), Fail> {
@@ -86,4 +87,47 @@ fn files_are_opened_by_name(rt: HostRuntime) -> Result<(), Fail> {
     assert_eq!(rt; folder.read_at(name, 0, &mut piece), FileAnswer::Missing);
     assert_eq!(rt; folder.read_at(".", 0, &mut piece), FileAnswer::Failed);
     Ok(())
+}
+
+#[test]
+fn entropy_hands_out_its_blocks(rt: HostRuntime) -> Result<(), Fail> {
+    let alloc = rt.alloc();
+    let blocks = vec![in alloc; [1u8; 16], [2u8; 16]]?;
+    let mut entropy = MemEntropy::new(blocks, vec![in alloc; 1u64]?);
+    assert_eq!(rt; entropy.block(), Ok([1u8; 16]));
+    assert_eq!(rt; entropy.block(), Err(Failed));
+    assert_eq!(rt; draw_block(&mut entropy), Ok([2u8; 16]));
+    assert_eq!(rt; draw_block(&mut entropy), Err(Failed));
+    Ok(())
+}
+
+#[test]
+fn system_gives_different_blocks(rt: HostRuntime) {
+    let mut entropy = SystemEntropy::new(&rt);
+    let first = entropy.block();
+    assert_eq!(rt; first.is_ok(), true);
+    assert_eq!(rt; first == entropy.block(), false);
+}
+
+/// A reader whose first call a signal cuts off.
+#[derive(Drop)]
+struct CutOff {
+    calls: u64,
+}
+
+impl Read for CutOff {
+    fn read(&mut self, buf: &mut [u8]) -> io::Result<usize> {
+        self.calls = self.calls.saturating_add(1);
+        if self.calls == 1 {
+            return Err(io::Error::from(ErrorKind::Interrupted));
+        }
+        Ok(buf.len().min(1))
+    }
+}
+
+#[test]
+fn interrupted_read_is_made_again(rt: HostRuntime) {
+    let mut source = StdinSource::new(CutOff { calls: 0 });
+    let mut piece = [0u8; 2];
+    assert_eq!(rt; source.read(&mut piece), ReadAnswer::Took(1));
 }

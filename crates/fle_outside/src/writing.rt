@@ -7,7 +7,7 @@ use crate::sink::Sink;
 
 /// Writes all of the bytes into a sink.
 pub fn write_whole<O: Sink>(out: &mut O, bytes: &[u8]) -> Result<(), Failed>
-    ensures { WritesWhole (O.written out.old) (O.written out.new) (O.faults out.old) (O.faults out.new) (O.assured out.old) (O.assured out.new) result bytes.now }
+    ensures wrote { WritesWhole (O.seen out.old) (O.seen out.new) result bytes.now }
 {
     let mut left = bytes;
     while !left.is_empty() {
@@ -24,7 +24,7 @@ pub fn write_whole<O: Sink>(out: &mut O, bytes: &[u8]) -> Result<(), Failed>
 
 /// Writes parts into a sink, one after another.
 pub fn put_parts<O: Sink>(out: &mut O, parts: &[&[u8]]) -> Result<(), Failed>
-    ensures { WritesWhole (O.written out.old) (O.written out.new) (O.faults out.old) (O.faults out.new) (O.assured out.old) (O.assured out.new) result (joined parts.now) }
+    ensures wrote { WritesWhole (O.seen out.old) (O.seen out.new) result (joined parts.now) }
 {
     for part in parts {
         match write_whole(out, part) {

@@ -1,13 +1,6 @@
-pub mod Streams
-pub mod Bodies
-pub mod Turnings
-pub mod Judgings
-pub mod Lines
-pub mod Loads
-pub mod Programs
-pub mod Marks
-pub mod Endings
+pub mod Ways
 pub mod Descent
 pub mod Spots
 pub mod Reasons
 pub mod Verdicts
+pub mod Marks

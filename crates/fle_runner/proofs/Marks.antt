@@ -1,18 +1,68 @@
--- A file of collection infos is at fault, or there was no memory for it.
-use Rattle.std.proofs.Common.{◌≡◌, ℕ, Option, Some, None, Result, Err, List, ◌∙◌, ap}
+-- A file of collection infos is at fault, or there was no memory for it; and what a reply makes of a judgement.
+use Rattle.std.proofs.Common.{◌≡◌, ◌<◌, ◌≤◌, ℕ, Bool, true, false, nat_lt, cond, Option, Some, None, Result, Err, List, [], length, Vec, Global, refl, ◌∙◌, ap, arith}
+use Rattle.std.proofs.lemmas.Bool.Decides.{nat_tests}
+use Rattle.bson_tree.specs.Tree.{Items}
+use Rattle.command_marker.specs.Reply.{reply_limit}
 use Rattle.encrypt_schema.specs.Collection.{Collection}
-use Rattle.encrypt_schema.specs.Collections.{Faulty}
-use Rattle.encrypt_schema.specs.Collections.{Loads}
+use Rattle.encrypt_schema.specs.Collections.{Faulty, Loads}
+use Rattle.encrypt_schema.specs.Visits.{Refusal}
 use Rattle.encrypt_schema.specs.declared.faults.InfoFault.{InfoFault}
 use Rattle.encrypt_schema.specs.declared.faults.InfoFault.TheVariants as faults
-use Rattle.fle_runner.specs.Did.{Did}
-use Rattle.fle_runner.specs.Mark.{infos_task, infos_why}
-use Rattle.fle_runner.specs.Task.{Task}
-use Rattle.fle_runner.specs.declared.why.SetupFault.TheVariants as setups
-use Rattle.fle_runner.proofs.Programs.{did_task, did_setup, did_memory}
+use Rattle.fle_outside.specs.Seen.{EntropySeen, SinkSeen}
+use Rattle.fle_outside.proofs.Drawings.{draws_none}
+use Rattle.fle_runner.specs.Mark.{infos_task, infos_why, mark_refusal, mark_verdict, plain_plan, reply_for, sized, verdict_by}
+use Rattle.fle_runner.specs.Numbers.{infos_number}
+use Rattle.fle_stream.specs.Did.{Did}
+use Rattle.fle_stream.specs.Ended.{EndsAs}
+use Rattle.fle_stream.specs.Judge.{JudgeIs}
+use Rattle.fle_stream.specs.Plan.{DrawsNone, Verdict, writes, refused, too_long, draws_in}
+use Rattle.fle_stream.specs.Task.{Task}
+use Rattle.fle_stream.specs.declared.judging.Judged.TheVariants as judgements
+use Rattle.fle_stream.specs.declared.why.Finish.TheVariants as finishes
+use Rattle.fle_stream.specs.declared.why.SetupFault.TheVariants as setups
+use Rattle.fle_stream.specs.declared.why.Why.TheVariants as whys
+use Rattle.fle_stream.proofs.Programs.{did_task, did_fail, did_memory, ends_task}
 
-pub did_infos : (t : Task) (db : List ℕ) (read : Result (List Collection) Faulty) (fault : InfoFault) (told : List ℕ) (after : Option (List ℕ)) (out : Option (List ℕ))
-    → t ≡ infos_task db read → Loads (Err fault) read → after ≡ Some told → Did t told after None None out out 0 0 (infos_why fault)
-did_infos t db read (faults.Bad document kind) told after out from is left =
-    did_task (from ∙ ap (λ (x : Result (List Collection) Faulty). infos_task db x) is) (did_setup 1 (setups.Infos kind) document told after out left)
-did_infos t db read faults.Memory told after out from is left = did_memory t told after out left
+pub did_infos : (t : Task) (db : List ℕ) (read : Result (List Collection) Faulty) (fault : InfoFault) (told : List ℕ) (after : Option (List ℕ)) (entropy : EntropySeen) (out : SinkSeen)
+    → t ≡ infos_task db read → Loads (Err fault) read → after ≡ Some told → Did t told after entropy entropy out out 0 (infos_why fault)
+did_infos t db read (faults.Bad document kind) told after entropy out from is left =
+    did_task (from ∙ ap (λ (x : Result (List Collection) Faulty). infos_task db x) is) (did_fail (finishes.Setup 1 (setups.Contents (infos_number kind)) document) told after entropy out left)
+did_infos t db read faults.Memory told after entropy out from is left = did_memory t told after entropy out left
+
+pub ends_infos : (t : Task) (db : List ℕ) (read : Result (List Collection) Faulty) (fault : InfoFault) → t ≡ infos_task db read → Loads (Err fault) read → EndsAs t (infos_why fault)
+ends_infos t db read (faults.Bad document kind) from is = ends_task (whys.Finished (finishes.Setup 1 (setups.Contents (infos_number kind)) document)) (from ∙ ap (λ (x : Result (List Collection) Faulty). infos_task db x) is) refl
+ends_infos t db read faults.Memory from is = tt
+
+-- no reply draws a block
+sized_draws : (b : Bool) (bytes : List ℕ) → draws_in (cond b too_long (writes (plain_plan bytes))) ≡ 0
+sized_draws true bytes = refl
+sized_draws false bytes = refl
+
+verdict_draws : (c : Items) (reply : List ℕ) (r : Option Refusal) → draws_in (verdict_by c reply r) ≡ 0
+verdict_draws c reply (Some r) = refl
+verdict_draws c reply None = sized_draws (nat_lt reply_limit (length reply)) reply
+
+pub mark_draws : (infos : List Collection) (db : List ℕ) → DrawsNone (mark_verdict infos db)
+unfolding mark_verdict
+mark_draws infos db = λ c. verdict_draws c (reply_for infos c) (mark_refusal infos db c)
+
+-- the reply is written, or above its limit
+by_size : (b : Bool) (bytes : List ℕ) (e : EntropySeen) → b ≡ true → JudgeIs (cond b too_long (writes (plain_plan bytes))) e e judgements.TooLong
+by_size true bytes e is = draws_none e
+by_size false bytes e is = cc
+
+pub reply_too_long : (bytes : List ℕ) (e : EntropySeen) → reply_limit < length bytes → JudgeIs (sized bytes) e e judgements.TooLong
+reply_too_long bytes e above = by_size (nat_lt reply_limit (length bytes)) bytes e (grind (arith, nat_tests))
+
+by_fit : (b : Bool) (bytes : List ℕ) (output : Vec ℕ Global) (e : EntropySeen) → b ≡ false → output.items ≡ bytes → JudgeIs (cond b too_long (writes (plain_plan bytes))) e e (judgements.Written output)
+by_fit true bytes output e is same = cc
+by_fit false bytes output e is same = ([], refl, draws_none e, same, refl)
+
+pub reply_written : (bytes : List ℕ) (output : Vec ℕ Global) (e : EntropySeen) → output.items ≡ bytes → length bytes ≤ reply_limit → JudgeIs (sized bytes) e e (judgements.Written output)
+reply_written bytes output e same fits = by_fit (nat_lt reply_limit (length bytes)) bytes output e (grind (arith, nat_tests)) same
+
+-- there was no memory, whatever the document comes to
+pub judged_memory : (v : Verdict) (e : EntropySeen) → JudgeIs v e e judgements.Memory
+judged_memory (writes plan) e = ([], omega arith, draws_none e)
+judged_memory (refused reason place) e = draws_none e
+judged_memory too_long e = draws_none e

@@ -8,7 +8,7 @@ use Rattle.bson_tree.specs.Places.{start_of, place_of}
 use Rattle.bson_codec.specs.Borrowed.{Elem}
 use Rattle.bson_codec.proofs.Spots.{same, place_begun, place_none}
 use Rattle.bson_codec.specs.Borrowed.{holds, holding}
-use Rattle.fle_runner.specs.Descent.{spot_in, spot_from, below}
+use Rattle.fle_runner.proofs.Ways.{spot_in, spot_from, below}
 use Rattle.fle_runner.proofs.Descent.{if_true, if_false, found_from, begins_from}
 
 -- ---- the way down leads to the place

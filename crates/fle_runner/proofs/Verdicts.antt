@@ -19,8 +19,7 @@ use Rattle.encrypt_schema.proofs.Unmarked.{no_rows_no_roles}
 use Rattle.command_marker.specs.Commands.{AimsAt, collection_in, is_command, is_unbuilt, target_refusal, unbuilt}
 use Rattle.command_marker.specs.Marked.{marked, marking_at}
 use Rattle.command_marker.specs.Reply.{reply, reply_clear_to, reply_to}
-use Rattle.fle_runner.specs.Mark.{Tells, as_built, mark_refusal, mark_verdict, reply_for, verdict_by, verdict_into, verdict_under}
-use Rattle.fle_runner.specs.Plan.{refused}
+use Rattle.fle_runner.specs.Mark.{refuses, Tells, as_built, mark_refusal, mark_verdict, reply_for, verdict_by, verdict_into, verdict_under}
 use Rattle.bson_tree.specs.Places.{place_of}
 use Rattle.fle_runner.proofs.Reasons.{IsBuilt, contents_built, first_built, later_built, either_built, told_as_it_is}
 
@@ -171,7 +170,7 @@ into : (info : Option Collection) (c : Items) (at : ℕ)
 into info c at =
     elim (is_view info)
     as (λ b. verdict_by c (reply_to (rows_in info) c) (option_map as_built (or_else (view_refusal b at) (content_verdict (rows_in info) 0 c)))
-    ≡ cond b (refused NotBuilt (place_of 0 c)) (verdict_under (rows_in info) c)) [
+    ≡ cond b (refuses NotBuilt (place_of 0 c)) (verdict_under (rows_in info) c)) [
       | true ↦ refl
       | false ↦ ap (verdict_by c (reply_to (rows_in info) c)) (told_as_it_is (content_verdict (rows_in info) 0 c) (contents_built (rows_in info) c))
     ]

@@ -12,14 +12,18 @@ use Rattle.encrypt_schema.specs.declared.marks.MarkFault.{MarkFault}
 use Rattle.encrypt_schema.specs.declared.marks.MarkFault.TheVariants as mark_faults
 use Rattle.command_marker.specs.Commands.{passes, unbuilt}
 use Rattle.command_marker.specs.Reply.{reply_clear_to, reply_limit, reply_to}
-use Rattle.fle_runner.specs.Plan.{Block, Plan, Verdict, writes, refused, too_long}
-use Rattle.fle_runner.specs.Task.{Task, fails, each, with_file}
+use Rattle.fle_stream.specs.Plan.{Plan, Verdict, writes, refused, too_long}
+use Rattle.fle_stream.specs.Task.{Task, fails, each, with_file}
 use Rattle.encrypt_schema.specs.declared.reason.Reason.{Reason}
 use Rattle.encrypt_schema.specs.declared.reason.Reason.TheVariants as reasons
 use Rattle.bson_tree.specs.Places.{place_of}
-use Rattle.fle_runner.specs.declared.why.Why.{Why}
-use Rattle.fle_runner.specs.declared.why.Why.TheVariants as whys
-use Rattle.fle_runner.specs.declared.why.SetupFault.TheVariants as setups
+use Rattle.fle_stream.specs.declared.why.Why.{Why}
+use Rattle.fle_stream.specs.declared.why.Why.TheVariants as whys
+use Rattle.fle_outside.specs.Blocks.{Block}
+use Rattle.fle_runner.specs.Numbers.{infos_number, reason_number}
+use Rattle.fle_stream.specs.declared.why.Finish.TheVariants as finishes
+use Rattle.fle_stream.specs.declared.why.Cut.TheVariants as cuts
+use Rattle.fle_stream.specs.declared.why.SetupFault.TheVariants as setups
 
 -- an output that draws no blocks
 abbrev pub plain_plan : List ℕ → Plan
@@ -43,9 +47,13 @@ mark_refusal infos db c = or_else (unbuilt c) (option_map as_built (verdict db i
 abbrev pub sized : List ℕ → Verdict
 sized bytes = if nat_lt reply_limit (length bytes) then too_long else writes (plain_plan bytes)
 
+-- a refusal for a reason at a place
+abbrev pub refuses : Reason → List ℕ → Verdict
+refuses reason place = refused (reason_number reason) place
+
 -- a refusal at the place whose value begins at its offset, or the reply
 abbrev pub verdict_by : Items → List ℕ → Option Refusal → Verdict
-verdict_by c reply (Some r) = refused r.reason (place_of r.at c)
+verdict_by c reply (Some r) = refuses r.reason (place_of r.at c)
 verdict_by c reply None = sized reply
 
 -- the reply to a command under these infos: no rule concerns one that passes
@@ -62,23 +70,27 @@ verdict_under rows c = verdict_by c (reply_to rows c) (content_verdict rows 0 c)
 
 -- what an insert into this collection comes to, whose fields aren't refused; a view isn't marked yet
 abbrev pub verdict_into : Option Collection → Items → Verdict
-verdict_into info c = if is_view info then refused reasons.NotBuilt (place_of 0 c) else verdict_under (rows_in info) c
+verdict_into info c = if is_view info then refuses reasons.NotBuilt (place_of 0 c) else verdict_under (rows_in info) c
 
 -- a fault of marking says that a command comes to this; want of memory may come at any time
 abbrev pub Tells : MarkFault → Items → Verdict → Type 0
-Tells (mark_faults.Refused reason at) c v = v ≡ refused reason (place_of at c)
+Tells (mark_faults.Refused reason at) c v = v ≡ refuses reason (place_of at c)
 Tells mark_faults.Memory c v = Unit {0}
 
 -- why a run ends whose file of collection infos, the first of the words, is at fault
 abbrev pub infos_why : InfoFault → Why
-infos_why (faults.Bad document kind) = whys.Setup 1 (setups.Infos kind) document
-infos_why faults.Memory = whys.Memory
+infos_why (faults.Bad document kind) = whys.Finished (finishes.Setup 1 (setups.Contents (infos_number kind)) document)
+infos_why faults.Memory = whys.Cut cuts.Memory
 
 -- each command is marked under the infos that the file has, or the file is at fault
 abbrev pub infos_task : List ℕ → Result (List Collection) Faulty → Task
 infos_task db (Ok infos) = each (mark_verdict infos db)
-infos_task db (Err faulty) = fails (whys.Setup 1 (setups.Infos faulty.kind) faulty.document)
+infos_task db (Err faulty) = fails (finishes.Setup 1 (setups.Contents (infos_number faulty.kind)) faulty.document)
+
+-- a file of collection infos has at most 64 MiB
+abbrev pub infos_limit : ℕ
+infos_limit = 67108864
 
 -- the file of collection infos is the first file of the words
 abbrev pub mark_task : List ℕ → Option (List ℕ) → Task
-mark_task db file = with_file 1 67108864 file (λ bytes. infos_task db (collections bytes))
+mark_task db file = with_file 1 infos_limit file (λ bytes. infos_task db (collections bytes))

@@ -1,16 +1,16 @@
 -- What each form of the words asks for, with the files that there are.
 use Rattle.std.specs.Prelude.{ℕ, Option, Some, None, List}
 use Rattle.fle_outside.specs.Files.{Files, file_of}
-use Rattle.fle_runner.specs.Task.{Task, fails}
+use Rattle.fle_stream.specs.Task.{Task, fails}
 use Rattle.fle_runner.specs.Words.{Form, mark, form_of}
 use Rattle.fle_runner.specs.Mark.{mark_task}
-use Rattle.fle_runner.specs.declared.why.Why.TheVariants as whys
+use Rattle.fle_stream.specs.declared.why.Finish.TheVariants as finishes
 
 abbrev pub task_for : Form → Files → Task
 task_for (mark db schemas) files = mark_task db (file_of files schemas)
 
 abbrev pub task_of : Option Form → Files → Task
-task_of None files = fails whys.Words
+task_of None files = fails finishes.Words
 task_of (Some form) files = task_for form files
 
 -- what the words and the files ask for

@@ -24,3 +24,8 @@ form_of _ = None
 abbrev pub asked_form : Asked → Option Form
 asked_form asked.Nothing = None
 asked_form (asked.Mark db schemas) = Some (mark db.now schemas.now)
+
+-- a run of these words draws no random block
+abbrev pub DrawsNoBlock : Option Form → Type 0
+DrawsNoBlock None = Unit {0}
+DrawsNoBlock (Some (mark db schemas)) = Unit {0}

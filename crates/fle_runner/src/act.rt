@@ -1,41 +1,55 @@
 //! What the words ask for, done.
 
-ghost use Rattle.std.specs.Prelude.{◌≡◌, ◌≤◌, List, ℕ, Some, None, map, string_bytes};
+ghost use Rattle.std.specs.Prelude.{true, ◌≡◌, ◌<◌, ◌≤◌, List, ℕ, Some, None, map, string_bytes};
 ghost use Rattle.fle_outside.specs.Counts.{Rose};
 ghost use Rattle.fle_outside.specs.Files.{Files};
-ghost use Rattle.fle_runner.specs.Did.{Did};
-ghost use Rattle.fle_runner.specs.Plan.{size_of};
-ghost use Rattle.fle_runner.specs.Task.{outcome_of};
 ghost use Rattle.fle_runner.specs.Verbs.{task};
+ghost use Rattle.fle_runner.specs.Words.{form_of, DrawsNoBlock};
+ghost use Rattle.fle_stream.specs.Codes.{status_of};
+ghost use Rattle.fle_stream.specs.Did.{Did};
+ghost use Rattle.fle_stream.specs.Ended.{EndsAs, IsUnread};
+ghost use Rattle.fle_stream.specs.Plan.{draws_of, size_of};
+ghost use Rattle.fle_stream.specs.Task.{outcome_of};
+ghost use Rattle.fle_stream.specs.Turn.{RunTook};
 
-use crate::end::End;
 use crate::mark::mark;
-use crate::why::Why;
 use crate::words::{Asked, read_words};
-use fle_outside::{Folder, Sink, Source};
+use fle_outside::{Entropy, Folder, Sink, Source};
+use fle_stream::{Cut, End, Finish, Why};
 use std::alloc::Global;
 
 /// Does what the words ask for.
-pub fn act<S: Source, F: Folder, O: Sink>(
+pub fn act<S: Source, F: Folder, O: Sink, N: Entropy>(
     alloc: Global,
     words: &[String],
     input: &mut S,
     files: &mut F,
     out: &mut O,
+    entropy: &mut N,
 ) -> End
-    ensures did { (all : Files) (told : List ℕ) → F.files files.old ≡ Some all → S.left input.old ≡ Some told
-        → Did (task (map string_bytes words.now) all) told (S.left input.new) None None (O.written out.old) (O.written out.new) result.number result.written result.why }
-    ensures folder_cause { result.why ≡ Why.FolderFault → Rose (F.faults files.old) (F.faults files.new) }
-    ensures folder_sure { F.assured files.old → result.why ≡ Why.FolderFault → ⊥ }
-    ensures in_cause { result.why ≡ Why.ReadFault → Rose (S.faults input.old) (S.faults input.new) }
-    ensures in_sure { S.assured input.old → result.why ≡ Why.ReadFault → ⊥ }
-    ensures out_cause { result.why ≡ Why.WriteFault → Rose (O.faults out.old) (O.faults out.new) }
-    ensures out_sure { (all : Files) (told : List ℕ) → F.files files.old ≡ Some all → S.left input.old ≡ Some told
-        → size_of (outcome_of (task (map string_bytes words.now) all) told).outputs ≤ O.assured out.old → result.why ≡ Why.WriteFault → ⊥ }
-    ensures no_entropy { result.why ≡ Why.EntropyFault → ⊥ }
+    ensures did { (all : Files) (told : List ℕ) → (F.seen files.old).told ≡ Some all → (S.seen input.old).told ≡ Some told
+        → Did (task (map string_bytes words.now) all) told (S.seen input.new).told (N.seen entropy.old) (N.seen entropy.new) (O.seen out.old) (O.seen out.new) result.number result.why }
+    ensures unformed { form_of (map string_bytes words.now) ≡ None → result.why ≡ Why.Finished Finish.Words }
+    ensures formed { result.why ≡ Why.Finished Finish.Words → form_of (map string_bytes words.now) ≡ None }
+    ensures placed { (all : Files) → (F.seen files.old).told ≡ Some all → EndsAs (task (map string_bytes words.now) all) result.why }
+    ensures unread { result.why ≡ Why.Finished Finish.Words → files.new ≡ files.old }
+    ensures untouched { IsUnread (status_of result.why) → (input.new ≡ input.old) × (out.new ≡ out.old) × (entropy.new ≡ entropy.old) }
+    ensures took { RunTook (S.seen input.old).taken (S.seen input.new).taken result.number }
+    ensures numbered { result.why ≡ Why.Cut Cut.Input → 0 < result.number }
+    ensures folder_cause { result.why ≡ Why.Cut Cut.Folder → Rose (F.seen files.old).faults (F.seen files.new).faults }
+    ensures folder_sure { (F.seen files.old).assured ≡ true → result.why ≡ Why.Cut Cut.Folder → ⊥ }
+    ensures in_cause { result.why ≡ Why.Cut Cut.Input → Rose (S.seen input.old).faults (S.seen input.new).faults }
+    ensures in_sure { (S.seen input.old).assured ≡ true → result.why ≡ Why.Cut Cut.Input → ⊥ }
+    ensures out_cause { result.why ≡ Why.Cut Cut.Output → Rose (O.seen out.old).faults (O.seen out.new).faults }
+    ensures out_sure { (all : Files) (told : List ℕ) → (F.seen files.old).told ≡ Some all → (S.seen input.old).told ≡ Some told
+        → size_of (outcome_of (task (map string_bytes words.now) all) told).outputs ≤ (O.seen out.old).assured → result.why ≡ Why.Cut Cut.Output → ⊥ }
+    ensures entropy_cause { result.why ≡ Why.Cut Cut.Entropy → Rose (N.seen entropy.old).faults (N.seen entropy.new).faults }
+    ensures entropy_sure { (all : Files) (told : List ℕ) → (F.seen files.old).told ≡ Some all → (S.seen input.old).told ≡ Some told
+        → draws_of (outcome_of (task (map string_bytes words.now) all) told).outputs ≤ (N.seen entropy.old).assured → result.why ≡ Why.Cut Cut.Entropy → ⊥ }
+    ensures undrawn { DrawsNoBlock (form_of (map string_bytes words.now)) → result.why ≡ Why.Cut Cut.Entropy → ⊥ }
 {
     match read_words(words) {
-        Asked::Nothing => End::unread(Why::Words),
-        Asked::Mark { db, schemas } => mark(alloc, db, schemas, input, files, out),
+        Asked::Nothing => End::unread(Why::Finished(Finish::Words)),
+        Asked::Mark { db, schemas } => mark(alloc, db, schemas, input, files, out, entropy),
     }
 }

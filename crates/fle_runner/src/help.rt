@@ -1,13 +1,10 @@
 //! What the program says of itself.
 
 ghost use Rattle.std.specs.Prelude.{◌≡◌};
-ghost use Rattle.fle_runner.specs.Told.{Told, told_why};
+ghost use Rattle.fle_runner.specs.Text.{WritesText, text_why};
 
-use crate::end::End;
-use crate::program::report;
-use crate::status::Status;
-use crate::why::Why;
 use fle_outside::{Failed, Sink, write_whole};
+use fle_stream::{Cut, End, Finish, Status, Why, report};
 
 /// The answer to `--version`.
 pub const VERSION: &str = "fle 0.1.0\n";
@@ -31,19 +28,18 @@ status: 0 done, 1 refused, 2 words, 3 malformed input, 4 file at fault, 5 read f
 
 /// Writes a text to `out`; where that fails, the status and the line say so.
 pub fn tell<O: Sink, G: Sink>(out: &mut O, diag: &mut G, text: &str) -> Status
-    ensures { Told (O.written out.old) (O.written out.new) (O.faults out.old) (O.faults out.new) (O.assured out.old) (O.assured out.new)
-        (G.written diag.old) (G.written diag.new) (G.faults diag.old) (G.faults diag.new) (G.assured diag.old) (G.assured diag.new) text.now result }
+    ensures text { WritesText (O.seen out.old) (O.seen out.new) (G.seen diag.old) (G.seen diag.new) text.now result }
 {
     let wrote = write_whole(out, text.as_bytes());
-    report(diag, &End::unread(why_told(wrote)))
+    report(diag, &End::unread(why_text(wrote)))
 }
 
 /// Why a program ends that only writes a text.
-fn why_told(wrote: Result<(), Failed>) -> Why
-    ensures { result ≡ told_why wrote }
+fn why_text(wrote: Result<(), Failed>) -> Why
+    ensures why { result ≡ text_why wrote }
 {
     match wrote {
-        Ok(()) => Why::Done,
-        Err(Failed) => Why::WriteFault,
+        Ok(()) => Why::Finished(Finish::Done),
+        Err(Failed) => Why::Cut(Cut::Output),
     }
 }

@@ -10,39 +10,32 @@
 #![tactic(auto)]
 
 mod act;
-mod end;
-mod file;
 mod help;
-mod judging;
-mod line;
+mod laws;
 mod mark;
-mod next;
+mod numbers;
 mod placing;
 #[cfg(test)]
 mod placing_tests;
 mod program;
 #[cfg(test)]
 mod schema_tests;
-mod status;
-mod stream;
 #[cfg(test)]
 mod tests;
-mod turning;
 #[cfg(test)]
 mod verdict_tests;
-mod why;
 mod words;
 
-use end::End;
-use fle_outside::{FileFolder, StderrSink, StdinSource, StdoutSink};
+use crypto_hooks::Tables;
+use fle_outside::{FileFolder, StderrSink, StdinSource, StdoutSink, SystemEntropy};
+use fle_stream::{Cut, End, Finish, Why, report};
 use help::{HELP, VERSION, tell};
-use program::{fle, report};
-use status::Status;
+use program::fle;
 use std::env;
 use std::io::ErrorKind;
 use std::process::ExitCode;
-use std::rt::Env;
-use why::Why;
+use std::rt::{Clock, Env};
+use std::time::SystemTime;
 
 fn main(rt: HostRuntime) -> ExitCode {
     let mut diag = StderrSink::new(rt.stderr());
@@ -55,13 +48,17 @@ fn main(rt: HostRuntime) -> ExitCode {
                 _ => {
                     let mut input = StdinSource::new(rt.stdin());
                     let mut files = FileFolder::new(&rt);
+                    let mut entropy = SystemEntropy::new(&rt);
                     fle(
                         rt.alloc(),
                         &words,
+                        now_ms(&rt),
                         &mut input,
                         &mut files,
                         &mut out,
                         &mut diag,
+                        &mut entropy,
+                        &Tables,
                     )
                 }
             }
@@ -76,10 +73,10 @@ fn words_after_name<R: Env + AllocGlobal>(rt: &R) -> Result<Vec<String>, Why> {
     match env::args(rt) {
         Ok(words) => match words.skip(1).collect(rt.alloc()) {
             Ok(words) => Ok(words),
-            Err(_) => Err(Why::Memory),
+            Err(_) => Err(Why::Cut(Cut::Memory)),
         },
-        Err(error) if error.kind() == ErrorKind::InvalidData => Err(Why::Words),
-        Err(_) => Err(Why::Memory),
+        Err(error) if error.kind() == ErrorKind::InvalidData => Err(Why::Finished(Finish::Words)),
+        Err(_) => Err(Why::Cut(Cut::Memory)),
     }
 }
 
@@ -88,5 +85,16 @@ fn sole_word(words: &[String]) -> &str {
     match words {
         [word] => word.as_str(),
         _ => "",
+    }
+}
+
+/// The time in milliseconds from 1970; 0 where the clock can't be read.
+fn now_ms<R: Clock>(rt: &R) -> i64 {
+    match SystemTime::now(rt) {
+        Ok(now) => match now.duration_since(SystemTime::UNIX_EPOCH) {
+            Ok(since) => since.as_millis().min(i64::MAX as u128) as i64,
+            Err(_) => 0,
+        },
+        Err(_) => 0,
     }
 }

@@ -1,27 +1,28 @@
 //! `mark DB SCHEMAS`: the marking reply to each command.
 
-ghost use Rattle.std.specs.Prelude.{◌≡◌, ◌≤◌, List, ℕ, Some, None, codes, option_copied, true};
+ghost use Rattle.std.specs.Prelude.{true, ⊤, ◌≡◌, ◌<◌, ◌≤◌, List, ℕ, Some, codes, option_copied};
+ghost use Rattle.bson_tree.specs.Places.{place_of};
 ghost use Rattle.command_marker.specs.Commands.{is_command};
 ghost use Rattle.command_marker.specs.Reply.{RepliesAs};
 ghost use Rattle.fle_outside.specs.Counts.{Rose};
 ghost use Rattle.fle_outside.specs.Files.{Files, file_of};
-ghost use Rattle.fle_runner.specs.Did.{Did};
-ghost use Rattle.fle_runner.specs.Judge.{JudgeIs};
-ghost use Rattle.fle_runner.specs.Mark.{Tells, infos_why, mark_task, mark_verdict, sized, verdict_into, verdict_under};
-ghost use Rattle.fle_runner.specs.Plan.{Verdict, refused, size_of};
-ghost use Rattle.bson_tree.specs.Places.{place_of};
-ghost use Rattle.fle_runner.specs.Task.{outcome_of};
+ghost use Rattle.fle_outside.specs.Seen.{EntropySeen};
+ghost use Rattle.fle_runner.specs.Mark.{Tells, infos_why, mark_task, mark_verdict, refuses, sized, verdict_into, verdict_under};
+ghost use Rattle.fle_stream.specs.Codes.{status_of};
+ghost use Rattle.fle_stream.specs.Did.{Did};
+ghost use Rattle.fle_stream.specs.Ended.{EndsAs, IsUnread};
+ghost use Rattle.fle_stream.specs.Judge.{JudgeIs};
+ghost use Rattle.fle_stream.specs.Plan.{Verdict, size_of};
+ghost use Rattle.fle_stream.specs.Task.{outcome_of};
+ghost use Rattle.fle_stream.specs.Turn.{RunTook};
 
-use crate::end::End;
-use crate::file::load_file;
-use crate::judging::{Judge, Judged};
+use crate::numbers::{number_of_infos, number_of_reason};
 use crate::placing::place_at;
-use crate::stream::judge_stream;
-use crate::why::{SetupFault, Why};
 use bson_codec::RawDoc;
 use command_marker::{ReplyFault, Target, mark_command, reply, reply_clear, target};
 use encrypt_schema::{Info, InfoFault, Infos, MarkFault, Reason, Rows};
-use fle_outside::{Folder, Memory, Sink, Source};
+use fle_outside::{Entropy, Folder, Memory, Sink, Source};
+use fle_stream::{Cut, End, Finish, Judge, Judged, SetupFault, Why, judge_stream, load_file};
 use std::alloc::Global;
 
 /// A file of collection infos has at most this many bytes.
@@ -37,7 +38,14 @@ struct Marker<'a> {
 impl Judge for Marker<'_> {
     ghost verdict = { λ s command. mark_verdict s.infos s.db.now command };
 
-    fn judge(&mut self, alloc: Global, document: &RawDoc<'_>) -> Judged {
+    ghost ready = { λ _. ⊤ };
+
+    fn judge<N: Entropy>(
+        &mut self,
+        alloc: Global,
+        document: &RawDoc<'_>,
+        _entropy: &mut N,
+    ) -> Judged {
         judge_command(alloc, &self.infos, self.db.as_bytes(), document)
     }
 }
@@ -45,7 +53,7 @@ impl Judge for Marker<'_> {
 /// Judges a command of a database: its fields by themselves, then its contents.
 fn judge_command(alloc: Global, infos: &Infos, db: &[u8], command: &RawDoc<'_>) -> Judged
     requires whole { command.now.start ≡ 0 }
-    ensures judged { JudgeIs (mark_verdict infos.now db.now command.now.tree) None None result }
+    ensures judged { (e : EntropySeen) → JudgeIs (mark_verdict infos.now db.now command.now.tree) e e result }
 {
     match target(db, command) {
         Ok(Target::Collection(name)) => judge_insert(alloc, infos.info_of(name), command),
@@ -58,7 +66,7 @@ fn judge_command(alloc: Global, infos: &Infos, db: &[u8], command: &RawDoc<'_>) 
 fn judge_insert(alloc: Global, info: Option<&Info>, command: &RawDoc<'_>) -> Judged
     requires insert { is_command (codes "insert") command.now.tree ≡ true }
     requires whole { command.now.start ≡ 0 }
-    ensures judged { JudgeIs (verdict_into (option_copied info.entry) command.now.tree) None None result }
+    ensures judged { (e : EntropySeen) → JudgeIs (verdict_into (option_copied info.entry) command.now.tree) e e result }
 {
     match info {
         None => judge_reply(reply_clear(alloc, command)),
@@ -71,7 +79,7 @@ fn judge_insert(alloc: Global, info: Option<&Info>, command: &RawDoc<'_>) -> Jud
 fn judge_contents(alloc: Global, rows: &Rows, command: &RawDoc<'_>) -> Judged
     requires insert { is_command (codes "insert") command.now.tree ≡ true }
     requires whole { command.now.start ≡ 0 }
-    ensures judged { JudgeIs (verdict_under rows.now command.now.tree) None None result }
+    ensures judged { (e : EntropySeen) → JudgeIs (verdict_under rows.now command.now.tree) e e result }
 {
     match mark_command(alloc, rows, command.again()) {
         Ok(marked) => judge_reply(reply(alloc, &marked)),
@@ -80,8 +88,9 @@ fn judge_contents(alloc: Global, rows: &Rows, command: &RawDoc<'_>) -> Judged
 }
 
 /// The reply, where there is one.
+#[tactic(auto, using(crate::proofs::Marks::reply_too_long, crate::proofs::Marks::judged_memory))]
 fn judge_reply(reply: Result<Vec<u8>, ReplyFault>) -> Judged
-    ensures judged { (bytes : List ℕ) → RepliesAs bytes reply → JudgeIs (sized bytes) None None result }
+    ensures judged { (bytes : List ℕ) (e : EntropySeen) → RepliesAs bytes reply → JudgeIs (sized bytes) e e result }
 {
     match reply {
         Ok(bytes) => Judged::Written(bytes),
@@ -93,7 +102,7 @@ fn judge_reply(reply: Result<Vec<u8>, ReplyFault>) -> Judged
 /// The refusal of a command that isn't marked for this fault.
 fn judge_fault(alloc: Global, command: &RawDoc<'_>, fault: MarkFault) -> Judged
     requires whole { command.now.start ≡ 0 }
-    ensures judged { (v : Verdict) → Tells fault command.now.tree v → JudgeIs v None None result }
+    ensures judged { (v : Verdict) (e : EntropySeen) → Tells fault command.now.tree v → JudgeIs v e e result }
 {
     match fault {
         MarkFault::Refused { reason, at } => refuse(alloc, command, reason, at),
@@ -104,50 +113,60 @@ fn judge_fault(alloc: Global, command: &RawDoc<'_>, fault: MarkFault) -> Judged
 /// Refuses a command for the value that begins at the offset `at`, and for itself where none does.
 fn refuse(alloc: Global, command: &RawDoc<'_>, reason: Reason, at: u32) -> Judged
     requires whole { command.now.start ≡ 0 }
-    ensures judged { JudgeIs (refused reason (place_of at command.now.tree)) None None result }
+    ensures judged { (e : EntropySeen) → JudgeIs (refuses reason (place_of at command.now.tree)) e e result }
 {
     match place_at(alloc, command, at) {
-        Ok(place) => Judged::Refused(reason, place),
+        Ok(place) => Judged::Refused(number_of_reason(reason), place),
         Err(Memory) => Judged::Memory,
     }
 }
 
 /// Marks each command of the input.
-pub fn mark<S: Source, F: Folder, O: Sink>(
+pub fn mark<S: Source, F: Folder, O: Sink, N: Entropy>(
     alloc: Global,
     db: &str,
     schemas: &str,
     input: &mut S,
     files: &mut F,
     out: &mut O,
+    entropy: &mut N,
 ) -> End
-    ensures did { (all : Files) (told : List ℕ) → F.files files.old ≡ Some all → S.left input.old ≡ Some told
-        → Did (mark_task db.now (file_of all schemas.now)) told (S.left input.new) None None (O.written out.old) (O.written out.new) result.number result.written result.why }
-    ensures folder_cause { result.why ≡ Why.FolderFault → Rose (F.faults files.old) (F.faults files.new) }
-    ensures folder_sure { F.assured files.old → result.why ≡ Why.FolderFault → ⊥ }
-    ensures in_cause { result.why ≡ Why.ReadFault → Rose (S.faults input.old) (S.faults input.new) }
-    ensures in_sure { S.assured input.old → result.why ≡ Why.ReadFault → ⊥ }
-    ensures out_cause { result.why ≡ Why.WriteFault → Rose (O.faults out.old) (O.faults out.new) }
-    ensures out_sure { (all : Files) (told : List ℕ) → F.files files.old ≡ Some all → S.left input.old ≡ Some told
-        → size_of (outcome_of (mark_task db.now (file_of all schemas.now)) told).outputs ≤ O.assured out.old → result.why ≡ Why.WriteFault → ⊥ }
-    ensures no_entropy { result.why ≡ Why.EntropyFault → ⊥ }
+    ensures did { (all : Files) (told : List ℕ) → (F.seen files.old).told ≡ Some all → (S.seen input.old).told ≡ Some told
+        → Did (mark_task db.now (file_of all schemas.now)) told (S.seen input.new).told (N.seen entropy.old) (N.seen entropy.new) (O.seen out.old) (O.seen out.new) result.number result.why }
+    ensures formed { result.why ≡ Why.Finished Finish.Words → ⊥ }
+    ensures placed { (all : Files) → (F.seen files.old).told ≡ Some all → EndsAs (mark_task db.now (file_of all schemas.now)) result.why }
+    ensures untouched { IsUnread (status_of result.why) → (input.new ≡ input.old) × (out.new ≡ out.old) × (entropy.new ≡ entropy.old) }
+    ensures took { RunTook (S.seen input.old).taken (S.seen input.new).taken result.number }
+    ensures numbered { result.why ≡ Why.Cut Cut.Input → 0 < result.number }
+    ensures folder_cause { result.why ≡ Why.Cut Cut.Folder → Rose (F.seen files.old).faults (F.seen files.new).faults }
+    ensures folder_sure { (F.seen files.old).assured ≡ true → result.why ≡ Why.Cut Cut.Folder → ⊥ }
+    ensures in_cause { result.why ≡ Why.Cut Cut.Input → Rose (S.seen input.old).faults (S.seen input.new).faults }
+    ensures in_sure { (S.seen input.old).assured ≡ true → result.why ≡ Why.Cut Cut.Input → ⊥ }
+    ensures out_cause { result.why ≡ Why.Cut Cut.Output → Rose (O.seen out.old).faults (O.seen out.new).faults }
+    ensures out_sure { (all : Files) (told : List ℕ) → (F.seen files.old).told ≡ Some all → (S.seen input.old).told ≡ Some told
+        → size_of (outcome_of (mark_task db.now (file_of all schemas.now)) told).outputs ≤ (O.seen out.old).assured → result.why ≡ Why.Cut Cut.Output → ⊥ }
+    ensures undrawn { result.why ≡ Why.Cut Cut.Entropy → ⊥ }
 {
     let bytes = match load_file(alloc, files, 1, schemas, INFOS_LIMIT) {
         Ok(bytes) => bytes,
         Err(why) => return End::unread(why),
     };
     match Infos::load(alloc, &bytes) {
-        Ok(infos) => judge_stream(alloc, Marker { infos, db }, input, out),
+        Ok(infos) => judge_stream(alloc, Marker { infos, db }, input, out, entropy),
         Err(fault) => End::unread(why_infos(fault)),
     }
 }
 
 /// Why a run ends whose file of collection infos, the first of the words, is at fault.
 fn why_infos(fault: InfoFault) -> Why
-    ensures { result ≡ infos_why fault }
+    ensures why { result ≡ infos_why fault }
 {
     match fault {
-        InfoFault::Bad { document, kind } => Why::Setup(1, SetupFault::Infos(kind), document),
-        InfoFault::Memory => Why::Memory,
+        InfoFault::Bad { document, kind } => Why::Finished(Finish::Setup {
+            file: 1,
+            fault: SetupFault::Contents(number_of_infos(kind)),
+            document,
+        }),
+        InfoFault::Memory => Why::Cut(Cut::Memory),
     }
 }

@@ -1,63 +1,58 @@
 //! The program over any objects of the outside.
 
-ghost use Rattle.std.specs.Prelude.{◌≡◌, ◌≤◌, ◌⊎◌, List, ℕ, Result, Some, None, map, string_bytes};
-ghost use Rattle.fle_outside.specs.declared.answers.Failed.{Failed};
-ghost use Rattle.fle_outside.specs.Counts.{Rose};
-ghost use Rattle.fle_outside.specs.Files.{Files};
-ghost use Rattle.fle_outside.specs.Writing.{WritesWhole};
-ghost use Rattle.fle_runner.specs.Codes.{status_of};
-ghost use Rattle.fle_runner.specs.Ended.{Ended, Whole, IsSettled};
-ghost use Rattle.fle_runner.specs.Line.{line_of};
-ghost use Rattle.fle_runner.specs.Plan.{size_of};
-ghost use Rattle.fle_runner.specs.Task.{outcome_of};
+ghost use Rattle.std.specs.Prelude.{true, ◌≡◌, None, map, string_bytes};
 ghost use Rattle.fle_runner.specs.Verbs.{task};
+ghost use Rattle.fle_runner.specs.Words.{form_of, DrawsNoBlock};
+ghost use Rattle.fle_stream.specs.Ended.{Ended, Settles, WritesAll, WritesSurely, DrawsSurely, IsUnread, world};
 
 use crate::act::act;
-use crate::end::End;
-use crate::line::put_end;
-use crate::status::Status;
-use fle_outside::{Folder, Sink, Source};
+use crypto_hooks::Block256;
+use fle_outside::{Entropy, Folder, Sink, Source};
+use fle_stream::{Status, report};
 use std::alloc::Global;
 
 /// Runs the program for the words after its name: reads `input` and the files that the words name,
-/// writes to `out`, and tells on `diag`, in one line, why it ended with another status than 0.
-pub fn fle<S: Source, F: Folder, O: Sink, G: Sink>(
+/// writes to `out`, and tells on `diag`, in one line, why it ended with another status than 0. The
+/// verbs that write keys take the time, in milliseconds from 1970, random blocks and a block cipher.
+pub fn fle<S: Source, F: Folder, O: Sink, G: Sink, N: Entropy, B: Block256>(
     alloc: Global,
     words: &[String],
+    now_ms: i64,
     input: &mut S,
     files: &mut F,
     out: &mut O,
     diag: &mut G,
+    entropy: &mut N,
+    hooks: &B,
 ) -> Status
-    // One ending explains the status, the line, what was written and what the input has left.
-    ensures ended { (all : Files) (told : List ℕ) → F.files files.old ≡ Some all → S.left input.old ≡ Some told
-        → Ended (task (map string_bytes words.now) all) told (S.left input.new) None None (O.written out.old) (O.written out.new)
-        (S.faults input.old) (S.faults input.new) (F.faults files.old) (F.faults files.new) (O.faults out.old) (O.faults out.new)
-        (G.written diag.old) (G.written diag.new) (G.faults diag.old) (G.faults diag.new) (G.assured diag.old) (G.assured diag.new) result }
+    requires hooks { B.answers hooks.now }
+    // One ending explains the status, the line, what was written and drawn and what the input has left.
+    ensures ended { Ended (task (map string_bytes words.now))
+        (world (S.seen input.old) (F.seen files.old) (O.seen out.old) (G.seen diag.old) (N.seen entropy.old))
+        (world (S.seen input.new) (F.seen files.new) (O.seen out.new) (G.seen diag.new) (N.seen entropy.new)) result }
+    // Status 2 is that of words without a form, want of memory aside.
+    ensures words { (result ≡ Status.Words → form_of (map string_bytes words.now) ≡ None)
+        × (form_of (map string_bytes words.now) ≡ None → result ≡ Status.Words) }
+    // Words without a form: no file is read.
+    ensures unread { result ≡ Status.Words → files.new ≡ files.old }
+    // With 2 and 4 no call is made on the input, the output or the source of blocks.
+    ensures untouched { IsUnread result → (input.new ≡ input.old) × (out.new ≡ out.old) × (entropy.new ≡ entropy.old) }
     // Where no count rose and memory lasted, the status is that of the outcome.
-    ensures settled { (all : Files) (told : List ℕ) → F.files files.old ≡ Some all → S.left input.old ≡ Some told
-        → (Rose (S.faults input.old) (S.faults input.new) → ⊥) → (Rose (F.faults files.old) (F.faults files.new) → ⊥) → (Rose (O.faults out.old) (O.faults out.new) → ⊥)
-        → (result ≡ Status.Memory → ⊥) → result ≡ status_of (outcome_of (task (map string_bytes words.now) all) told).why }
+    ensures settled { Settles (task (map string_bytes words.now))
+        (world (S.seen input.old) (F.seen files.old) (O.seen out.old) (G.seen diag.old) (N.seen entropy.old))
+        (world (S.seen input.new) (F.seen files.new) (O.seen out.new) (G.seen diag.new) (N.seen entropy.new)) result }
     // Where the status is no fault and no want of memory, every output was written whole.
-    ensures whole { (all : Files) (told : List ℕ) → F.files files.old ≡ Some all → S.left input.old ≡ Some told → IsSettled result
-        → Whole (outcome_of (task (map string_bytes words.now) all) told) None None (O.written out.old) (O.written out.new) }
-    ensures read_cause { result ≡ Status.ReadFault → Rose (S.faults input.old) (S.faults input.new) ⊎ Rose (F.faults files.old) (F.faults files.new) }
-    ensures read_sure { S.assured input.old → F.assured files.old → result ≡ Status.ReadFault → ⊥ }
-    ensures write_cause { result ≡ Status.WriteFault → Rose (O.faults out.old) (O.faults out.new) }
-    ensures write_sure { (all : Files) (told : List ℕ) → F.files files.old ≡ Some all → S.left input.old ≡ Some told
-        → size_of (outcome_of (task (map string_bytes words.now) all) told).outputs ≤ O.assured out.old → result ≡ Status.WriteFault → ⊥ }
-    ensures no_entropy_fault { result ≡ Status.EntropyFault → ⊥ }
+    ensures whole { WritesAll (task (map string_bytes words.now))
+        (world (S.seen input.old) (F.seen files.old) (O.seen out.old) (G.seen diag.old) (N.seen entropy.old))
+        (world (S.seen input.new) (F.seen files.new) (O.seen out.new) (G.seen diag.new) (N.seen entropy.new)) result }
+    ensures read_sure { (S.seen input.old).assured ≡ true → (F.seen files.old).assured ≡ true → result ≡ Status.ReadFault → ⊥ }
+    ensures write_sure { WritesSurely (task (map string_bytes words.now))
+        (world (S.seen input.old) (F.seen files.old) (O.seen out.old) (G.seen diag.old) (N.seen entropy.old)) result }
+    ensures entropy_sure { DrawsSurely (task (map string_bytes words.now))
+        (world (S.seen input.old) (F.seen files.old) (O.seen out.old) (G.seen diag.old) (N.seen entropy.old)) result }
+    // `mark` draws no block, so it never ends with 7.
+    ensures undrawn { DrawsNoBlock (form_of (map string_bytes words.now)) → result ≡ Status.EntropyFault → ⊥ }
 {
-    let end = act(alloc, words, input, files, out);
+    let end = act(alloc, words, input, files, out, entropy);
     report(diag, &end)
-}
-
-/// Writes the line of an end, and answers its status.
-pub fn report<G: Sink>(diag: &mut G, end: &End) -> Status
-    ensures status { result ≡ status_of end.now.why }
-    ensures says { (r : Result (Unit {0}) Failed) × WritesWhole (G.written diag.old) (G.written diag.new) (G.faults diag.old) (G.faults diag.new) (G.assured diag.old) (G.assured diag.new) r (line_of end.now.why end.now.number) }
-{
-    // Where the line can't be written, the status stays.
-    let _ = put_end(diag, &end.why, end.number);
-    end.why.status()
 }

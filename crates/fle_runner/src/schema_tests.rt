@@ -1,7 +1,7 @@
 //! Whole runs over files of collection infos whose schemas are read or refused.
 
-use crate::status::Status;
 use crate::tests::{INSERT, PEOPLE, Run, expect, joined, look, plain};
+use fle_stream::Status;
 use std::test::Fail;
 
 /// The info of `staff`: `a.b` deterministic and an int, its key and algorithm stated by `encryptMetadata` of `a`.

@@ -3,8 +3,9 @@
 
 use crate::help::{VERSION, tell};
 use crate::program::fle;
-use crate::status::Status;
-use fle_outside::{MemFolder, MemSink, MemSource};
+use crypto_hooks::Tables;
+use fle_outside::{MemEntropy, MemFolder, MemSink, MemSource};
+use fle_stream::Status;
 use std::alloc::Global;
 use std::process::Abort;
 use std::test::Fail;
@@ -110,7 +111,18 @@ pub(crate) fn look(alloc: Global, run: Run<'_>) -> Result<Seen, Fail> {
     let mut files = folder_of(alloc, run.infos, run.folder)?;
     let mut out = sink_of(alloc, run.sink)?;
     let mut diag = sink_of(alloc, run.diag)?;
-    let status = fle(alloc, &words, &mut input, &mut files, &mut out, &mut diag);
+    let mut entropy = MemEntropy::new(Vec::new(alloc), Vec::new(alloc));
+    let status = fle(
+        alloc,
+        &words,
+        0,
+        &mut input,
+        &mut files,
+        &mut out,
+        &mut diag,
+        &mut entropy,
+        &Tables,
+    );
     Ok(Seen {
         status,
         out: Vec::from_slice(alloc, out.written())?,

@@ -2,8 +2,8 @@
 //! are refused.
 
 use crate::schema_tests::{NOTES, STAFF, VIEW};
-use crate::status::Status;
 use crate::tests::{PEOPLE, Run, expect, joined, look, plain};
+use fle_stream::Status;
 use std::alloc::Global;
 use std::process::Abort;
 use std::test::Fail;

@@ -22,7 +22,7 @@ pub enum Asked<'a> {
 
 /// What the words after the program's name ask for.
 pub fn read_words(words: &[String]) -> Asked<'_>
-    ensures { asked_form result ≡ form_of (map string_bytes words.now) }
+    ensures asked { asked_form result ≡ form_of (map string_bytes words.now) }
 {
     match words {
         [verb, db, schemas] if verb.as_str() == "mark" => mark_words(db.as_str(), schemas.as_str()),
@@ -32,7 +32,7 @@ pub fn read_words(words: &[String]) -> Asked<'_>
 
 /// The words behind `mark`.
 fn mark_words<'a>(db: &'a str, schemas: &'a str) -> Asked<'a>
-    ensures { asked_form result ≡ mark_form db.now schemas.now }
+    ensures asked { asked_form result ≡ mark_form db.now schemas.now }
 {
     if db.is_empty() || MAX_DB < db.len() || schemas.is_empty() {
         return Asked::Nothing;

@@ -1,9 +1,9 @@
 -- What is answered about a command's fields says what it comes to.
-use Rattle.std.proofs.Common.{Option, None, ap, subst, sym, ◌∙◌}
+use Rattle.std.proofs.Common.{Option, ap, subst, sym, ◌∙◌}
 use Rattle.encrypt_schema.specs.Collection.{Collection}
-use Rattle.fle_runner.specs.Judge.{JudgeIs}
+use Rattle.fle_stream.specs.Judge.{JudgeIs}
 use Rattle.fle_runner.specs.Mark.{mark_verdict, verdict_into}
-use Rattle.fle_runner.specs.Plan.{Verdict}
+use Rattle.fle_stream.specs.Plan.{Verdict}
 use Rattle.fle_runner.proofs.Verdicts.{fields_told, insert_told}
 use Rattle.fle_runner.proofs.mark.judge_command.Goals as goal
 
@@ -16,7 +16,7 @@ returns-in-Ok-Collection c =
     let into =
     insert_told db infos command c.in-Ok-Collection.name.now c.requires.whole aims.0 aims.1 aims.2
     ∙ ap (λ (o : Option Collection). verdict_into o command.tree) (sym c.info_of.ensures.named) in
-    record { judged = subst (λ (v : Verdict). JudgeIs v None None c.judge_insert.result) (sym into) c.judge_insert.ensures.judged }
+    record { judged = λ e. subst (λ (v : Verdict). JudgeIs v e e c.judge_insert.result) (sym into) (c.judge_insert.ensures.judged e) }
 
 pub returns-in-Err : goal.returns-in-Err
 returns-in-Err c =
@@ -24,5 +24,5 @@ returns-in-Err c =
     let infos = c.args.infos.now in
     let command = c.args.command.now in
     record {
-      judged = c.judge_fault.ensures.judged (mark_verdict infos db command.tree) (fields_told db infos command c.in-Err.refusal c.requires.whole c.in-Err.ensures.aims);
+      judged = λ e. c.judge_fault.ensures.judged (mark_verdict infos db command.tree) e (fields_told db infos command c.in-Err.refusal c.requires.whole c.in-Err.ensures.aims);
     }

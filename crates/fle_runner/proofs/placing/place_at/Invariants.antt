@@ -1,7 +1,7 @@
 -- The place is below the numbers so far, in the document that is reached; each turn goes into a smaller one.
 use Rattle.std.proofs.Common.{◌≡◌, ◌+◌}
 use Rattle.bson_tree.specs.Tree.{items_size}
-use Rattle.fle_runner.specs.Descent.{spot_from, below}
+use Rattle.fle_runner.proofs.Ways.{spot_from, below}
 use Rattle.bson_tree.specs.Places.{place_of}
 use Rattle.fle_runner.proofs.placing.place_at.Given as goal
 

@@ -1,23 +1,31 @@
 -- The verb's end is the program's.
 use Rattle.std.proofs.Common.{subst}
-use Rattle.fle_runner.specs.Ended.{IsSettled}
-use Rattle.fle_runner.specs.declared.status.Status.{Status}
-use Rattle.fle_runner.proofs.Endings.{whole_of}
+use Rattle.fle_stream.specs.Ended.{IsSettled}
+use Rattle.fle_stream.specs.declared.status.Status.{Status}
+use Rattle.fle_stream.proofs.Endings.{settled_of, whole_of}
 use Rattle.fle_runner.proofs.program.fle.Goals as goal
 
 pub returns-clause-ended : goal.returns-clause-ended
-returns-clause-ended g c = λ all told has is. record {
+returns-clause-ended g c = record {
   why = c.act-end.result.why;
-  count = c.act-end.result.written;
   number = c.act-end.result.number;
   answer = c.report.ensures.status;
-  did = c.act-end.ensures.did all told has is;
+  did = c.act-end.ensures.did;
+  placed = c.act-end.ensures.placed;
+  took = c.act-end.ensures.took;
+  numbered = c.act-end.ensures.numbered;
   input_failed = c.act-end.ensures.in_cause;
   folder_failed = c.act-end.ensures.folder_cause;
   output_failed = c.act-end.ensures.out_cause;
+  entropy_failed = c.act-end.ensures.entropy_cause;
   reported = c.report.ensures.says.0;
   says = c.report.ensures.says.1;
 }
+
+pub returns-clause-settled : goal.returns-clause-settled
+returns-clause-settled g c = λ all told has is unfailed lasted.
+    settled_of c.report.ensures.status (c.act-end.ensures.did all told has is).ran
+    c.act-end.ensures.in_cause c.act-end.ensures.folder_cause c.act-end.ensures.out_cause c.act-end.ensures.entropy_cause unfailed lasted
 
 pub returns-clause-whole : goal.returns-clause-whole
 returns-clause-whole g c = λ all told has is settled.

@@ -1,6 +1,0 @@
--- The place, and the line feed behind it.
-use Rattle.fle_runner.proofs.Lines.{then_all}
-use Rattle.fle_runner.proofs.line.put_tail.Goals as goal
-
-pub returns-in-Ok : goal.returns-in-Ok
-returns-in-Ok g c = then_all c.in-Ok.ensures c.write_whole.ensures

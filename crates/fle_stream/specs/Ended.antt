@@ -1,0 +1,124 @@
+-- How a run of a program ended: one ending for its status, its line, its output, its blocks and its input.
+use Rattle.std.specs.Prelude.{◌≡◌, ℕ, ◌<◌, ◌≤◌, Result, Some, List, length}
+use Rattle.fle_outside.specs.Blocks.{Block}
+use Rattle.fle_outside.specs.Counts.{Rose}
+use Rattle.fle_outside.specs.Drawing.{Draws}
+use Rattle.fle_outside.specs.Files.{Files}
+use Rattle.fle_outside.specs.Seen.{SourceSeen, FolderSeen, SinkSeen, EntropySeen}
+use Rattle.fle_outside.specs.Writing.{Gains, WritesWhole}
+use Rattle.fle_outside.specs.declared.answers.Failed.{Failed}
+use Rattle.fle_stream.specs.Codes.{status_of, status_of_finish}
+use Rattle.fle_stream.specs.Did.{Did}
+use Rattle.fle_stream.specs.Line.{line_of}
+use Rattle.fle_stream.specs.Outcome.{Outcome}
+use Rattle.fle_stream.specs.Plan.{draws_of, size_of, written}
+use Rattle.fle_stream.specs.Task.{Task, fails, makes, each, outcome_of}
+use Rattle.fle_stream.specs.Turn.{IsOfStream, RunTook}
+use Rattle.fle_stream.specs.declared.status.Status.{Status}
+use Rattle.fle_stream.specs.declared.status.Status.TheVariants as statuses
+use Rattle.fle_stream.specs.declared.why.Why.{Why}
+use Rattle.fle_stream.specs.declared.why.Why.TheVariants as whys
+use Rattle.fle_stream.specs.declared.why.Cut.TheVariants as cuts
+
+-- all objects of a run
+pub record World : Type 0 where
+  pub input : SourceSeen
+  pub files : FolderSeen
+  pub out : SinkSeen
+  pub diag : SinkSeen
+  pub entropy : EntropySeen
+
+abbrev pub world : SourceSeen → FolderSeen → SinkSeen → SinkSeen → EntropySeen → World
+world input files out diag entropy = record { input = input; files = files; out = out; diag = diag; entropy = entropy }
+
+-- how a task ends: one that fails ends so, and no end is of words or files where each document is judged; a folder's failure and want of memory may come first
+abbrev pub EndsAs : Task → Why → Type 0
+EndsAs t (whys.Cut cuts.Folder) = Unit {0}
+EndsAs t (whys.Cut cuts.Memory) = Unit {0}
+EndsAs (fails finish) why = why ≡ whys.Finished finish
+EndsAs (makes plan) why = Unit {0}
+EndsAs (each v) why = IsOfStream why
+
+-- how a run ended, whose task follows from the files
+pub record Ended (task : Files → Task) (before after : World) (status : Status) : Type 0 where
+  -- why it ended
+  pub why : Why
+  -- the number of the document for the line
+  pub number : ℕ
+  -- the status is that of the end
+  pub answer : status ≡ status_of why
+  -- which bytes were written, which blocks drawn, and what the input has left: for a folder and an input that tell
+  pub did : (all : Files) (told : List ℕ) → before.files.told ≡ Some all → before.input.told ≡ Some told
+      → Did (task all) told after.input.told before.entropy after.entropy before.out after.out number why
+  -- the end is one that the task can make: for a folder that tells
+  pub placed : (all : Files) → before.files.told ≡ Some all → EndsAs (task all) why
+  -- the documents before that number were taken from the input, and at most the one of that number beside them
+  pub took : RunTook before.input.taken after.input.taken number
+  -- status 5 with document 0 is the folder's
+  pub numbered : why ≡ whys.Cut cuts.Input → 0 < number
+  -- each failure only where its own object counted one
+  pub input_failed : why ≡ whys.Cut cuts.Input → Rose before.input.faults after.input.faults
+  pub folder_failed : why ≡ whys.Cut cuts.Folder → Rose before.files.faults after.files.faults
+  pub output_failed : why ≡ whys.Cut cuts.Output → Rose before.out.faults after.out.faults
+  pub entropy_failed : why ≡ whys.Cut cuts.Entropy → Rose before.entropy.faults after.entropy.faults
+  -- whether the line was written whole
+  pub reported : Result (Unit {0}) Failed
+  -- the line says why
+  pub says : WritesWhole before.diag after.diag reported (line_of why number)
+
+-- no count of faults rose
+pub record Unfailed (before after : World) : Type 0 where
+  pub input : Rose before.input.faults after.input.faults → ⊥
+  pub files : Rose before.files.faults after.files.faults → ⊥
+  pub out : Rose before.out.faults after.out.faults → ⊥
+  pub entropy : Rose before.entropy.faults after.entropy.faults → ⊥
+
+-- where nothing failed and memory lasted, the status is that of the outcome
+abbrev pub Settles : (Files → Task) → World → World → Status → Type 0
+Settles task before after status =
+    (all : Files) (told : List ℕ) → before.files.told ≡ Some all → before.input.told ≡ Some told
+    → Unfailed before after → (status ≡ statuses.Memory → ⊥) → status ≡ status_of_finish (outcome_of (task all) told).finish
+
+-- all outputs were written, each with its own blocks
+pub record Whole (o : Outcome) (entropy entropy_after : EntropySeen) (out out_after : SinkSeen) : Type 0 where
+  pub drawn : List Block
+  pub enough : length drawn ≡ draws_of o.outputs
+  pub draws : Draws entropy entropy_after drawn
+  pub gains : Gains out.told out_after.told (written o.outputs drawn)
+
+-- no object failed and memory lasted
+abbrev pub IsSettled : Status → Type 0
+IsSettled statuses.Done = Unit {0}
+IsSettled statuses.Refused = Unit {0}
+IsSettled statuses.Words = Unit {0}
+IsSettled statuses.Malformed = Unit {0}
+IsSettled statuses.Setup = Unit {0}
+IsSettled statuses.ReadFault = ⊥
+IsSettled statuses.WriteFault = ⊥
+IsSettled statuses.EntropyFault = ⊥
+IsSettled statuses.Memory = ⊥
+IsSettled statuses.Limit = Unit {0}
+
+-- where the status is no fault and no want of memory, every output was written whole
+abbrev pub WritesAll : (Files → Task) → World → World → Status → Type 0
+WritesAll task before after status =
+    (all : Files) (told : List ℕ) → before.files.told ≡ Some all → before.input.told ≡ Some told
+    → IsSettled status → Whole (outcome_of (task all) told) before.entropy after.entropy before.out after.out
+
+-- a sink that is assured of all bytes that are to be written doesn't fail
+abbrev pub WritesSurely : (Files → Task) → World → Status → Type 0
+WritesSurely task before status =
+    (all : Files) (told : List ℕ) → before.files.told ≡ Some all → before.input.told ≡ Some told
+    → size_of (outcome_of (task all) told).outputs ≤ before.out.assured → status ≡ statuses.WriteFault → ⊥
+
+-- nor does a source of blocks that is assured of all that are to be drawn
+abbrev pub DrawsSurely : (Files → Task) → World → Status → Type 0
+DrawsSurely task before status =
+    (all : Files) (told : List ℕ) → before.files.told ≡ Some all → before.input.told ≡ Some told
+    → draws_of (outcome_of (task all) told).outputs ≤ before.entropy.assured → status ≡ statuses.EntropyFault → ⊥
+
+-- words or a file are at fault, so the input isn't read and nothing is written
+abbrev pub IsUnread : Status → Type 0
+IsUnread statuses.Words = Unit {0}
+IsUnread statuses.Setup = Unit {0}
+IsUnread _ = ⊥

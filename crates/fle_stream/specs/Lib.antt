@@ -1,0 +1,13 @@
+pub mod Codes
+pub mod Plan
+pub mod Streams
+pub mod Next
+pub mod Outcome
+pub mod Run
+pub mod Turn
+pub mod Judge
+pub mod Line
+pub mod Task
+pub mod Files
+pub mod Did
+pub mod Ended
