@@ -3,10 +3,10 @@
 ghost use Rattle.std.specs.Prelude.{◌≡◌, ◌+◌, ◌∷◌, [], ℕ, List, None, length, take};
 ghost use Rattle.bson_tree.specs.Spelling.{value_bytes};
 ghost use Rattle.encrypt_schema.specs.Names.{is_among};
-ghost use Rattle.encrypt_schema.specs.Offences.{offence};
+ghost use Rattle.encrypt_schema.specs.Offences.{ruled_offence};
 ghost use Rattle.encrypt_schema.specs.Row.{Row};
 ghost use Rattle.encrypt_schema.specs.Stations.{station};
-ghost use Rattle.encrypt_schema.specs.Visits.{Visit, entry, first_refusal, mark, mark_at, marks, names_of, visits, visits_in};
+ghost use Rattle.encrypt_schema.specs.Visits.{Visit, entry, first_refusal, mark, mark_at, marks, names_of, ruled_of, visits, visits_in};
 ghost use Rattle.encrypt_schema.specs.Walking.{Begins, Marked, Told, element_visit, element_visits, station_by};
 
 use crate::cursor::Cursor;
@@ -54,7 +54,7 @@ pub trait Table {
         item: &RawItem<'_>,
     ) -> Option<Reason>
         requires covered { covers self.now rows.now at }
-        ensures offence { result ≡ offence rows.now (station_by rows.now at) (take k (names_of document.now.tree)) (entry item.now.name item.now.tree) };
+        ensures offence { result ≡ ruled_offence rows.now (station_by rows.now at) (take k (names_of document.now.tree)) (entry item.now.name item.now.tree) };
 }
 
 /// Whether one of the first `k` elements of a document has this name.

@@ -6,7 +6,8 @@ use Rattle.encrypt_schema.specs.Collections.{Faulty, collections}
 use Rattle.encrypt_schema.specs.declared.faults.InfoFault.{InfoFault}
 use Rattle.encrypt_schema.specs.declared.faults.InfoFault.TheVariants as faults
 use Rattle.encrypt_schema.specs.Row.{Row}
-use Rattle.encrypt_schema.specs.Targets.{is_view, rows_in, rows_of, verdict}
+use Rattle.encrypt_schema.specs.Offences.{is_view}
+use Rattle.encrypt_schema.specs.Targets.{rows_in, rows_of, verdict}
 use Rattle.encrypt_schema.specs.Visits.{Refusal, or_else, content_verdict}
 use Rattle.encrypt_schema.specs.declared.marks.MarkFault.{MarkFault}
 use Rattle.encrypt_schema.specs.declared.marks.MarkFault.TheVariants as mark_faults

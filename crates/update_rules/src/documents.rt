@@ -3,7 +3,7 @@
 ghost use Rattle.std.specs.Prelude.{◌≡◌, ◌+◌, ◌++◌, ◌∷◌, [], ℕ, List, take};
 ghost use Rattle.encrypt_schema.specs.Classes.{class};
 ghost use Rattle.encrypt_schema.specs.Cursors.{Stands, StandsForPath, path_of};
-ghost use Rattle.encrypt_schema.specs.Offences.{offence};
+ghost use Rattle.encrypt_schema.specs.Offences.{ruled_offence};
 ghost use Rattle.encrypt_schema.specs.Stations.{Document, station};
 ghost use Rattle.encrypt_schema.specs.Visits.{entry, names_of, visits};
 ghost use Rattle.encrypt_schema.specs.Walking.{Begins, Marked, station_by};
@@ -42,10 +42,10 @@ pub fn step_document(rows: &Rows, at: Cursor, item: &RawItem<'_>) -> Place
 
 /// Why an element of a stored document at this path is refused: a value that its rule doesn't allow, and an
 /// array on the way to a protected field.
-#[tactic(auto, unfolding(encrypt_schema::specs::Offences::offence))]
+#[tactic(auto, unfolding(encrypt_schema::specs::Offences::ruled_offence))]
 pub fn offence_document(rows: &Rows, at: Cursor, item: &RawItem<'_>) -> Option<Reason>
     requires cursor { StandsForPath rows.now at }
-    ensures offence { (elder : List (List ℕ)) → result ≡ offence rows.now (Document (path_of rows.now at)) elder (entry item.now.name item.now.tree) }
+    ensures offence { (elder : List (List ℕ)) → result ≡ ruled_offence rows.now (Document (path_of rows.now at)) elder (entry item.now.name item.now.tree) }
 {
     match rows.class(rows.step(at, item.name())) {
         Class::Protected(i) => type_allowed_under(rows, i, item),
@@ -74,7 +74,7 @@ impl Table for Documents {
         }
     }
 
-    #[tactic(auto, unfolding(encrypt_schema::specs::Offences::offence))]
+    #[tactic(auto, unfolding(encrypt_schema::specs::Offences::ruled_offence))]
     fn offence(
         &self,
         rows: &Rows,
