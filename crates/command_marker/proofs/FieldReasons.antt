@@ -1,6 +1,7 @@
 -- Reasons for which inserts and their fields are refused.
 use Rattle.std.proofs.Common.{◌≡◌, ◌∙◌, ℕ, ◌+◌, Bool, true, false, cond, if◌then◌else◌, ◌&&◌, ◌||◌, not, List, [], ◌∷◌, ◌++◌, length, Ok, Err, ◌<◌, arith, codes, Option, Some, None, Result, refl, sym, ap}
 use Rattle.std.proofs.lemmas.Bool.{false≢true}
+use Rattle.std.proofs.lemmas.Slice.Eq.{bytes_eq-Decides}
 use Rattle.bson_tree.specs.Tree.{Items, no_items, item}
 use Rattle.bson_codec.specs.Raw.{At}
 use Rattle.encrypt_schema.specs.declared.marks.Mark.{Mark}
@@ -17,7 +18,7 @@ use Rattle.encrypt_schema.specs.Walking.{Marked}
 use Rattle.encrypt_schema.proofs.Elements.{told_as}
 use Rattle.encrypt_schema.proofs.Parts.{unruled, with_rows}
 use Rattle.encrypt_schema.proofs.Unmarked.{no_rows_no_roles}
-use Rattle.command_marker.specs.Commands.{is_command, TellsMarks}
+use Rattle.command_marker.specs.Commands.{is_command, passes, TellsMarks}
 
 -- a field of an insert: by whether it is `documents`, stands for the second time, and is an array
 pub insert_reasons : (rows : List Row) (e : Entry) (documents again array : Bool)
@@ -77,3 +78,9 @@ pub refused_contents : (rows : List Row) (c : At) (before after : List Mark) (fa
     → Marked rows (command_visits rows c.start c.tree) before after (Err fault) → TellsMarks rows c (Err fault)
 refused_contents rows c before after (faults.Refused reason at) some told = with_rows rows c.start c.tree some ∙ told
 refused_contents rows c before after faults.Memory some told = told
+
+-- an insert doesn't pass unchanged
+pub insert_read : (c : Items) → is_command (codes "insert") c ≡ true → passes c ≡ false
+unfolding is_passed named
+insert_read no_items h = absurd (false≢true h)
+insert_read (item name t is) h = ap is_passed ((bytes_eq-Decides name (codes "insert")).0 h)

@@ -1,7 +1,7 @@
 //! What holds of roles, offences and verdicts whatever the rules and the commands (the definitions of
 //! `encrypt_schema`). The functions do nothing; their clauses are the laws.
 
-ghost use Rattle.std.specs.Prelude.{◌≡◌, ◌+◌, ◌∷◌, [], ℕ, List, Bool, Option, true, false, Some, length, map, flat_map, option_map};
+ghost use Rattle.std.specs.Prelude.{◌≡◌, ◌+◌, ◌∷◌, [], ℕ, List, Bool, Option, None, true, false, Some, length, map, flat_map, option_map};
 ghost use Rattle.std.specs.List.{list_all};
 ghost use Rattle.std.specs.Option.{is_none, option_map_or};
 ghost use Rattle.bson_tree.specs.Filled.{filled};
@@ -16,8 +16,10 @@ ghost use Rattle.encrypt_schema.specs.Skeletons.{AreApart, blank, hole_at, holes
 ghost use Rattle.encrypt_schema.specs.Stations.{Station, has_role};
 ghost use Rattle.encrypt_schema.specs.Targets.{info_of, rows_of, verdict};
 ghost use Rattle.encrypt_schema.specs.Visits.{Refusal, command_visits, content_verdict, roles, station_of, visits};
+ghost use Rattle.command_marker.specs.Commands.{passes};
 ghost use Rattle.command_marker.specs.Marked.{marked};
 ghost use Rattle.command_marker.specs.MarkedPlaces.{marking_of};
+ghost use Rattle.command_marker.specs.Reply.{reply_clear_to, reply_to};
 ghost use Rattle.command_marker.specs.ToldPlaces.{first_refused, told};
 
 /// The values with a role of a command that begins at `at` come in reading order and apart: none twice, none inside
@@ -52,6 +54,14 @@ pub fn equal_blanks()
     ensures sites { (rows : List Row) (c d : Items) → blank rows c ≡ blank rows d → sites rows c ≡ sites rows d }
     ensures blanks { (rows : List Row) (c d : Items) → skeleton rows c ≡ skeleton rows d → blank rows c ≡ blank rows d }
     ensures marks { (rows : List Row) (at : ℕ) (c : Items) → map use_of_mark (roles rows at c) ≡ map use_of_site (sites rows c) }
+{}
+
+/// A command that passes unchanged has no value with a role and isn't refused; whatever rules there are, its reply has
+/// both flags false and the command as it is.
+pub fn passing()
+    ensures roles { (rows : List Row) (at : ℕ) (c : Items) → passes c ≡ true → roles rows at c ≡ [] }
+    ensures verdict { (db : List ℕ) (collections : List Collection) (at : ℕ) (c : Items) → passes c ≡ true → verdict db collections at c ≡ None }
+    ensures reply { (rows : List Row) (c : Items) → passes c ≡ true → reply_to rows c ≡ reply_clear_to c }
 {}
 
 /// The places of a command that begins at `at`, each read from the chain of its ancestors, are the places that one

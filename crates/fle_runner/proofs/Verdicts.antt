@@ -1,12 +1,9 @@
 -- What a command comes to, by what is answered about its fields and its contents.
-use Rattle.std.proofs.Common.{◌≡◌, ℕ, ◌+◌, Bool, true, false, cond, if◌then◌else◌, not, ◌&&◌, ◌||◌, List, [], ◌∷◌, ◌++◌, codes, length, nat_lt, Option, Some, None, option_map, unwrap_or, Err, refl, sym, ap, subst, ◌∙◌}
+use Rattle.std.proofs.Common.{◌≡◌, ℕ, ◌+◌, Bool, true, false, cond, if◌then◌else◌, not, ◌&&◌, ◌||◌, List, [], ◌∷◌, ◌++◌, codes, length, Option, Some, None, option_map, Err, refl, sym, ap, subst, ◌∙◌}
 use Rattle.std.proofs.lemmas.Bool.{false≢true}
-use Rattle.bson_tree.specs.Tree.{Tree, leaf, node, Items, no_items, item}
-use Rattle.bson_tree.specs.Filled.{fill_tree, fill_items}
+use Rattle.bson_tree.specs.Tree.{Tree, Items, no_items, item}
 use Rattle.bson_tree.specs.Places.{place_of}
-use Rattle.bson_tree.specs.Spelling.{value_bytes}
 use Rattle.bson_codec.specs.Raw.{At}
-use Rattle.encrypt_schema.specs.declared.marks.Mark.{Mark}
 use Rattle.encrypt_schema.specs.declared.marks.MarkFault.{MarkFault}
 use Rattle.encrypt_schema.specs.declared.marks.MarkFault.TheVariants as faults
 use Rattle.encrypt_schema.specs.declared.reason.Reason.{Reason}
@@ -19,45 +16,15 @@ use Rattle.encrypt_schema.specs.Targets.{info_of, rows_in, rows_of, verdict}
 use Rattle.encrypt_schema.specs.Visits.{names_of, entry, raw_of, view_of, command_visits, Refusal, refused_at, or_else, first_refusal, target_verdict, content_verdict}
 use Rattle.encrypt_schema.proofs.Fields.{target_anyhow, view_alone}
 use Rattle.encrypt_schema.proofs.Parts.{unruled}
-use Rattle.encrypt_schema.proofs.Unmarked.{no_rows_no_roles}
 use Rattle.command_marker.specs.Commands.{AimsAt, collection_in, is_command, is_unbuilt, target_refusal, unbuilt}
 use Rattle.command_marker.specs.Fields.{is_marked_name, first_reasons}
-use Rattle.command_marker.specs.Marked.{marked, marking_at}
-use Rattle.command_marker.specs.Reply.{reply, reply_clear_to, reply_to}
+use Rattle.command_marker.specs.Marked.{marked}
+use Rattle.command_marker.specs.Reply.{reply_clear_to, reply_to}
 use Rattle.command_marker.proofs.Targets.{fields_told}
-use Rattle.fle_runner.specs.Mark.{Tells, as_built, mark_refusal, mark_verdict, reply_for, sized, verdict_by, verdict_into, verdict_under}
+use Rattle.command_marker.proofs.Unmarked.{reply_without_rules}
+use Rattle.fle_runner.specs.Mark.{Tells, as_built, mark_refusal, mark_verdict, sized, verdict_by, verdict_into, verdict_under}
 use Rattle.fle_runner.specs.Plan.{refused}
 use Rattle.fle_runner.proofs.Reasons.{IsBuilt, contents_built, fields_built, told_as_it_is}
-
--- ---- the reply to a command that no rule concerns
-
--- values put in nowhere change nothing
-mutual
-  same_tree : (f : ℕ → Tree → Option Tree) (h : (at : ℕ) (t : Tree) → f at t ≡ None) (at : ℕ) (t : Tree) → fill_tree f at t ≡ t
-  same_tree f h at (leaf tag bytes) = ap (λ (o : Option Tree). unwrap_or o (leaf tag bytes)) (h at (leaf tag bytes))
-  same_tree f h at (node tag is) =
-      ap (λ (o : Option Tree). unwrap_or o (node tag (fill_items f (at + 4) is))) (h at (node tag is))
-      ∙ ap (λ (js : Items). node tag js) (same_items f h (at + 4) is)
-
-  same_items : (f : ℕ → Tree → Option Tree) (h : (at : ℕ) (t : Tree) → f at t ≡ None) (at : ℕ) (is : Items) → fill_items f at is ≡ is
-  same_items f h at no_items = refl
-  same_items f h at (item name t is) =
-      let behind = at + (2 + length name) + length (value_bytes t) in
-      ap (λ (u : Tree). item name u (fill_items f behind is)) (same_tree f h (at + (2 + length name)) t)
-      ∙ ap (λ (js : Items). item name t js) (same_items f h behind is)
-
-marked_none : (c : Items) → marked [] c ≡ c
-unfolding marked
-marked_none c =
-    ap (λ (ms : List Mark). fill_items (marking_at [] ms) 4 c) (no_rows_no_roles 0 c)
-    ∙ same_items (marking_at [] []) (λ at t. refl) 4 c
-
--- without rules the reply has both flags false and the command as it is
-reply_without_rules : (c : Items) → reply_to [] c ≡ reply_clear_to c
-unfolding reply_to reply_clear_to
-reply_without_rules c =
-    ap (λ (ms : List Mark). reply (nat_lt 0 (length ms)) false (marked [] c)) (no_rows_no_roles 0 c)
-    ∙ ap (λ (is : Items). reply false false is) (marked_none c)
 
 -- an insert into a collection without an info has no rules
 pub into_none : (c : Items) → verdict_into None c ≡ sized (reply_clear_to c)
@@ -110,7 +77,7 @@ pub tells_fields : (db : List ℕ) (infos : List Collection) (command : At) (fau
     → Tells fault command.tree (mark_verdict infos db command.tree)
 unfolding mark_verdict
 tells_fields db infos command (faults.Refused reason at) whole h =
-    ap (verdict_by command.tree (reply_for infos command.tree))
+    ap (verdict_by command.tree (reply_to (rows_of infos command.tree) command.tree))
     (refusal_stays db infos command.tree (record { reason = reason; at = at }) (begun_at db command whole ∙ h))
 tells_fields db infos command faults.Memory whole h = absurd h
 
@@ -161,8 +128,7 @@ into_collection db infos name t is built free insert =
     let found : info_of infos c ≡ info = ap (λ (b : Bool). cond b info None) string in
     let viewed : (o : Option Collection) → first_refusal (view_of o) (command_visits (rows_in o) 0 c) ≡ refused_at start (least (when (is_view o) View))
     = λ o. view_alone o (rows_in o) 0 name t is ∙ ap (λ (s : Station). refused_at start (least (when (is_marked s && true && is_view o) View))) stands in
-    ap (λ (b : Bool). verdict_by c (cond b (reply_clear_to c) (reply_to (rows_of infos c) c)) (mark_refusal infos db c)) passed
-    ∙ ap (λ (b : Bool). verdict_by c (reply_to (rows_of infos c) c) (or_else (cond b (Some (record { reason = NotBuilt; at = 0 })) None) (option_map as_built (verdict db infos 0 c)))) built
+    ap (λ (b : Bool). verdict_by c (reply_to (rows_of infos c) c) (or_else (cond b (Some (record { reason = NotBuilt; at = 0 })) None) (option_map as_built (verdict db infos 0 c)))) built
     ∙ ap (λ (o : Option Refusal). verdict_by c (reply_to (rows_of infos c) c) (option_map as_built o)) (verdict_is db infos c ∙ ap (verdict_after infos c) free)
     ∙ ap (λ (o : Option Collection). verdict_by c (reply_to (rows_in o) c) (option_map as_built (or_else (first_refusal (view_of o) (command_visits (rows_in o) 0 c)) (content_verdict (rows_in o) 0 c)))) found
     ∙ ap (λ (o : Option Refusal). verdict_by c (reply_to (rows_in info) c) (option_map as_built (or_else o (content_verdict (rows_in info) 0 c)))) (viewed info)
