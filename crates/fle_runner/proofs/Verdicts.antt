@@ -3,7 +3,7 @@ use Rattle.std.proofs.Common.{◌≡◌, ℕ, ◌+◌, Bool, true, false, cond, 
 use Rattle.std.proofs.lemmas.Bool.{false≢true}
 use Rattle.bson_tree.specs.Tree.{Tree, Items, no_items, item}
 use Rattle.bson_tree.specs.Places.{place_of}
-use Rattle.bson_codec.specs.Raw.{At}
+use Rattle.bson_codec.specs.Borrowed.{At}
 use Rattle.encrypt_schema.specs.declared.marks.MarkFault.{MarkFault}
 use Rattle.encrypt_schema.specs.declared.marks.MarkFault.TheVariants as faults
 use Rattle.encrypt_schema.specs.declared.reason.Reason.{Reason}
