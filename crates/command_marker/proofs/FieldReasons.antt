@@ -14,7 +14,7 @@ use Rattle.encrypt_schema.specs.Row.{Row}
 use Rattle.encrypt_schema.specs.Stations.{Entry, Station, Outside, Insert, Inserts, Update, Delete, Find, Passed, Unknown, is_passed, command_of}
 use Rattle.encrypt_schema.specs.Offences.{when, least, of_role, command_lacks, ruled_offence}
 use Rattle.encrypt_schema.specs.Visits.{names_of, command_entry, command_visit, command_visits, visits, mark_at, marks, ruled_of, refused_at, or_else, first_refusal}
-use Rattle.encrypt_schema.specs.Walking.{Marked}
+use Rattle.encrypt_schema.specs.Walking.{MarksPlaces}
 use Rattle.encrypt_schema.proofs.Elements.{told_as}
 use Rattle.encrypt_schema.proofs.Parts.{unruled, with_rows}
 use Rattle.encrypt_schema.proofs.Unmarked.{no_rows_no_roles}
@@ -56,8 +56,8 @@ without_documents rows at c insert has =
 -- the places of an insert that states `documents`: those of its fields
 pub with_documents : (rows : List Row) (command : At) (before after : List Mark) (result : Result (Unit {0}) MarkFault)
     → is_command (codes "insert") command.tree ≡ true → is_among (codes "documents") (names_of command.tree) ≡ true
-    → Marked rows (visits rows Insert (command.start + 4) [] command.tree) before after result
-    → Marked rows (command_visits rows command.start command.tree) before after result
+    → MarksPlaces rows (visits rows Insert (command.start + 4) [] command.tree) before after result
+    → MarksPlaces rows (command_visits rows command.start command.tree) before after result
 with_documents rows command before after result insert has told =
     let c = command.tree in
     let at = command.start + 4 in
@@ -75,7 +75,7 @@ no_rows (row ∷ rows) c e = absurd (omega (arith, e))
 
 -- with rules, a refusal of a command's places is the verdict on its contents
 pub refused_contents : (rows : List Row) (c : At) (before after : List Mark) (fault : MarkFault) → 0 < length rows
-    → Marked rows (command_visits rows c.start c.tree) before after (Err fault) → TellsMarks rows c (Err fault)
+    → MarksPlaces rows (command_visits rows c.start c.tree) before after (Err fault) → TellsMarks rows c (Err fault)
 refused_contents rows c before after (faults.Refused reason at) some told = with_rows rows c.start c.tree some ∙ told
 refused_contents rows c before after faults.Memory some told = told
 

@@ -6,7 +6,7 @@ ghost use Rattle.encrypt_schema.specs.Offences.{ruled_offence};
 ghost use Rattle.encrypt_schema.specs.Row.{Row};
 ghost use Rattle.encrypt_schema.specs.Stations.{Insert, Inserts, station};
 ghost use Rattle.encrypt_schema.specs.Visits.{command_visits, entry, names_of};
-ghost use Rattle.encrypt_schema.specs.Walking.{Marked, station_by};
+ghost use Rattle.encrypt_schema.specs.Walking.{MarksPlaces, station_by};
 ghost use Rattle.command_marker.specs.Commands.{IsCovered, is_command};
 ghost use Rattle.std.specs.Prelude.{codes, true};
 
@@ -118,7 +118,7 @@ pub(crate) fn mark_contents(
     command: &RawDoc<'_>,
 ) -> Result<(), MarkFault>
     requires insert { is_command (codes "insert") command.now.tree ≡ true }
-    ensures marked { Marked rows.now (command_visits rows.now command.now.start command.now.tree) marks.old marks.new result }
+    ensures marked { MarksPlaces rows.now (command_visits rows.now command.now.start command.now.tree) marks.old marks.new result }
 {
     if !states_documents(command) {
         return Err(MarkFault::Refused {

@@ -13,7 +13,7 @@ use Rattle.encrypt_schema.specs.Stations.{Station, station, is_silent}
 use Rattle.encrypt_schema.specs.Offences.{ruled_offence}
 use Rattle.encrypt_schema.specs.declared.reason.Reason.{Reason}
 use Rattle.encrypt_schema.specs.Visits.{entry, Visit, visits_in, visits, mark_at, marks, ruled_of, Refusal, refused_at, first_refusal, or_else}
-use Rattle.encrypt_schema.specs.Walking.{element_visit, element_visits, Told, Marked, Begins}
+use Rattle.encrypt_schema.specs.Walking.{element_visit, element_visits, Told, MarksPlaces, Begins}
 use Rattle.encrypt_schema.proofs.Silence.{marks_append, refusal_append, silent_inside, ruled_quiet}
 
 -- the names before the next element
@@ -59,7 +59,7 @@ told_as own other refused refusal before after result p q told =
 pub own_told : (rows : List Row) (s u : Station) (elder : List (List ℕ)) (e : Elem) (before after : List Mark) (result : Result _ MarkFault)
     → u ≡ station rows s (entry e.name e.tree) → None ≡ ruled_offence rows s elder (entry e.name e.tree) → is_silent u ≡ true
     → Told (mark_at u (element_visit s elder e)) None before after result
-    → Marked rows (element_visits rows s elder e) before after result
+    → MarksPlaces rows (element_visits rows s elder e) before after result
 own_told rows s u elder e before after result stands free quiet told =
     let v : Visit = element_visit s elder e in
     let inside = silent_inside (ruled_of rows) rows u e.start e.tree (ruled_quiet rows) quiet in

@@ -5,7 +5,7 @@ use Rattle.bson_tree.specs.Tree.{Items, node, item, no_items}
 use Rattle.encrypt_schema.specs.declared.marks.Role.TheVariants as role
 use Rattle.encrypt_schema.specs.declared.reason.Reason.TheVariants.{BadField, TypeNotAllowed, ArrayOnPath, BelowProtected, PositionalOnPath, OperatorOnProtected, Pipeline, FieldNotAllowed, RenameMixed}
 use Rattle.encrypt_schema.specs.Names.{named}
-use Rattle.encrypt_schema.specs.Policies.{is_policy, policy_at}
+use Rattle.encrypt_schema.specs.Policies.{is_same_policy, policy_at}
 use Rattle.encrypt_schema.specs.Classes.{class}
 use Rattle.encrypt_schema.specs.Dotted.{is_dollar, is_position, positional, split}
 use Rattle.encrypt_schema.specs.Stations.{is_set}
@@ -211,7 +211,7 @@ renamed_alike =
     update_by (text (codes "pair")) (node 3 (one (codes "$rename") (node 3 (one (codes "x") (text (codes "y"))))))
 
 pub renamed_alike_accepted : content_verdict pair 0 renamed_alike ≡ None
-unfolding class is_again is_dollar is_policy is_position is_set named ruled_offence policy_at positional renamed split
+unfolding class is_again is_dollar is_same_policy is_position is_set named ruled_offence policy_at positional renamed split
 renamed_alike_accepted = refl
 
 pub renamed_alike_roles : roles pair 0 renamed_alike ≡ []
@@ -224,5 +224,5 @@ renamed_otherwise =
     update_by (text (codes "pair")) (node 3 (one (codes "$rename") (node 3 (one (codes "x") (text (codes "z"))))))
 
 pub renamed_otherwise_refused : content_verdict pair 0 renamed_otherwise ≡ refusal RenameMixed 72
-unfolding class is_again is_dollar is_policy is_position is_set named ruled_offence policy_at positional renamed split
+unfolding class is_again is_dollar is_same_policy is_position is_set named ruled_offence policy_at positional renamed split
 renamed_otherwise_refused = refl

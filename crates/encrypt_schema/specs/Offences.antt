@@ -10,7 +10,7 @@ use Rattle.encrypt_schema.specs.Reasons.{reason_code}
 use Rattle.encrypt_schema.specs.Names.{named, is_among}
 use Rattle.encrypt_schema.specs.Row.{Row}
 use Rattle.encrypt_schema.specs.Collection.{Collection}
-use Rattle.encrypt_schema.specs.Policies.{policy_at, is_random, has_type, is_policy}
+use Rattle.encrypt_schema.specs.Policies.{policy_at, is_random, has_type, is_same_policy}
 use Rattle.encrypt_schema.specs.Classes.{class}
 use Rattle.encrypt_schema.specs.Dotted.{split, is_dollar, positional}
 use Rattle.encrypt_schema.specs.Stations.{Entry, Subject, Field, Prefix, Station, Outside, Insert, Update, Delete, Find, Unknown, Inserts, Updates, Deletes, UpdateItem, DeleteItem, Filter, Cases, Projection, Test, Elements, Operators, Sets, Argument, Document, Store, Compare, Bare, is_document, is_array, is_operators, has_name, is_logical, is_equality, is_membership, is_random_field, dotted, station}
@@ -168,7 +168,7 @@ positional_path rows name = when (positional rows (split name)) PositionalOnPath
 -- a field may be renamed where both names are clear, or protected by one policy
 abbrev pub may_rename : List Row → Class → Class → Bool
 may_rename rows Clear Clear = true
-may_rename rows (Protected i) (Protected j) = is_policy (policy_at i rows) (policy_at j rows)
+may_rename rows (Protected i) (Protected j) = is_same_policy (policy_at i rows) (policy_at j rows)
 may_rename rows _ _ = false
 
 -- an element of the argument of `$rename`: no string; a positional target; fields that are protected

@@ -4,7 +4,7 @@
 ghost use Rattle.std.specs.Prelude.{◌≡◌, ◌<◌, ◌≤◌, ◌+◌, ◌++◌, ◌∷◌, [], ◌^◌, ℕ, List, length, is_some, option_copied, slice_get, true, None, IfOk, MatchResult};
 ghost use Rattle.encrypt_schema.specs.declared.faults.InfoFault.TheVariants as errors;
 ghost use Rattle.encrypt_schema.specs.Collection.{Collection, place_from, collection_of};
-ghost use Rattle.encrypt_schema.specs.Collections.{Reads, collection_in, has_name, rules_by};
+ghost use Rattle.encrypt_schema.specs.Collections.{Reads, collection_in, is_taken, rules_by};
 ghost use Rattle.encrypt_schema.specs.Schemas.{Gives};
 ghost use Rattle.encrypt_schema.specs.Seen.{document_seen, fields_seen};
 ghost use Rattle.encrypt_schema.specs.Spots.{numbered};

@@ -6,7 +6,7 @@ ghost use Rattle.encrypt_schema.specs.Cursors.{Stands, StandsForPath, path_of};
 ghost use Rattle.encrypt_schema.specs.Offences.{ruled_offence};
 ghost use Rattle.encrypt_schema.specs.Stations.{Document, station};
 ghost use Rattle.encrypt_schema.specs.Visits.{entry, names_of, visits};
-ghost use Rattle.encrypt_schema.specs.Walking.{Begins, Marked, station_by};
+ghost use Rattle.encrypt_schema.specs.Walking.{Begins, MarksPlaces, station_by};
 ghost use Rattle.update_rules.specs.Covered.{IsStored};
 
 use bson_codec::{RawDoc, RawItem};
@@ -101,7 +101,7 @@ pub fn mark_document(
 ) -> Result<(), MarkFault>
     requires above { (path : List (List ℕ)) × Stands rows.now at path × (class rows.now path ≡ Class.Above) }
     ensures marked { (path : List (List ℕ)) → Stands rows.now at path → class rows.now path ≡ Class.Above
-        → Marked rows.now (visits rows.now (Document path) (document.now.start + 4) [] document.now.tree) marks.old marks.new result }
+        → MarksPlaces rows.now (visits rows.now (Document path) (document.now.start + 4) [] document.now.tree) marks.old marks.new result }
     ensures kept { Begins marks.old marks.new }
 {
     mark_elements(marks, rows, &Documents, Place::Document(at), document)
