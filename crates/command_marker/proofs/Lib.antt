@@ -8,5 +8,6 @@ pub mod Steps
 pub mod Replies
 pub mod Targets
 pub mod FieldReasons
+pub mod Unmarked
 pub mod MarkedPlaces
 pub mod ToldPlaces

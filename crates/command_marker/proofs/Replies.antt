@@ -1,5 +1,5 @@
 -- A reply, part by part.
-use Rattle.std.proofs.Common.{◌≡◌, ◌∙◌, ℕ, ◌+◌, ◌≤◌, ◌<◌, List, [], ◌∷◌, ◌++◌, length, arith, ap, sym, subst, append_assoc, refl, Result, Err}
+use Rattle.std.proofs.Common.{◌≡◌, ◌∙◌, ℕ, ◌+◌, ◌≤◌, ◌<◌, List, [], ◌∷◌, ◌++◌, length, arith, ap, sym, subst, append_assoc, refl, Result, Err, ◌&&◌, not, true, false}
 use Rattle.std.specs.Prelude.{Bool, false, codes, nat_lt, Vec}
 use Rattle.std.specs.Global.{Global}
 use Rattle.std.proofs.lemmas.List.{length-map}
@@ -15,7 +15,8 @@ use Rattle.encrypt_schema.specs.Visits.{roles}
 use Rattle.command_marker.specs.declared.stop.ReplyFault.{ReplyFault}
 use Rattle.command_marker.specs.declared.stop.ReplyFault.TheVariants as faults
 use Rattle.command_marker.specs.Marked.{marked}
-use Rattle.command_marker.specs.Reply.{flag, one, reply_fields, reply, reply_to, reply_clear_to, reply_limit, RepliesAs}
+use Rattle.command_marker.specs.Commands.{passes}
+use Rattle.command_marker.specs.Reply.{is_ruled, flag, one, reply_fields, reply, reply_to, reply_clear_to, reply_limit, RepliesAs}
 use Rattle.command_marker.specs.Written.{SizesAs, reply_end, reply_head}
 use Rattle.command_marker.proofs.Frames.{one_item}
 use Rattle.bson_tree.proofs.Sizes.{framed_size, element_size}
@@ -97,11 +98,20 @@ as_many rows at c =
     ∙ ap length (marks_of_sites rows at c ∙ sym (marks_of_sites rows 0 c))
     ∙ length-map (roles rows 0 c) use_of_mark
 
+and_true : (b : Bool) → (b && true) ≡ b
+and_true true = refl
+and_true false = refl
+
+-- rules that are there concern a command that doesn't pass
+ruled_is : (rows : List Row) (c : Items) → passes c ≡ false → nat_lt 0 (length rows) ≡ is_ruled rows c
+ruled_is rows c h = sym (ap (λ (b : Bool). nat_lt 0 (length rows) && not b) h ∙ and_true (nat_lt 0 (length rows)))
+
 -- the reply to a command with its marks
-pub marked_is : (rows others : List Row) (c d : At) (ms : List Mark) (result : Result (Vec ℕ Global) ReplyFault) → rows ≡ others → c ≡ d → ms ≡ roles others d.start d.tree
+pub marked_is : (rows others : List Row) (c d : At) (ms : List Mark) (result : Result (Vec ℕ Global) ReplyFault) → rows ≡ others → c ≡ d → ms ≡ roles others d.start d.tree → passes d.tree ≡ false
     → RepliesAs (reply (nat_lt 0 (length ms)) (nat_lt 0 (length rows)) (marked rows c.tree)) result → RepliesAs (reply_to others d.tree) result
 unfolding reply_to
-marked_is rows others c d ms result p q e told =
-    subst (λ (n : ℕ). RepliesAs (reply (nat_lt 0 n) (nat_lt 0 (length others)) (marked others d.tree)) result) (ap length e ∙ as_many others d.start d.tree)
+marked_is rows others c d ms result p q e h told =
+    subst (λ (b : Bool). RepliesAs (reply (nat_lt 0 (length (roles others 0 d.tree))) b (marked others d.tree)) result) (ruled_is others d.tree h)
+    (subst (λ (n : ℕ). RepliesAs (reply (nat_lt 0 n) (nat_lt 0 (length others)) (marked others d.tree)) result) (ap length e ∙ as_many others d.start d.tree)
     (subst (λ (x : At). RepliesAs (reply (nat_lt 0 (length ms)) (nat_lt 0 (length others)) (marked others x.tree)) result) q
-    (subst (λ (rs : List Row). RepliesAs (reply (nat_lt 0 (length ms)) (nat_lt 0 (length rs)) (marked rs c.tree)) result) p told))
+    (subst (λ (rs : List Row). RepliesAs (reply (nat_lt 0 (length ms)) (nat_lt 0 (length rs)) (marked rs c.tree)) result) p told)))

@@ -1,19 +1,22 @@
 -- Refusals of a command's fields.
-use Rattle.std.proofs.Common.{◌≡◌, ◌==◌, ℕ, ◌+◌, Bool, true, false, cond, ◌||◌, ◌&&◌, not, List, [], ◌∷◌, ◌++◌, length, Option, Some, None, Err, refl, sym, ap, ◌∙◌}
+use Rattle.std.proofs.Common.{◌≡◌, ◌==◌, ℕ, ◌+◌, Bool, true, false, cond, ◌||◌, ◌&&◌, not, codes, List, [], ◌∷◌, ◌++◌, length, Option, Some, None, Err, refl, sym, ap, ap₂, ◌∙◌}
 use Rattle.std.proofs.lemmas.Bool.{false≢true}
+use Rattle.std.proofs.lemmas.Slice.Eq.{bytes_eq-Decides}
 use Rattle.bson_tree.specs.Tree.{Tree, Items, leaf, no_items, item, tag_of}
 use Rattle.bson_tree.specs.Spelling.{value_bytes}
 use Rattle.bson_codec.specs.Borrowed.{At, Elem}
 use Rattle.bson_codec.specs.Elements.{TakesElement}
+use Rattle.encrypt_schema.specs.declared.reason.Reason.{Reason}
 use Rattle.encrypt_schema.specs.declared.reason.Reason.TheVariants.{NotACommand, NotBuilt, BadField, WrongDb}
-use Rattle.encrypt_schema.specs.Offences.{when, least, text_of}
-use Rattle.encrypt_schema.specs.Targets.{CommandField, command_fields, is_empty, is_string, first_reasons, later_reasons, later_refusal, is_db, named_by, is_view, view_refusal, target, target_of}
-use Rattle.encrypt_schema.specs.Collection.{collection_of}
-use Rattle.encrypt_schema.specs.Names.{named}
-use Rattle.encrypt_schema.proofs.Texts.{text_is}
+use Rattle.encrypt_schema.specs.Names.{named, is_among}
+use Rattle.encrypt_schema.specs.Stations.{Entry, Station, Insert, Update, Delete, Find, Passed, Unknown, is_passed, command_of}
+use Rattle.encrypt_schema.specs.Offences.{when, least, text_of, is_db, is_empty, is_marked, is_string, of_field, target_offence}
+use Rattle.encrypt_schema.specs.Visits.{names_of, entry, raw_of, command_visit, target_of, target_verdict, Refusal, refused_at, or_else}
 use Rattle.bson_codec.specs.Layout.{string_bytes}
-use Rattle.encrypt_schema.specs.Visits.{entry, raw_of, Refusal, refused_at, or_else}
+use Rattle.encrypt_schema.proofs.Texts.{text_is}
+use Rattle.encrypt_schema.proofs.Fields.{fields_refusal, command_alone, target_shallow}
 use Rattle.command_marker.specs.Commands.{is_unbuilt, target_refusal, AimsAt, Refuses}
+use Rattle.command_marker.specs.Fields.{is_marked_name, first_reasons, later_reasons, later_refusal}
 use Rattle.encrypt_schema.specs.declared.marks.MarkFault.{MarkFault}
 use Rattle.encrypt_schema.specs.declared.marks.MarkFault.TheVariants as faults
 
@@ -47,28 +50,126 @@ other_found t text word e = rw e (ap (λ (x : List ℕ). not (named x word)) (sy
 pub other_none : (t : Tree) (word : List ℕ) → (tag_of t == 2) ≡ false → false ≡ ((tag_of t == 2) && not (named (text_of (raw_of t)) word))
 other_none t word e = ap (λ (b : Bool). b && not (named (text_of (raw_of t)) word)) (sym e)
 
--- the fields that are left are the first one and the others
-pub left_fields : (left rest : At) (e : Elem) → TakesElement left (Some e) rest
-    → command_fields left.start left.tree ≡ record { entry = entry e.name e.tree; start = e.start } ∷ command_fields rest.start rest.tree
-left_fields left rest e taken =
-    ap (command_fields left.start) taken.0
-    ∙ ap (λ (n : ℕ). record { entry = entry e.name e.tree; start = n } ∷ command_fields (n + length (value_bytes e.tree)) rest.tree) (sym taken.1)
-    ∙ ap (λ (n : ℕ). record { entry = entry e.name e.tree; start = e.start } ∷ command_fields n rest.tree) (sym taken.2)
+-- the station of a command by the tests of its name
+abbrev station_by : (i u d f p : Bool) → Station
+station_by i u d f p = cond i Insert (cond u Update (cond d Delete (cond f Find (cond p Passed Unknown))))
 
--- the first refusal of what is left
-pub left_refusal : (db command : List ℕ) (seen : Bool) (left rest : At) (e : Elem) → TakesElement left (Some e) rest
-    → later_refusal db command seen (command_fields left.start left.tree)
-    ≡ or_else (refused_at e.start (least (later_reasons db command seen (entry e.name e.tree)))) (later_refusal db command (seen || is_db e.name) (command_fields rest.start rest.tree))
-left_refusal db command seen left rest e taken = ap (later_refusal db command seen) (left_fields left rest e taken)
+marked_by : (i u d f p : Bool) → is_marked (station_by i u d f p) ≡ (i || (u || (d || f)))
+marked_by true u d f p = refl
+marked_by false true d f p = refl
+marked_by false false true f p = refl
+marked_by false false false true p = refl
+marked_by false false false false true = refl
+marked_by false false false false false = refl
 
--- no collection is a view
-no_view : (field : CommandField) (fields : List CommandField) (at : ℕ) → view_refusal (is_view (named_by [] (field ∷ fields))) at ≡ None
-no_view field fields at =
-    elim (is_string field.entry) as (λ b. view_refusal (is_view (cond b (collection_of [] (text_of field.entry.raw)) None)) at ≡ None) [ true ↦ refl | false ↦ refl ]
+-- which commands are marked
+pub marked_name : (name : List ℕ)
+    → is_marked_name name ≡ (named name (codes "insert") || (named name (codes "update") || (named name (codes "delete") || named name (codes "find"))))
+marked_name name =
+    marked_by (named name (codes "insert")) (named name (codes "update")) (named name (codes "delete")) (named name (codes "find")) (is_passed name)
 
-nothing_behind : (refusal : Option Refusal) → or_else refusal None ≡ refusal
-nothing_behind None = refl
-nothing_behind (Some r) = refl
+-- the names of elder siblings
+
+same_name : (x y : List ℕ) (a b : Bool) → named x y ≡ a → named y x ≡ b → a ≡ b
+unfolding named
+same_name x y true true p q = refl
+same_name x y true false p q = sym ((bytes_eq-Decides y x).1 (sym ((bytes_eq-Decides x y).0 p))) ∙ q
+same_name x y false true p q = sym p ∙ (bytes_eq-Decides x y).1 (sym ((bytes_eq-Decides y x).0 q))
+same_name x y false false p q = refl
+
+either_either : (a b c : Bool) → (a || (b || c)) ≡ ((a || b) || c)
+either_either true b c = refl
+either_either false b c = refl
+
+either_none : (a : Bool) → (a || false) ≡ a
+either_none true = refl
+either_none false = refl
+
+-- `$db` stands among names and one more
+seen_more : (others : List (List ℕ)) (name : List ℕ)
+    → is_among (codes "$db") (others ++ name ∷ []) ≡ (is_among (codes "$db") others || is_db name)
+unfolding is_db
+seen_more [] name = either_none (named (codes "$db") name) ∙ same_name (codes "$db") name _ _ refl refl
+seen_more (other ∷ others) name =
+    ap (λ (b : Bool). named (codes "$db") other || b) (seen_more others name)
+    ∙ either_either (named (codes "$db") other) (is_among (codes "$db") others) (named name (codes "$db"))
+
+again_by : (name : List ℕ) (others : List (List ℕ)) (x b : Bool) → named name (codes "$db") ≡ b
+    → (b && (is_among name others || x)) ≡ (b && (is_among (codes "$db") others || x))
+unfolding named
+again_by name others x true h = ap (λ (n : List ℕ). is_among n others || x) ((bytes_eq-Decides name (codes "$db")).0 h)
+again_by name others x false h = refl
+
+-- a field named `$db` stands for the second time where `$db` was seen
+again_db : (name : List ℕ) (others : List (List ℕ)) (x : Bool)
+    → (is_db name && (is_among name others || x)) ≡ (is_db name && (is_among (codes "$db") others || x))
+unfolding is_db
+again_db name others x = again_by name others x (named name (codes "$db")) refl
+
+-- the fields of a marked command
+
+marked_offence : (db : List ℕ) (s : Station) (elder : List (List ℕ)) (e : Entry) → is_marked s ≡ true
+    → target_offence db s elder e ≡ least (of_field db elder e)
+unfolding target_offence
+marked_offence db Insert elder e h = refl
+marked_offence db Update elder e h = refl
+marked_offence db Delete elder e h = refl
+marked_offence db Find elder e h = refl
+marked_offence db _ elder e h = absurd (false≢true h)
+
+later_reason : (db command : List ℕ) (others : List (List ℕ)) (e : Entry)
+    → least (of_field db (command ∷ others) e) ≡ least (later_reasons db command (is_among (codes "$db") others) e)
+later_reason db command others e =
+    ap
+    (λ (b : Bool). least
+    (when (named e.name command) BadField
+    ++ when b BadField
+    ++ when (is_db e.name && is_string e && not (named (text_of e.raw) db)) WrongDb))
+    (again_db e.name others (not (is_string e)))
+
+-- later fields behind these
+later_fields : (db : List ℕ) (s : Station) (at : ℕ) (command : List ℕ) (others : List (List ℕ)) (is : Items) → is_marked s ≡ true
+    → fields_refusal (target_of db) s at (command ∷ others) is ≡ later_refusal db command (is_among (codes "$db") others) at is
+later_fields db s at command others no_items h = refl
+later_fields db s at command others (item name t is) h =
+    let behind = at + (2 + length name) + length (value_bytes t) in
+    ap₂ (λ (r : Option Reason) (later : Option Refusal). or_else (refused_at (at + (2 + length name)) r) later)
+    (marked_offence db s (command ∷ others) (entry name t) h ∙ later_reason db command others (entry name t))
+    (later_fields db s behind command (others ++ name ∷ []) is h
+    ∙ ap (λ (seen : Bool). later_refusal db command seen behind is) (seen_more others name))
+
+by_command : (db name : List ℕ) (t : Tree) (is : Items) (n m : ℕ) (i u d f p : Bool) → p ≡ false
+    → or_else (refused_at n (target_offence db (station_by i u d f p) [] (entry name t))) (fields_refusal (target_of db) (station_by i u d f p) m (name ∷ []) is)
+    ≡ or_else
+    (refused_at n
+    (least
+    (when (not (is_marked (station_by i u d f p) || p)) NotACommand
+    ++ when (is_marked (station_by i u d f p) && (not (is_string (entry name t)) || is_empty (text_of (entry name t).raw))) BadField)))
+    (later_refusal db name false m is)
+unfolding target_offence
+by_command db name t is n m true u d f p h = ap (or_else _) (later_fields db Insert m name [] is refl)
+by_command db name t is n m false true d f p h = ap (or_else _) (later_fields db Update m name [] is refl)
+by_command db name t is n m false false true f p h = ap (or_else _) (later_fields db Delete m name [] is refl)
+by_command db name t is n m false false false true p h = ap (or_else _) (later_fields db Find m name [] is refl)
+by_command db name t is n m false false false false true h = absurd (false≢true (sym h))
+by_command db name t is n m false false false false false h = refl
+
+root_free : (db : List ℕ) (name : List ℕ) (t : Tree) (is : Items) → target_of db (command_visit (item name t is)) ≡ None
+unfolding target_offence
+root_free db name t is = refl
+
+-- the target pass over a command that doesn't pass
+pub fields_told : (db : List ℕ) (at : ℕ) (name : List ℕ) (t : Tree) (is : Items) → is_passed name ≡ false
+    → target_verdict db at (item name t is)
+    ≡ or_else (refused_at (at + 4 + (2 + length name)) (least (first_reasons (entry name t))))
+    (later_refusal db name false (at + 4 + (2 + length name) + length (value_bytes t)) is)
+fields_told db at name t is h =
+    let c : Items = item name t is in
+    let fields = fields_refusal (target_of db) (command_of (name ∷ names_of is)) (at + 4) [] c in
+    command_alone (target_of db) [] at c (target_shallow db)
+    ∙ ap (λ (r : Option Reason). or_else (refused_at 0 r) fields) (root_free db name t is)
+    ∙ by_command db name t is (at + 4 + (2 + length name)) (at + 4 + (2 + length name) + length (value_bytes t))
+    (named name (codes "insert")) (named name (codes "update")) (named name (codes "delete")) (named name (codes "find")) (is_passed name) h
 
 first_false : (p q : Bool) → (p || q) ≡ false → q ≡ false
 first_false true q e = absurd (false≢true (sym e))
@@ -76,7 +177,7 @@ first_false false q e = e
 
 -- the document without a field is no command
 pub target_none : (db : List ℕ) (at : ℕ) (c : Items) → c ≡ no_items → target_refusal db at c ≡ Some (record { reason = NotACommand; at = 0 })
-unfolding target
+unfolding target_offence
 target_none db at c e = ap (target_refusal db at) e
 
 -- commands that aren't built are refused before all else
@@ -84,25 +185,20 @@ pub target_unbuilt : (db : List ℕ) (at : ℕ) (c : Items) (left rest : At) (e 
     → target_refusal db at c ≡ Some (record { reason = NotBuilt; at = 0 })
 target_unbuilt db at c left rest e taken is h =
     ap (target_refusal db at) (is ∙ taken.0)
-    ∙ ap (λ (b : Bool). or_else (cond b (Some (record { reason = NotBuilt; at = 0 })) None) (target db [] at (item e.name e.tree rest.tree))) h
+    ∙ ap (λ (b : Bool). or_else (cond b (Some (record { reason = NotBuilt; at = 0 })) None) (target_verdict db at (item e.name e.tree rest.tree))) h
 
 -- the others by their fields
 pub target_built : (db : List ℕ) (at : ℕ) (c : Items) (left rest : At) (e : Elem) → TakesElement left (Some e) rest → c ≡ left.tree → left.start ≡ at + 4 → is_unbuilt e.name ≡ false
     → target_refusal db at c
-    ≡ or_else (refused_at e.start (least (first_reasons (entry e.name e.tree)))) (later_refusal db e.name false (command_fields rest.start rest.tree))
-unfolding target
+    ≡ or_else (refused_at e.start (least (first_reasons (entry e.name e.tree)))) (later_refusal db e.name false rest.start rest.tree)
 target_built db at c left rest e taken is begun h =
-    let first : CommandField = record { entry = entry e.name e.tree; start = e.start } in
-    let others = command_fields rest.start rest.tree in
-    let refusal = or_else (refused_at e.start (least (first_reasons (entry e.name e.tree)))) (later_refusal db e.name false others) in
-    let fields : command_fields (at + 4) (item e.name e.tree rest.tree) ≡ first ∷ others =
-    sym (ap (command_fields (at + 4)) taken.0) ∙ ap (λ (n : ℕ). command_fields n left.tree) (sym begun) ∙ left_fields left rest e taken in
+    let first = least (first_reasons (entry e.name e.tree)) in
+    let start : at + 4 + (2 + length e.name) ≡ e.start = ap (λ (n : ℕ). n + (2 + length e.name)) (sym begun) ∙ sym taken.1 in
+    let behind : at + 4 + (2 + length e.name) + length (value_bytes e.tree) ≡ rest.start = ap (λ (n : ℕ). n + length (value_bytes e.tree)) start ∙ sym taken.2 in
     ap (target_refusal db at) (is ∙ taken.0)
-    ∙ ap (λ (b : Bool). or_else (cond b (Some (record { reason = NotBuilt; at = 0 })) None) (target db [] at (item e.name e.tree rest.tree))) h
-    ∙ ap (target_of db []) fields
-    ∙ ap (λ (b : Bool). cond b None (or_else refusal (view_refusal (is_view (named_by [] (first ∷ others))) e.start))) (first_false _ _ h)
-    ∙ ap (or_else refusal) (no_view first others e.start)
-    ∙ nothing_behind refusal
+    ∙ ap (λ (b : Bool). or_else (cond b (Some (record { reason = NotBuilt; at = 0 })) None) (target_verdict db at (item e.name e.tree rest.tree))) h
+    ∙ fields_told db at e.name e.tree rest.tree (first_false _ _ h)
+    ∙ ap₂ (λ (n m : ℕ). or_else (refused_at n first) (later_refusal db e.name false m rest.tree)) start behind
 
 -- a built command whose first field isn't refused is an insert
 pub insert_left : (marked insert passed form : Bool) → ((marked && not insert) || passed) ≡ false

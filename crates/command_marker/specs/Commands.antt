@@ -12,8 +12,9 @@ use Rattle.encrypt_schema.specs.Cursors.{StandsForPath}
 use Rattle.encrypt_schema.specs.Names.{named}
 use Rattle.encrypt_schema.specs.Offences.{text_of}
 use Rattle.encrypt_schema.specs.Row.{Row}
-use Rattle.encrypt_schema.specs.Targets.{is_marked, is_passed, target}
-use Rattle.encrypt_schema.specs.Visits.{raw_of, Refusal, or_else, content_verdict, roles}
+use Rattle.encrypt_schema.specs.Stations.{is_passed}
+use Rattle.encrypt_schema.specs.Visits.{raw_of, Refusal, or_else, target_verdict, content_verdict, roles}
+use Rattle.command_marker.specs.Fields.{is_marked_name}
 use Rattle.command_marker.specs.declared.destination.Target.{Target}
 use Rattle.command_marker.specs.declared.destination.Target.TheVariants as targets
 
@@ -29,17 +30,16 @@ is_command word (item name t is) = named name word
 
 -- commands that aren't built yet
 abbrev pub is_unbuilt : List ℕ → Bool
-is_unbuilt name = (is_marked name && not (named name (codes "insert"))) || is_passed name
+is_unbuilt name = (is_marked_name name && not (named name (codes "insert"))) || is_passed name
 
 -- they are refused before all else
 abbrev pub unbuilt : Items → Option Refusal
 unbuilt no_items = None
 unbuilt (item name t is) = if is_unbuilt name then Some (record { reason = reasons.NotBuilt; at = 0 }) else None
 
--- the verdict on the fields of a command that begins at `at`, by themselves, on whatever collection: no collection
--- is a view
+-- the verdict on a command that begins at `at` and on its fields, by themselves, whatever its collection is
 abbrev pub target_refusal : List ℕ → ℕ → Items → Option Refusal
-target_refusal db at c = or_else (unbuilt c) (target db [] at c)
+target_refusal db at c = or_else (unbuilt c) (target_verdict db at c)
 
 -- the text in a command's first field: the name of its collection
 abbrev pub collection_in : Items → List ℕ

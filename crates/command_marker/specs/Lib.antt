@@ -1,6 +1,7 @@
 pub mod Marking
 pub mod Marked
 pub mod Reply
+pub mod Fields
 pub mod Commands
 pub mod Splices
 pub mod Written

@@ -1,5 +1,5 @@
 -- The reply of a marking service: two flags, the command with its markings, and `ok`
-use Rattle.std.specs.Prelude.{◌≡◌, ℕ, ◌<◌, ◌≤◌, Bool, false, nat_lt, List, [], ◌∷◌, codes, length, Result, Ok, Err, Vec, if◌then◌else◌}
+use Rattle.std.specs.Prelude.{◌≡◌, ℕ, ◌<◌, ◌≤◌, Bool, false, not, ◌&&◌, nat_lt, List, [], ◌∷◌, codes, length, Result, Ok, Err, Vec, if◌then◌else◌}
 use Rattle.std.specs.Global.{Global}
 use Rattle.bson_tree.specs.Tree.{Tree, Items, leaf, node, no_items, item}
 use Rattle.bson_tree.specs.Spelling.{doc_bytes}
@@ -7,6 +7,7 @@ use Rattle.encrypt_schema.specs.Row.{Row}
 use Rattle.encrypt_schema.specs.Visits.{roles}
 use Rattle.command_marker.specs.declared.stop.ReplyFault.{ReplyFault}
 use Rattle.command_marker.specs.declared.stop.ReplyFault.TheVariants as faults
+use Rattle.command_marker.specs.Commands.{passes}
 use Rattle.command_marker.specs.Marked.{marked}
 
 abbrev pub flag : Bool → Tree
@@ -27,9 +28,13 @@ reply_fields marked ruled command =
 abbrev pub reply : Bool → Bool → Items → List ℕ
 reply marked ruled command = doc_bytes (reply_fields marked ruled command)
 
--- the reply to a command under these rules: whether a value is marked, whether there are rules, the marked command
+-- the second flag: rules concern a command, which are there, where it doesn't pass unchanged
+abbrev pub is_ruled : List Row → Items → Bool
+is_ruled rows c = nat_lt 0 (length rows) && not (passes c)
+
+-- the reply to a command under these rules: whether a value is marked, whether rules concern it, the marked command
 unfoldable pub reply_to : List Row → Items → List ℕ
-reply_to rows c = reply (nat_lt 0 (length (roles rows 0 c))) (nat_lt 0 (length rows)) (marked rows c)
+reply_to rows c = reply (nat_lt 0 (length (roles rows 0 c))) (is_ruled rows c) (marked rows c)
 
 -- the reply to a command that no rule concerns
 unfoldable pub reply_clear_to : Items → List ℕ

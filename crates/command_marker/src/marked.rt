@@ -1,8 +1,8 @@
 //! Commands with the marks of their protected values.
 
-ghost use Rattle.std.specs.Prelude.{◌≡◌, codes, true};
-ghost use Rattle.encrypt_schema.specs.Visits.{roles};
-ghost use Rattle.command_marker.specs.Commands.{MarksAs, TellsMarks, is_command};
+ghost use Rattle.std.specs.Prelude.{◌≡◌, None, codes, false, true};
+ghost use Rattle.encrypt_schema.specs.Visits.{content_verdict, roles};
+ghost use Rattle.command_marker.specs.Commands.{MarksAs, TellsMarks, is_command, passes};
 
 use crate::contents::mark_contents;
 use bson_codec::RawDoc;
@@ -19,13 +19,13 @@ pub struct Marked<'a> {
 }
 
 impl<'a> Model for Marked<'a> {
-    ghost use Rattle.std.specs.Prelude.{◌≡◌};
-    ghost use Rattle.encrypt_schema.specs.Visits.{roles};
-    ghost use Rattle.command_marker.specs.Commands.{Command};
+    ghost use Rattle.std.specs.Prelude.{◌≡◌, false};
+    ghost use Rattle.encrypt_schema.specs.Visits.{content_verdict, roles};
+    ghost use Rattle.command_marker.specs.Commands.{Command, passes};
 
     ghost Value = { Command };
 
-    ghost use Rattle.std.specs.Prelude.{List, refl};
+    ghost use Rattle.std.specs.Prelude.{List, None, refl};
     ghost use Rattle.std.specs.Coded.{code_by, coded×};
     ghost use Rattle.bson_codec.specs.Borrowed.{At, coded_at};
     ghost use Rattle.encrypt_schema.specs.Row.{Row};
@@ -35,20 +35,22 @@ impl<'a> Model for Marked<'a> {
 
     ghost view = { λ m. record { rows = m.rows.now; command = m.command } };
 
-    ghost invariant = { λ m. m.marks ≡ roles m.rows.now m.command.start m.command.tree };
+    ghost invariant = { λ m. (m.marks ≡ roles m.rows.now m.command.start m.command.tree) × (content_verdict m.rows.now m.command.start m.command.tree ≡ None) × (passes m.command.tree ≡ false) };
 }
 
 impl<'a> Marked<'a> {
-    /// The marks of the protected values, in reading order.
+    /// The marks of the protected values, in reading order. None of the command's contents is refused.
     pub fn marks(&self) -> &Marks
         ensures marks { result.now ≡ roles self.now.rows self.now.command.start self.now.command.tree }
+        ensures accepted { content_verdict self.now.rows self.now.command.start self.now.command.tree ≡ None }
     {
         &self.marks
     }
 
-    /// The command.
+    /// The command, which doesn't pass unchanged.
     pub fn command(&self) -> RawDoc<'a>
         ensures command { result ≡ self.now.command }
+        ensures marked { passes self.now.command.tree ≡ false }
     {
         self.command.again()
     }

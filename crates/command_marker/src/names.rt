@@ -2,8 +2,10 @@
 
 ghost use Rattle.std.specs.Prelude.{◌≡◌, codes};
 ghost use Rattle.encrypt_schema.specs.Names.{named};
-ghost use Rattle.encrypt_schema.specs.Targets.{is_db, is_marked, is_passed};
+ghost use Rattle.encrypt_schema.specs.Offences.{is_db};
+ghost use Rattle.encrypt_schema.specs.Stations.{is_passed};
 ghost use Rattle.command_marker.specs.Commands.{is_unbuilt};
+ghost use Rattle.command_marker.specs.Fields.{is_marked_name};
 
 use encrypt_schema::is_named;
 
@@ -15,9 +17,9 @@ pub(crate) fn is_insert(name: &[u8]) -> bool
 }
 
 /// Whether this is the name of a command whose values are protected.
-#[tactic(auto, unfolding(encrypt_schema::specs::Targets::is_marked))]
+#[tactic(auto, using(crate::proofs::Targets::marked_name))]
 pub(crate) fn is_marked(name: &[u8]) -> bool
-    ensures { result ≡ is_marked name.now }
+    ensures { result ≡ is_marked_name name.now }
 {
     is_insert(name)
         || is_named(name, b"update")
@@ -26,7 +28,7 @@ pub(crate) fn is_marked(name: &[u8]) -> bool
 }
 
 /// Whether this is the name of a command that passes unchanged.
-#[tactic(auto, unfolding(encrypt_schema::specs::Targets::is_passed))]
+#[tactic(auto, unfolding(encrypt_schema::specs::Stations::is_passed))]
 pub(crate) fn is_passed(name: &[u8]) -> bool
     ensures { result ≡ is_passed name.now }
 {
@@ -65,7 +67,7 @@ pub(crate) fn is_unbuilt(name: &[u8]) -> bool
 }
 
 /// Whether this is the name of the database's field.
-#[tactic(auto, unfolding(encrypt_schema::specs::Targets::is_db))]
+#[tactic(auto, unfolding(encrypt_schema::specs::Offences::is_db))]
 pub(crate) fn is_db(name: &[u8]) -> bool
     ensures { result ≡ is_db name.now }
 {

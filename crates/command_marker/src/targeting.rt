@@ -2,10 +2,10 @@
 
 ghost use Rattle.std.specs.Prelude.{◌≡◌, ◌||◌, ◌&&◌, not, true, false};
 ghost use Rattle.encrypt_schema.specs.Names.{named};
-ghost use Rattle.encrypt_schema.specs.Offences.{least, text_of};
-ghost use Rattle.encrypt_schema.specs.Targets.{command_fields, first_reasons, is_empty, is_string, later_reasons, later_refusal};
+ghost use Rattle.encrypt_schema.specs.Offences.{is_empty, is_string, least, text_of};
 ghost use Rattle.encrypt_schema.specs.Visits.{entry, raw_of};
 ghost use Rattle.command_marker.specs.Commands.{AimsAt, Refuses};
+ghost use Rattle.command_marker.specs.Fields.{first_reasons, later_reasons, later_refusal};
 
 use crate::destination::Target;
 use crate::names::{is_db, is_marked, is_passed, is_unbuilt};
@@ -66,7 +66,7 @@ fn first_reason(field: &RawItem<'_>) -> Option<Reason>
 
 /// The first refusal of the later fields of a command of this name, on this database.
 fn check_fields(db: &[u8], command: &[u8], fields: RawIter<'_>) -> Result<(), MarkFault>
-    ensures { Refuses (later_refusal db.now command.now false (command_fields fields.entry.start fields.entry.tree)) result }
+    ensures { Refuses (later_refusal db.now command.now false fields.entry.start fields.entry.tree) result }
 {
     let mut seen = false;
     for field in fields {

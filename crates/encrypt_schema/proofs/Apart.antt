@@ -7,13 +7,13 @@ use Rattle.bson_tree.specs.Spelling.{framed, value_bytes, items_bytes, doc_bytes
 use Rattle.encrypt_schema.specs.declared.marks.Mark.{Mark}
 use Rattle.encrypt_schema.specs.Row.{Row}
 use Rattle.encrypt_schema.specs.Stations.{Station, Outside, Store, Compare, station, has_role}
-use Rattle.encrypt_schema.specs.Visits.{is_payload, entry, command_entry, Visit, visit, visits, command_visit, mark_at, marks, roles}
+use Rattle.encrypt_schema.specs.Visits.{is_payload, entry, command_entry, Visit, visit, visits, command_visit, mark_at, marks, roles, target_of}
 use Rattle.encrypt_schema.specs.Skeletons.{hole, plain, branch, skeleton_in, skeletons, skeleton, width_of, holes_in, holes, hole_at, AreApart}
 use Rattle.encrypt_schema.proofs.Tables.{command_without_role}
 use Rattle.encrypt_schema.proofs.Widths.{items_length, width_kept}
 use Rattle.bson_tree.proofs.Sizes.{framed_size}
 use Rattle.encrypt_schema.proofs.Worlds.{shown_in, shown}
-use Rattle.encrypt_schema.proofs.Silence.{marks_append, cut}
+use Rattle.encrypt_schema.proofs.Silence.{marks_append, cut, target_quiet}
 
 -- marks between two offsets stand between wider ones too
 wider : (from low : ℕ) (ms : List Mark) (high to : ℕ) → from ≤ low → high ≤ to → AreApart low ms high
@@ -107,7 +107,7 @@ pub roles_shown : (rows : List Row) (at : ℕ) (c : Items)
 roles_shown rows at c =
     let s = station rows Outside (command_entry c) in
     ap (λ (ms : List Mark). ms ++ marks rows (visits rows s (at + 4) [] c)) (command_mark rows c s (command_without_role rows (command_entry c)))
-    ∙ sym (cut rows s (at + 4) [] c).marked
+    ∙ sym (cut (target_of []) rows s (at + 4) [] c (target_quiet [])).marked
 
 -- the protected places of a command stand apart between its length field and its end: in reading order, none
 -- twice, none inside another

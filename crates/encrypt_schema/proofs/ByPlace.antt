@@ -1,7 +1,8 @@
 -- The places of a command, each read from its chain, are its places in reading order.
-use Rattle.std.proofs.Common.{◌≡◌, ℕ, zero, suc, ◌+◌, List, [], ◌∷◌, ◌++◌, length, map, Option, Some, None, refl, sym, ap, ◌∙◌, add-one}
+use Rattle.std.proofs.Common.{◌≡◌, ℕ, zero, suc, ◌+◌, List, [], ◌∷◌, ◌++◌, length, map, Option, Some, None, Bool, true, false, refl, sym, ap, ap₂, ◌∙◌, add-one}
 use Rattle.std.specs.Prelude.{unwrap_or, option_map, option_and_then, flat_map}
 use Rattle.std.specs.Option.{option_map_or}
+use Rattle.std.proofs.lemmas.Bool.{false≢true}
 use Rattle.std.proofs.lemmas.List.{map-append}
 use Rattle.std.proofs.lemmas.List.Folds.{flat_map-map}
 use Rattle.std.proofs.lemmas.Simd.{map-map}
@@ -11,9 +12,11 @@ use Rattle.bson_tree.specs.Spelling.{value_bytes}
 use Rattle.encrypt_schema.specs.declared.marks.Mark.{Mark}
 use Rattle.encrypt_schema.specs.declared.reason.Reason.{Reason}
 use Rattle.encrypt_schema.specs.Row.{Row}
+use Rattle.encrypt_schema.specs.Collection.{Collection}
+use Rattle.encrypt_schema.specs.Offences.{offence}
 use Rattle.encrypt_schema.specs.Stations.{Station, Outside, station}
-use Rattle.encrypt_schema.specs.Visits.{Refusal, refusal, or_else, first_refusal, entry, command_entry, Visit, visit, visits_in, visits, command_visit, command_visits, station_of, offence_of, mark_at, marks, roles}
-use Rattle.encrypt_schema.specs.Chains.{Link, Chain, onward, link, chain, chain_from, station_along, offence_along, station_at, offence_at, width_at, visit_along, start_at, visit_at, mark_of, refusal_at, first_of}
+use Rattle.encrypt_schema.specs.Visits.{Refusal, refused_at, or_else, first_refusal, verdict_on, target_of, view_of, content_of, entry, command_entry, Visit, visit, visits_in, visits, command_visit, command_visits, station_of, mark_at, marks, roles}
+use Rattle.encrypt_schema.specs.Chains.{Link, Chain, onward, link, chain, chain_from, station_along, offence_along, station_at, offence_at, width_at, visit_along, start_at, visit_at, mark_of, refusal_at, first_of, first_refusal_at, verdict_at, chain_inside, part_visit_at, part_station_at, part_offence_at}
 
 -- a place below elements, with what it is carried down
 abbrev mutual
@@ -33,6 +36,11 @@ abbrev mutual
 abbrev pub visit_below : Option Visit → List Row → Station → ℕ → List (List ℕ) → Items → List ℕ → Option Visit
 visit_below o rows s at elder is [] = o
 visit_below o rows s at elder is (i ∷ place) = visit_from rows s at elder i place is
+
+-- a place inside a document
+abbrev pub is_inside : List ℕ → Bool
+is_inside [] = false
+is_inside (i ∷ place) = true
 
 -- the next sibling of a place, with what is below it
 abbrev pub next : List ℕ → List ℕ
@@ -178,14 +186,18 @@ pub station_read : (rows : List Row) (at : ℕ) (c : Items) (place : List ℕ)
 station_read rows at c place = visit_station rows (start_at at place c) (width_at place (node 3 c)) (chain place c)
 
 -- and so is its offence
-visit_offence : (rows : List Row) (start width : ℕ) (o : Option Chain)
-    → option_and_then (offence_of rows) (option_map (visit_along rows Outside start width) o) ≡ option_and_then (offence_along rows Outside) o
-visit_offence rows start width None = refl
-visit_offence rows start width (Some links) = refl
+abbrev pub offence_by : List ℕ → Option Collection → List Row → Visit → Option Reason
+offence_by db info rows v = offence db info rows v.parent v.elder v.entry
 
-pub offence_read : (rows : List Row) (at : ℕ) (c : Items) (place : List ℕ)
-    → option_and_then (offence_of rows) (visit_at rows at c place) ≡ offence_at rows c place
-offence_read rows at c place = visit_offence rows (start_at at place c) (width_at place (node 3 c)) (chain place c)
+visit_offence : (db : List ℕ) (info : Option Collection) (rows : List Row) (s : Station) (start width : ℕ) (o : Option Chain)
+    → option_and_then (offence_by db info rows) (option_map (visit_along rows s start width) o) ≡ option_and_then (offence_along db info rows s) o
+visit_offence db info rows s start width None = refl
+visit_offence db info rows s start width (Some links) = refl
+
+pub offence_read : (db : List ℕ) (info : Option Collection) (rows : List Row) (at : ℕ) (c : Items) (place : List ℕ)
+    → option_and_then (offence_by db info rows) (visit_at rows at c place) ≡ offence_at db info rows c place
+offence_read db info rows at c place =
+    visit_offence db info rows Outside (start_at at place c) (width_at place (node 3 c)) (chain place c)
 
 -- what each place is, in reading order
 pub stations_by_place : (rows : List Row) (at : ℕ) (c : Items)
@@ -198,14 +210,65 @@ stations_by_place rows at c =
     ∙ map-map f (λ (v : Visit). Some v) (command_visits rows at c)
 
 -- the offence of each place, in reading order
-pub offences_by_place : (rows : List Row) (at : ℕ) (c : Items)
-    → map (offence_at rows c) (places c) ≡ map (offence_of rows) (command_visits rows at c)
-offences_by_place rows at c =
-    let f : Option Visit → Option Reason = λ o. option_and_then (offence_of rows) o in
-    map_same (offence_at rows c) (λ p. f (visit_at rows at c p)) (places c) (λ p. sym (offence_read rows at c p))
+pub offences_by_place : (db : List ℕ) (info : Option Collection) (rows : List Row) (at : ℕ) (c : Items)
+    → map (offence_at db info rows c) (places c) ≡ map (offence_by db info rows) (command_visits rows at c)
+offences_by_place db info rows at c =
+    let f : Option Visit → Option Reason = λ o. option_and_then (offence_by db info rows) o in
+    map_same (offence_at db info rows c) (λ p. f (visit_at rows at c p)) (places c) (λ p. sym (offence_read db info rows at c p))
     ∙ sym (map-map f (visit_at rows at c) (places c))
     ∙ ap (map f) (by_place rows at c)
     ∙ map-map f (λ (v : Visit). Some v) (command_visits rows at c)
+
+-- parts
+
+-- a place inside a part, with what is carried down
+part_from : (rows : List Row) (s : Station) (at : ℕ) (is : Items) (o : Option Visit) (place : List ℕ)
+    → is_inside place ≡ true → part_visit_at rows s at is place ≡ visit_below o rows s (at + 4) [] is place
+part_from rows s at is o [] h = absurd (false≢true h)
+part_from rows s at is o (i ∷ place) h = sym (from_chain rows s (at + 4) [] i place is)
+
+map_from : {B : Type 0} (f g : List ℕ → B) (i : ℕ) (is : Items) → ((place : List ℕ) → is_inside place ≡ true → f place ≡ g place)
+    → map f (places_from i is) ≡ map g (places_from i is)
+map_from f g i no_items e = refl
+map_from {B = B} f g i (item name t is) e =
+    map-append f (map (λ (p : List ℕ). i ∷ p) (places_in t)) (places_from (i + 1) is)
+    ∙ ap (λ (xs : List B). xs ++ map f (places_from (i + 1) is)) (map-map f (λ (p : List ℕ). i ∷ p) (places_in t))
+    ∙ ap (λ (xs : List B). xs ++ map f (places_from (i + 1) is)) (map_same (λ (p : List ℕ). f (i ∷ p)) (λ (p : List ℕ). g (i ∷ p)) (places_in t) (λ p. e (i ∷ p) refl))
+    ∙ ap (λ (xs : List B). xs ++ map f (places_from (i + 1) is)) (sym (map-map g (λ (p : List ℕ). i ∷ p) (places_in t)))
+    ∙ ap (λ (xs : List B). map g (map (λ (p : List ℕ). i ∷ p) (places_in t)) ++ xs) (map_from f g (i + 1) is e)
+    ∙ sym (map-append g (map (λ (p : List ℕ). i ∷ p) (places_in t)) (places_from (i + 1) is))
+
+-- the places inside a part, each read from its chain, are those of one descent
+pub part_by_place : (rows : List Row) (s : Station) (at : ℕ) (is : Items)
+    → map (part_visit_at rows s at is) (places_from 0 is) ≡ map Some (visits rows s (at + 4) [] is)
+part_by_place rows s at is =
+    map_from (part_visit_at rows s at is) (visit_below None rows s (at + 4) [] is) 0 is (part_from rows s at is None)
+    ∙ places_below None rows s (at + 4) [] is
+
+part_visit_station : (rows : List Row) (s : Station) (start width : ℕ) (o : Option Chain)
+    → option_map (station_of rows) (option_map (visit_along rows s start width) o) ≡ option_map (station_along rows s) o
+part_visit_station rows s start width None = refl
+part_visit_station rows s start width (Some links) = refl
+
+-- and so are their stations
+pub part_stations : (rows : List Row) (s : Station) (at : ℕ) (is : Items)
+    → map (part_station_at rows s is) (places_from 0 is) ≡ map (λ v. Some (station_of rows v)) (visits rows s (at + 4) [] is)
+part_stations rows s at is =
+    let f : Option Visit → Option Station = λ o. option_map (station_of rows) o in
+    map_same (part_station_at rows s is) (λ p. f (part_visit_at rows s at is p)) (places_from 0 is) (λ p. sym (part_visit_station rows s _ _ (chain_inside p is)))
+    ∙ sym (map-map f (part_visit_at rows s at is) (places_from 0 is))
+    ∙ ap (map f) (part_by_place rows s at is)
+    ∙ map-map f (λ (v : Visit). Some v) (visits rows s (at + 4) [] is)
+
+-- and their offences
+pub part_offences : (db : List ℕ) (info : Option Collection) (rows : List Row) (s : Station) (at : ℕ) (is : Items)
+    → map (part_offence_at db info rows s is) (places_from 0 is) ≡ map (offence_by db info rows) (visits rows s (at + 4) [] is)
+part_offences db info rows s at is =
+    let f : Option Visit → Option Reason = λ o. option_and_then (offence_by db info rows) o in
+    map_same (part_offence_at db info rows s is) (λ p. f (part_visit_at rows s at is p)) (places_from 0 is) (λ p. sym (visit_offence db info rows s _ _ (chain_inside p is)))
+    ∙ sym (map-map f (part_visit_at rows s at is) (places_from 0 is))
+    ∙ ap (map f) (part_by_place rows s at is)
+    ∙ map-map f (λ (v : Visit). Some v) (visits rows s (at + 4) [] is)
 
 flat_marks : (rows : List Row) (vs : List Visit)
     → marks rows vs ≡ flat_map (λ v. mark_at (station_of rows v) v) vs
@@ -221,17 +284,27 @@ roles_by_place rows at c =
     ∙ (sym (flat_map-map f (λ (v : Visit). Some v) (command_visits rows at c))
     ∙ (ap (flat_map f) (sym (by_place rows at c)) ∙ flat_map-map f (visit_at rows at c) (places c)))
 
-first_in : (rows : List Row) (vs : List Visit) → first_refusal rows vs ≡ first_of (map (refusal rows) vs)
-first_in rows [] = refl
-first_in rows (v ∷ vs) = ap (or_else (refusal rows v)) (first_in rows vs)
+-- the refusal of a place in a pass
+abbrev pub refusal : (Visit → Option Reason) → Visit → Option Refusal
+refusal pass v = refused_at v.start (pass v)
 
--- the verdict on the contents of a command is the refusal of the first of `places` that has an offence, each
--- read from its chain
-pub verdict_by_place : (rows : List Row) (at : ℕ) (c : Items)
-    → first_refusal rows (command_visits rows at c) ≡ first_of (map (refusal_at rows at c) (places c))
-verdict_by_place rows at c =
-    let f : Option Visit → Option Refusal = λ o. option_and_then (refusal rows) o in
-    let read : map f (map (visit_at rows at c) (places c)) ≡ map (refusal_at rows at c) (places c) = map-map f (visit_at rows at c) (places c) in
-    let own : map f (map Some (command_visits rows at c)) ≡ map (refusal rows) (command_visits rows at c) = map-map f (λ (v : Visit). Some v) (command_visits rows at c) in
-    first_in rows (command_visits rows at c)
+first_in : (pass : Visit → Option Reason) (vs : List Visit) → first_refusal pass vs ≡ first_of (map (refusal pass) vs)
+first_in pass [] = refl
+first_in pass (v ∷ vs) = ap (or_else (refusal pass v)) (first_in pass vs)
+
+-- the first refusal of a pass is that of the first of `places` that it refuses, each read from its chain
+pub refusal_by_place : (pass : Visit → Option Reason) (rows : List Row) (at : ℕ) (c : Items)
+    → first_refusal pass (command_visits rows at c) ≡ first_refusal_at pass rows at c
+refusal_by_place pass rows at c =
+    let f : Option Visit → Option Refusal = λ o. option_and_then (refusal pass) o in
+    let read : map f (map (visit_at rows at c) (places c)) ≡ map (refusal_at pass rows at c) (places c) = map-map f (visit_at rows at c) (places c) in
+    let own : map f (map Some (command_visits rows at c)) ≡ map (refusal pass) (command_visits rows at c) = map-map f (λ (v : Visit). Some v) (command_visits rows at c) in
+    first_in pass (command_visits rows at c)
     ∙ ap first_of (sym own ∙ (ap (map f) (sym (by_place rows at c)) ∙ read))
+
+-- and so is the verdict of all passes
+pub verdict_by_place : (db : List ℕ) (info : Option Collection) (rows : List Row) (at : ℕ) (c : Items)
+    → verdict_on db info rows (command_visits rows at c) ≡ verdict_at db info rows at c
+verdict_by_place db info rows at c =
+    ap₂ or_else (refusal_by_place (target_of db) rows at c)
+    (ap₂ or_else (refusal_by_place (view_of info) rows at c) (refusal_by_place (content_of rows) rows at c))

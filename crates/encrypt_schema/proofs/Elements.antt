@@ -10,11 +10,11 @@ use Rattle.encrypt_schema.specs.declared.marks.MarkFault.TheVariants as faults
 use Rattle.encrypt_schema.specs.Row.{Row}
 use Rattle.encrypt_schema.specs.Names.{named, is_among}
 use Rattle.encrypt_schema.specs.Stations.{Station, station, is_silent}
-use Rattle.encrypt_schema.specs.Offences.{offence}
+use Rattle.encrypt_schema.specs.Offences.{ruled_offence}
 use Rattle.encrypt_schema.specs.declared.reason.Reason.{Reason}
-use Rattle.encrypt_schema.specs.Visits.{entry, Visit, visits_in, visits, mark_at, marks, Refusal, refusal, refused_at, first_refusal, or_else}
-use Rattle.encrypt_schema.specs.Walking.{element_visit, element_visits, Told, Marked, Begins}
-use Rattle.encrypt_schema.proofs.Silence.{marks_append, refusal_append, silent_inside}
+use Rattle.encrypt_schema.specs.Visits.{entry, Visit, visits_in, visits, mark_at, marks, ruled_of, Refusal, refused_at, first_refusal, or_else}
+use Rattle.encrypt_schema.specs.Walking.{element_visit, element_visits, Told, MarksPlaces, Begins}
+use Rattle.encrypt_schema.proofs.Silence.{marks_append, refusal_append, silent_inside, ruled_quiet}
 
 -- the names before the next element
 pub elder_next : (k : ℕ) (names : List (List ℕ)) (name : List ℕ) (rest : List (List ℕ)) → drop k names ≡ name ∷ rest
@@ -57,28 +57,28 @@ told_as own other refused refusal before after result p q told =
 
 -- an element that isn't looked into has its own mark, if any, and no refusal
 pub own_told : (rows : List Row) (s u : Station) (elder : List (List ℕ)) (e : Elem) (before after : List Mark) (result : Result _ MarkFault)
-    → u ≡ station rows s (entry e.name e.tree) → None ≡ offence rows s elder (entry e.name e.tree) → is_silent u ≡ true
+    → u ≡ station rows s (entry e.name e.tree) → None ≡ ruled_offence rows s elder (entry e.name e.tree) → is_silent u ≡ true
     → Told (mark_at u (element_visit s elder e)) None before after result
-    → Marked rows (element_visits rows s elder e) before after result
+    → MarksPlaces rows (element_visits rows s elder e) before after result
 own_told rows s u elder e before after result stands free quiet told =
     let v : Visit = element_visit s elder e in
-    let inside = silent_inside rows u e.start e.tree quiet in
+    let inside = silent_inside (ruled_of rows) rows u e.start e.tree (ruled_quiet rows) quiet in
     told_as (mark_at u v) _ None _ before after result
     (sym (append-nil (mark_at u v))
     ∙ ap (λ (ms : List Mark). mark_at u v ++ ms) (sym inside.0)
     ∙ ap (λ (x : Station). mark_at x v ++ marks rows (visits_in rows x e.start e.tree)) stands)
     (sym inside.1
-    ∙ ap (λ (x : Station). first_refusal rows (visits_in rows x e.start e.tree)) stands
-    ∙ ap (λ (r : Option Reason). or_else (refused_at e.start r) (first_refusal rows (visits_in rows (station rows s (entry e.name e.tree)) e.start e.tree))) free)
+    ∙ ap (λ (x : Station). first_refusal (ruled_of rows) (visits_in rows x e.start e.tree)) stands
+    ∙ ap (λ (r : Option Reason). or_else (refused_at e.start r) (first_refusal (ruled_of rows) (visits_in rows (station rows s (entry e.name e.tree)) e.start e.tree))) free)
     told
 
 -- behind an element without a refusal the others are left
 pub goes_on : (rows : List Row) (s : Station) (elder next : List (List ℕ)) (left rest : At) (e : Elem) (before after whole : List Mark) (first : Option Refusal)
     → TakesElement left (Some e) rest → next ≡ elder ++ e.name ∷ []
-    → (after ≡ before ++ marks rows (element_visits rows s elder e)) × (first_refusal rows (element_visits rows s elder e) ≡ None)
+    → (after ≡ before ++ marks rows (element_visits rows s elder e)) × (first_refusal (ruled_of rows) (element_visits rows s elder e) ≡ None)
     → before ++ marks rows (visits rows s left.start elder left.tree) ≡ whole
-    → first_refusal rows (visits rows s left.start elder left.tree) ≡ first
-    → (after ++ marks rows (visits rows s rest.start next rest.tree) ≡ whole) × (first_refusal rows (visits rows s rest.start next rest.tree) ≡ first)
+    → first_refusal (ruled_of rows) (visits rows s left.start elder left.tree) ≡ first
+    → (after ++ marks rows (visits rows s rest.start next rest.tree) ≡ whole) × (first_refusal (ruled_of rows) (visits rows s rest.start next rest.tree) ≡ first)
 goes_on rows s elder next left rest e before after whole first taken more told marked clean =
     let here : List Visit = element_visits rows s elder e in
     let others : List Visit = visits rows s rest.start (elder ++ e.name ∷ []) rest.tree in
@@ -90,26 +90,26 @@ goes_on rows s elder next left rest e before after whole first taken more told m
           ∙ ap (λ (ms : List Mark). before ++ ms) (sym (marks_append rows here others))
           ∙ ap (λ (vs : List Visit). before ++ marks rows vs) (sym parted)
           ∙ marked,
-      ap (first_refusal rows) same
-          ∙ ap (λ (r : Option Refusal). or_else r (first_refusal rows others)) (sym told.1)
-          ∙ sym (refusal_append rows here others)
-          ∙ ap (first_refusal rows) (sym parted)
+      ap (first_refusal (ruled_of rows)) same
+          ∙ ap (λ (r : Option Refusal). or_else r (first_refusal (ruled_of rows) others)) (sym told.1)
+          ∙ sym (refusal_append (ruled_of rows) here others)
+          ∙ ap (first_refusal (ruled_of rows)) (sym parted)
           ∙ clean,
     )
 
 -- the first refusal of what is left is that of an element that has one
 pub ends : (rows : List Row) (s : Station) (elder : List (List ℕ)) (left rest : At) (e : Elem) (before after own start : List Mark) (first : Option Refusal) (fault : MarkFault)
     → TakesElement left (Some e) rest
-    → Told (marks rows (element_visits rows s elder e)) (first_refusal rows (element_visits rows s elder e)) before after (Err fault)
-    → first_refusal rows (visits rows s left.start elder left.tree) ≡ first
+    → Told (marks rows (element_visits rows s elder e)) (first_refusal (ruled_of rows) (element_visits rows s elder e)) before after (Err fault)
+    → first_refusal (ruled_of rows) (visits rows s left.start elder left.tree) ≡ first
     → Told own first start after (Err fault)
 ends rows s elder left rest e before after own start first (faults.Refused reason at) taken told clean =
     let here : List Visit = element_visits rows s elder e in
     let others : List Visit = visits rows s rest.start (elder ++ e.name ∷ []) rest.tree in
     sym clean
-    ∙ ap (first_refusal rows) (left_places rows s elder left rest e taken)
-    ∙ refusal_append rows here others
-    ∙ ap (λ (r : Option Refusal). or_else r (first_refusal rows others)) told
+    ∙ ap (first_refusal (ruled_of rows)) (left_places rows s elder left rest e taken)
+    ∙ refusal_append (ruled_of rows) here others
+    ∙ ap (λ (r : Option Refusal). or_else r (first_refusal (ruled_of rows) others)) told
 ends rows s elder left rest e before after own start first faults.Memory taken told clean = told
 
 -- what is added twice is added

@@ -1,17 +1,19 @@
 -- Of two commands with equal skeletons the same is said of each place with no protected ancestor.
-use Rattle.std.proofs.Common.{◌≡◌, ℕ, ◌+◌, true, false, List, [], ◌∷◌, Option, Some, None, refl, sym, ap, ◌∙◌}
+use Rattle.std.proofs.Common.{◌≡◌, ℕ, ◌+◌, true, false, List, [], ◌∷◌, Option, Some, None, refl, sym, ap, ap₂, ◌∙◌}
 use Rattle.std.specs.Prelude.{option_map, option_and_then, is_some}
 use Rattle.bson_tree.specs.Tree.{node, Items}
 use Rattle.encrypt_schema.specs.Row.{Row}
 use Rattle.encrypt_schema.specs.Stations.{Station, Outside, station}
-use Rattle.encrypt_schema.specs.Visits.{command_entry, Visit, offence_of}
+use Rattle.encrypt_schema.specs.Visits.{command_entry, Visit}
+use Rattle.encrypt_schema.specs.Collection.{Collection}
+use Rattle.encrypt_schema.specs.Offences.{first_reason}
 use Rattle.encrypt_schema.specs.Skeletons.{branch, Skeletons, skeleton}
 use Rattle.encrypt_schema.specs.Chains.{link, chain_from, visit_at, offence_at, is_shown}
 use Rattle.encrypt_schema.proofs.Tables.{command_without_role}
 use Rattle.encrypt_schema.proofs.Widths.{entry_in, names_kept}
-use Rattle.encrypt_schema.proofs.Worlds.{veil, offence_veiled}
+use Rattle.encrypt_schema.proofs.Worlds.{veil, target_veiled, view_veiled, content_veiled}
 use Rattle.encrypt_schema.proofs.TwoWorlds.{shown_equal}
-use Rattle.encrypt_schema.proofs.ByPlace.{visit_from, visit_at_from, offence_read}
+use Rattle.encrypt_schema.proofs.ByPlace.{visit_from, visit_at_from, offence_by, offence_read}
 use Rattle.encrypt_schema.proofs.ShownPlaces.{seen_from, shows_node, shows_seen, veiled_node, veiled_seen}
 
 -- a place below a command that begins at `at`, read from its skeleton
@@ -62,21 +64,27 @@ equal_visits rows at c d e (i ∷ place) h =
     veiled_below rows at c i place h
     ∙ (ap (λ (ks : Skeletons). seen_below rows at ks i place) e ∙ sym (veiled_below rows at d i place (sym (equal_shown rows c d e (i ∷ place)) ∙ h)))
 
-offence_behind : (rows : List Row) (o : Option Visit)
-    → option_and_then (offence_of rows) (option_map (veil rows) o) ≡ option_and_then (offence_of rows) o
-offence_behind rows None = refl
-offence_behind rows (Some v) = offence_veiled rows v
+offence_veiled : (db : List ℕ) (info : Option Collection) (rows : List Row) (v : Visit)
+    → offence_by db info rows (veil rows v) ≡ offence_by db info rows v
+offence_veiled db info rows v =
+    ap₂ first_reason ((target_veiled db rows).read v)
+    (ap₂ first_reason ((view_veiled info rows).read v) ((content_veiled rows).read v))
+
+offence_behind : (db : List ℕ) (info : Option Collection) (rows : List Row) (o : Option Visit)
+    → option_and_then (offence_by db info rows) (option_map (veil rows) o) ≡ option_and_then (offence_by db info rows) o
+offence_behind db info rows None = refl
+offence_behind db info rows (Some v) = offence_veiled db info rows v
 
 -- and has the same offence
-pub equal_offences : (rows : List Row) (c d : Items) → skeleton rows c ≡ skeleton rows d → (place : List ℕ)
+pub equal_offences : (db : List ℕ) (info : Option Collection) (rows : List Row) (c d : Items) → skeleton rows c ≡ skeleton rows d → (place : List ℕ)
     → is_shown rows c place ≡ true
-    → offence_at rows c place ≡ offence_at rows d place
-equal_offences rows c d e place h =
-    sym (offence_read rows 0 c place)
-    ∙ sym (offence_behind rows (visit_at rows 0 c place))
-    ∙ ap (option_and_then (offence_of rows)) (equal_visits rows 0 c d e place h)
-    ∙ offence_behind rows (visit_at rows 0 d place)
-    ∙ offence_read rows 0 d place
+    → offence_at db info rows c place ≡ offence_at db info rows d place
+equal_offences db info rows c d e place h =
+    sym (offence_read db info rows 0 c place)
+    ∙ sym (offence_behind db info rows (visit_at rows 0 c place))
+    ∙ ap (option_and_then (offence_by db info rows)) (equal_visits rows 0 c d e place h)
+    ∙ offence_behind db info rows (visit_at rows 0 d place)
+    ∙ offence_read db info rows 0 d place
 
 start_behind : (rows : List Row) (o : Option Visit)
     → option_map (λ v. v.start) (option_map (veil rows) o) ≡ option_map (λ v. v.start) o

@@ -4,7 +4,7 @@ use Rattle.std.proofs.lemmas.List.{get_or_append_left, length_push, map_push, ap
 use Rattle.std.proofs.lemmas.Grind.{flat_map-append}
 use Rattle.encrypt_schema.specs.Names.{named}
 use Rattle.encrypt_schema.specs.Row.{Row, paths}
-use Rattle.encrypt_schema.specs.Classes.{is_path, is_prefix, number_of, leads}
+use Rattle.encrypt_schema.specs.Classes.{is_same_path, is_prefix, number_of, leads}
 use Rattle.encrypt_schema.specs.Fronts.{fronts_of, with_path, each_once, fronts}
 use Rattle.encrypt_schema.proofs.Paths.{among, found_is, spread_and, path_same}
 use Rattle.encrypt_schema.specs.Trees.{or_number}
@@ -16,17 +16,17 @@ or_turn false b c = refl
 
 among_append : (q : List (List ℕ)) (ps qs : List (List (List ℕ))) → among q (ps ++ qs) ≡ (among q ps || among q qs)
 among_append q [] qs = refl
-among_append q (p ∷ ps) qs = ap (λ (b : Bool). is_path q p || b) (among_append q ps qs) ∙ or_turn (is_path q p) (among q ps) (among q qs)
+among_append q (p ∷ ps) qs = ap (λ (b : Bool). is_same_path q p || b) (among_append q ps qs) ∙ or_turn (is_same_path q p) (among q ps) (among q qs)
 
 absorbed : (a c : Bool) → (c ≡ true → a ≡ true) → a ≡ (a || c)
 absorbed true c h = refl
 absorbed false true h = h refl
 absorbed false false h = refl
 
-among_with : (q p : List (List ℕ)) (known : List (List (List ℕ))) → among q (with_path known p) ≡ (among q known || is_path q p)
+among_with : (q p : List (List ℕ)) (known : List (List (List ℕ))) → among q (with_path known p) ≡ (among q known || is_same_path q p)
 among_with q p known = by_test (is_some (number_of 0 p known)) refl where
-  by_test : (b : Bool) → is_some (number_of 0 p known) ≡ b → among q (cond b known (known ++ p ∷ [])) ≡ (among q known || is_path q p)
-  by_test true t = absorbed (among q known) (is_path q p) (λ s. ap (λ (r : List (List ℕ)). among r known) (path_same q p s) ∙ sym (found_is 0 p known) ∙ t)
+  by_test : (b : Bool) → is_some (number_of 0 p known) ≡ b → among q (cond b known (known ++ p ∷ [])) ≡ (among q known || is_same_path q p)
+  by_test true t = absorbed (among q known) (is_same_path q p) (λ s. ap (λ (r : List (List ℕ)). among r known) (path_same q p s) ∙ sym (found_is 0 p known) ∙ t)
   by_test false t = among_push q p known
 
 pub among_each : (q : List (List ℕ)) (known ps : List (List (List ℕ))) → among q (each_once known ps) ≡ (among q known || among q ps)
@@ -37,24 +37,24 @@ among_each q known [] = or_nothing (among q known) where
 among_each q known (p ∷ ps) =
     among_each q (with_path known p) ps
     ∙ ap (λ (b : Bool). b || among q ps) (among_with q p known)
-    ∙ sym (or_turn (among q known) (is_path q p) (among q ps))
+    ∙ sym (or_turn (among q known) (is_same_path q p) (among q ps))
 
 among_map : (x : List ℕ) (q : List (List ℕ)) (n : List ℕ) (ps : List (List (List ℕ))) → among (x ∷ q) (map (λ front. n ∷ front) ps) ≡ (named x n && among q ps)
 among_map x q n [] = and_nothing (named x n) where
   and_nothing : (a : Bool) → false ≡ (a && false)
   and_nothing true = refl
   and_nothing false = refl
-among_map x q n (p ∷ ps) = ap (λ (b : Bool). (named x n && is_path q p) || b) (among_map x q n ps) ∙ sym (spread_and (named x n) (is_path q p) (among q ps))
+among_map x q n (p ∷ ps) = ap (λ (b : Bool). (named x n && is_same_path q p) || b) (among_map x q n ps) ∙ sym (spread_and (named x n) (is_same_path q p) (among q ps))
 
-among_inside : (q r : List (List ℕ)) → ((y : List ℕ) (p : List (List ℕ)) → among (y ∷ p) (fronts_of r) ≡ is_prefix (y ∷ p) r) → (is_path q [] || among q (fronts_of r)) ≡ is_prefix q r
+among_inside : (q r : List (List ℕ)) → ((y : List ℕ) (p : List (List ℕ)) → among (y ∷ p) (fronts_of r) ≡ is_prefix (y ∷ p) r) → (is_same_path q [] || among q (fronts_of r)) ≡ is_prefix q r
 among_inside [] r h = refl
 among_inside (y ∷ q) r h = h y q
 
 among_fronts : (x : List ℕ) (q r : List (List ℕ)) → among (x ∷ q) (fronts_of r) ≡ is_prefix (x ∷ q) r
 among_fronts x q [] = refl
 among_fronts x q (n ∷ r) =
-    ap (λ (b : Bool). (named x n && is_path q []) || b) (among_map x q n (fronts_of r))
-    ∙ sym (spread_and (named x n) (is_path q []) (among q (fronts_of r)))
+    ap (λ (b : Bool). (named x n && is_same_path q []) || b) (among_map x q n (fronts_of r))
+    ∙ sym (spread_and (named x n) (is_same_path q []) (among q (fronts_of r)))
     ∙ ap (λ (b : Bool). named x n && b) (among_inside q r (λ y p. among_fronts y p r))
 
 among_all : (x : List ℕ) (q : List (List ℕ)) (rs : List (List (List ℕ))) → among (x ∷ q) (flat_map fronts_of rs) ≡ leads (x ∷ q) rs
@@ -100,7 +100,7 @@ with_first : (known : List (List (List ℕ))) (p : List (List ℕ)) → number_o
 with_first known p e = by_test (is_some (number_of 0 p known)) where
   by_test : (b : Bool) → number_of 0 [] (cond b known (known ++ p ∷ [])) ≡ Some 0
   by_test true = e
-  by_test false = number_push [] p known ∙ ap (λ (o : Option ℕ). or_number o (is_path [] p) (length known)) e
+  by_test false = number_push [] p known ∙ ap (λ (o : Option ℕ). or_number o (is_same_path [] p) (length known)) e
 
 each_first : (known ps : List (List (List ℕ))) → number_of 0 [] known ≡ Some 0 → number_of 0 [] (each_once known ps) ≡ Some 0
 each_first known [] e = e

@@ -9,7 +9,7 @@ use Rattle.encrypt_schema.specs.Row.{Row, paths}
 use Rattle.encrypt_schema.specs.Classes.{number_of}
 use Rattle.encrypt_schema.specs.Fronts.{fronts_of, each_once, fronts}
 use Rattle.encrypt_schema.specs.Trees.{IsTree, HasRules, or_number}
-use Rattle.encrypt_schema.specs.Spots.{child_at, rule_at, spot_paths, row_by, rows_of, AreInside, IsGrid}
+use Rattle.encrypt_schema.specs.Spots.{child_at, rule_at, spot_paths, row_by, grid_rows, AreInside, IsGrid}
 use Rattle.encrypt_schema.proofs.Numbers.{none_some, number_there, number_below}
 use Rattle.encrypt_schema.proofs.Fronts.{fronts_push, each_stays}
 use Rattle.encrypt_schema.proofs.Trees.{rules_add}
@@ -71,35 +71,35 @@ module _ (old mid new : List Spot) (rules : List Rule) (path : List (List ℕ)) 
   stands_new : number_of 0 path (spot_paths new) ≡ Some at
   stands_new = ap (number_of 0 path) a.paths_stay ∙ a.stands
 
-  rows_before : rows_of new rules ≡ rows_of old rules
+  rows_before : grid_rows new rules ≡ grid_rows old rules
   rows_before =
       ap (λ (ps : List (List (List ℕ))). map (row_by ps) rules) known_new
       ∙ rows_stay (spot_paths old) (fronts_of path) rules (subst (λ (n : ℕ). AreInside n rules) (sym (spot_count old)) a.grid.inside)
 
-  pub rows_added : rows_of new (rules ++ record { spot = at; policy = policy } ∷ []) ≡ rows_of old rules ++ record { path = path; policy = policy } ∷ []
+  pub rows_added : grid_rows new (rules ++ record { spot = at; policy = policy } ∷ []) ≡ grid_rows old rules ++ record { path = path; policy = policy } ∷ []
   rows_added =
       map_push (row_by (spot_paths new)) rules (record { spot = at; policy = policy })
       ∙ ap₂ (λ (rows : List Row) (p : List (List ℕ)). rows ++ record { path = p; policy = policy } ∷ []) rows_before (number_there path (spot_paths new) at stands_new)
 
-  ruled_count : length (paths (rows_of old rules)) ≡ length rules
-  ruled_count = length-map (rows_of old rules) (λ (row : Row). row.path) ∙ length-map rules (row_by (spot_paths old))
+  ruled_count : length (paths (grid_rows old rules)) ≡ length rules
+  ruled_count = length-map (grid_rows old rules) (λ (row : Row). row.path) ∙ length-map rules (row_by (spot_paths old))
 
-  ruled_added : paths (rows_of new (rules ++ record { spot = at; policy = policy } ∷ [])) ≡ paths (rows_of old rules) ++ path ∷ []
-  ruled_added = ap paths rows_added ∙ map_push (λ (row : Row). row.path) (rows_of old rules) (record { path = path; policy = policy })
+  ruled_added : paths (grid_rows new (rules ++ record { spot = at; policy = policy } ∷ [])) ≡ paths (grid_rows old rules) ++ path ∷ []
+  ruled_added = ap paths rows_added ∙ map_push (λ (row : Row). row.path) (grid_rows old rules) (record { path = path; policy = policy })
 
-  has_rules : HasRules (spot_paths mid) (rule_at new) (paths (rows_of old rules) ++ path ∷ [])
+  has_rules : HasRules (spot_paths mid) (rule_at new) (paths (grid_rows old rules) ++ path ∷ [])
   has_rules =
-      rules_add (spot_paths mid) path at (rule_at mid) (rule_at new) (paths (rows_of old rules)) (a.rows (paths (rows_of old rules)) a.grid.rows) a.stands
+      rules_add (spot_paths mid) path at (rule_at mid) (rule_at new) (paths (grid_rows old rules)) (a.rows (paths (grid_rows old rules)) a.grid.rows) a.stands
       (λ i. a.noted i ∙ ap (or_number (rule_at mid i) (i == at)) (sym ruled_count))
 
   tree_new : IsTree (spot_paths mid) (child_at new)
   tree_new = record { steps = λ p i name e. a.children_stay i name ∙ a.tree.steps p i name e; closed = a.tree.closed }
 
-  whole_new : spot_paths new ≡ fronts (rows_of new (rules ++ record { spot = at; policy = policy } ∷ []))
+  whole_new : spot_paths new ≡ fronts (grid_rows new (rules ++ record { spot = at; policy = policy } ∷ []))
   whole_new =
       known_new
       ∙ ap (λ (ps : List (List (List ℕ))). each_once ps (fronts_of path)) a.grid.whole
-      ∙ sym (fronts_push (rows_of old rules) (record { path = path; policy = policy }))
+      ∙ sym (fronts_push (grid_rows old rules) (record { path = path; policy = policy }))
       ∙ ap fronts (sym rows_added)
 
   pub grid_added : IsGrid new (rules ++ record { spot = at; policy = policy } ∷ [])

@@ -30,7 +30,6 @@ pub mod Worlds
 pub mod Silence
 pub mod Apart
 pub mod TwoWorlds
-pub mod BothPasses
 pub mod ByPlace
 pub mod ShownPlaces
 pub mod EqualOffences
@@ -39,6 +38,8 @@ pub mod Sites
 pub mod EqualPlaces
 pub mod Parts
 pub mod Unmarked
+pub mod Fields
+pub mod Refused
 pub mod Elements
 pub mod PolicyAt
 pub mod Plans

@@ -8,17 +8,17 @@ use Rattle.encrypt_schema.specs.declared.cursor.Place.{Place}
 use Rattle.encrypt_schema.specs.declared.cursor.Place.TheVariants as places
 use Rattle.encrypt_schema.specs.Row.{Row}
 use Rattle.encrypt_schema.specs.Classes.{class_by, class}
-use Rattle.encrypt_schema.specs.Spots.{child_at, rule_at, rows_of, IsGrid}
+use Rattle.encrypt_schema.specs.Spots.{child_at, rule_at, grid_rows, IsGrid}
 use Rattle.encrypt_schema.specs.Cursors.{StandsAt}
 use Rattle.encrypt_schema.specs.Places.{landed}
 use Rattle.encrypt_schema.proofs.Steps.{step_below, step_clear, class_below, class_clear, front_inside, child_inside, step_front, class_front, root_front, root_leads}
 
-module _ (spots : List Spot) (rules : List Rule) (g : IsGrid spots rules) (rows : List Row) (view : rows_of spots rules ≡ rows) where
+module _ (spots : List Spot) (rules : List Rule) (g : IsGrid spots rules) (rows : List Row) (view : grid_rows spots rules ≡ rows) where
   pub at_root : (covered : Bool) → 0 < length rules → covered ≡ is_some (rule_at spots 0) → StandsAt rows (places.Front 0 covered) []
   at_root covered some is = subst₂ (λ (rs : List Row) (b : Bool). StandsAt rs (places.Front 0 b) []) view (sym is) (root_front spots rules g (root_leads spots rules some))
 
   module _ (at : Place) (i : ℕ) (covered : Bool) (is : at ≡ places.Front i covered) where
-    moved : (p : List (List ℕ)) → StandsAt rows at p → StandsAt (rows_of spots rules) (places.Front i covered) p
+    moved : (p : List (List ℕ)) → StandsAt rows at p → StandsAt (grid_rows spots rules) (places.Front i covered) p
     moved p s = subst₂ (λ (rs : List Row) (q : Place). StandsAt rs q p) (sym view) is s
 
     pub at_inside : (p : List (List ℕ)) × StandsAt rows at p → i < length spots

@@ -4,7 +4,7 @@ use mathlib.Core.Bool.{false≢true}
 use Rattle.std.specs.Cmp.Lexicographic.{bytes_decides, nat_list_eq_equiv}
 use Rattle.std.proofs.lemmas.Bool.{and_parts, and_from, or_cases, or_left, or_right}
 use Rattle.encrypt_schema.specs.Names.{named}
-use Rattle.encrypt_schema.specs.Classes.{is_path, is_prefix, number_of, covers, leads}
+use Rattle.encrypt_schema.specs.Classes.{is_same_path, is_prefix, number_of, covers, leads}
 
 named_is : (x y : List ℕ) → named x y ≡ bytes_eq x y
 unfolding named
@@ -32,47 +32,47 @@ or_swap false false true d = refl
 or_swap false false false d = refl
 
 -- equal paths
-pub path_same : (p q : List (List ℕ)) → is_path p q ≡ true → p ≡ q
+pub path_same : (p q : List (List ℕ)) → is_same_path p q ≡ true → p ≡ q
 path_same [] [] e = refl
 path_same [] (y ∷ q) e = absurd (false≢true e)
 path_same (x ∷ p) [] e = absurd (false≢true e)
-path_same (x ∷ p) (y ∷ q) e = let h = and_parts (named x y) (is_path p q) e in ap₂ (λ (n : List ℕ) (r : List (List ℕ)). n ∷ r) (named_same x y h.0) (path_same p q h.1)
+path_same (x ∷ p) (y ∷ q) e = let h = and_parts (named x y) (is_same_path p q) e in ap₂ (λ (n : List ℕ) (r : List (List ℕ)). n ∷ r) (named_same x y h.0) (path_same p q h.1)
 
-pub path_self : (p : List (List ℕ)) → is_path p p ≡ true
+pub path_self : (p : List (List ℕ)) → is_same_path p p ≡ true
 path_self [] = refl
-path_self (x ∷ p) = and_from (named x x) (is_path p p) (named_self x) (path_self p)
+path_self (x ∷ p) = and_from (named x x) (is_same_path p p) (named_self x) (path_self p)
 
-path_turn : (p q : List (List ℕ)) → is_path p q ≡ is_path q p
+path_turn : (p q : List (List ℕ)) → is_same_path p q ≡ is_same_path q p
 path_turn [] [] = refl
 path_turn [] (y ∷ q) = refl
 path_turn (x ∷ p) [] = refl
 path_turn (x ∷ p) (y ∷ q) = ap₂ (λ (a b : Bool). a && b) (named_turn x y) (path_turn p q)
 
-path_prefix : (p q : List (List ℕ)) → is_path p q ≡ true → is_prefix p q ≡ true
+path_prefix : (p q : List (List ℕ)) → is_same_path p q ≡ true → is_prefix p q ≡ true
 path_prefix [] q e = refl
 path_prefix (x ∷ p) [] e = e
-path_prefix (x ∷ p) (y ∷ q) e = let h = and_parts (named x y) (is_path p q) e in and_from (named x y) (is_prefix p q) h.0 (path_prefix p q h.1)
+path_prefix (x ∷ p) (y ∷ q) e = let h = and_parts (named x y) (is_same_path p q) e in and_from (named x y) (is_prefix p q) h.0 (path_prefix p q h.1)
 
 -- a path isn't the same with a name more
-pub path_longer : (p : List (List ℕ)) (n : List ℕ) → is_path (p ++ n ∷ []) p ≡ false
+pub path_longer : (p : List (List ℕ)) (n : List ℕ) → is_same_path (p ++ n ∷ []) p ≡ false
 path_longer [] n = refl
 path_longer (x ∷ p) n = ap (λ (b : Bool). named x x && b) (path_longer p n) ∙ and_nothing (named x x) where
   and_nothing : (a : Bool) → (a && false) ≡ false
   and_nothing true = refl
   and_nothing false = refl
 
-pub nil_prefix : (r : List (List ℕ)) → is_prefix r [] ≡ is_path [] r
+pub nil_prefix : (r : List (List ℕ)) → is_prefix r [] ≡ is_same_path [] r
 nil_prefix [] = refl
 nil_prefix (x ∷ r) = refl
 
 -- a prefix of a path with a name more is one of the path, or the longer path itself
-prefix_push : (r q : List (List ℕ)) (n : List ℕ) → is_prefix r (q ++ n ∷ []) ≡ (is_prefix r q || is_path (q ++ n ∷ []) r)
+prefix_push : (r q : List (List ℕ)) (n : List ℕ) → is_prefix r (q ++ n ∷ []) ≡ (is_prefix r q || is_same_path (q ++ n ∷ []) r)
 prefix_push [] q n = refl
 prefix_push (x ∷ r) [] n = ap₂ (λ (a b : Bool). a && b) (named_turn x n) (nil_prefix r)
 prefix_push (x ∷ r) (y ∷ q) n =
     ap (λ (b : Bool). named x y && b) (prefix_push r q n)
-    ∙ spread_and (named x y) (is_prefix r q) (is_path (q ++ n ∷ []) r)
-    ∙ ap (λ (a : Bool). (named x y && is_prefix r q) || (a && is_path (q ++ n ∷ []) r)) (named_turn x y)
+    ∙ spread_and (named x y) (is_prefix r q) (is_same_path (q ++ n ∷ []) r)
+    ∙ ap (λ (a : Bool). (named x y && is_prefix r q) || (a && is_same_path (q ++ n ∷ []) r)) (named_turn x y)
 
 prefix_front : (p : List (List ℕ)) (n : List ℕ) (r : List (List ℕ)) → is_prefix (p ++ n ∷ []) r ≡ true → is_prefix p r ≡ true
 prefix_front [] n r e = refl
@@ -82,7 +82,7 @@ prefix_front (x ∷ p) n (y ∷ r) e = let h = and_parts (named x y) (is_prefix 
 -- the path is one of these
 abbrev pub among : List (List ℕ) → List (List (List ℕ)) → Bool
 among q [] = false
-among q (p ∷ ps) = is_path q p || among q ps
+among q (p ∷ ps) = is_same_path q p || among q ps
 
 some_if : (b : Bool) (k : ℕ) (o : Option ℕ) (a : Bool) → is_some o ≡ a → is_some (cond b (Some k) o) ≡ (b || a)
 some_if true k o a e = refl
@@ -90,7 +90,7 @@ some_if false k o a e = e
 
 pub found_is : (k : ℕ) (q : List (List ℕ)) (ps : List (List (List ℕ))) → is_some (number_of k q ps) ≡ among q ps
 found_is k q [] = refl
-found_is k q (p ∷ ps) = some_if (is_path q p) k (number_of (k + 1) q ps) (among q ps) (found_is (k + 1) q ps)
+found_is k q (p ∷ ps) = some_if (is_same_path q p) k (number_of (k + 1) q ps) (among q ps) (found_is (k + 1) q ps)
 
 pub not_among : (q : List (List ℕ)) (ps : List (List (List ℕ))) → among q ps ≡ false → number_of 0 q ps ≡ None
 not_among q ps e = none_is (number_of 0 q ps) (found_is 0 q ps ∙ e) where
@@ -106,7 +106,7 @@ pub covers_push : (q : List (List ℕ)) (n : List ℕ) (rs : List (List (List �
 covers_push q n [] = refl
 covers_push q n (r ∷ rs) =
     ap₂ (λ (a b : Bool). a || b) (prefix_push r q n) (covers_push q n rs)
-    ∙ or_swap (is_prefix r q) (is_path (q ++ n ∷ []) r) (covers q rs) (among (q ++ n ∷ []) rs)
+    ∙ or_swap (is_prefix r q) (is_same_path (q ++ n ∷ []) r) (covers q rs) (among (q ++ n ∷ []) rs)
 
 pub leads_front : (p : List (List ℕ)) (n : List ℕ) (rs : List (List (List ℕ))) → leads (p ++ n ∷ []) rs ≡ true → leads p rs ≡ true
 leads_front p n [] e = e
@@ -120,6 +120,6 @@ pub among_leads : (p : List (List ℕ)) (rs : List (List (List ℕ))) → among 
 among_leads p [] e = e
 among_leads p (r ∷ rs) e =
     ⊎_elim
-    (λ (h : is_path p r ≡ true). or_left (is_prefix p r) (leads p rs) (path_prefix p r h))
+    (λ (h : is_same_path p r ≡ true). or_left (is_prefix p r) (leads p rs) (path_prefix p r h))
     (λ (h : among p rs ≡ true). or_right (is_prefix p r) (leads p rs) (among_leads p rs h))
-    (or_cases (is_path p r) (among p rs) e)
+    (or_cases (is_same_path p r) (among p rs) e)

@@ -9,7 +9,7 @@ use Rattle.encrypt_schema.specs.Names.{named}
 use Rattle.encrypt_schema.specs.Row.{Row}
 use Rattle.encrypt_schema.specs.Classes.{class}
 use Rattle.encrypt_schema.specs.Dotted.{split, is_dollar, positional}
-use Rattle.encrypt_schema.specs.Stations.{Entry, Subject, Field, Prefix, Station, Outside, Insert, Update, Delete, Find, Inserts, Updates, Deletes, UpdateItem, DeleteItem, Filter, Cases, Projection, Test, Elements, Operators, Sets, Argument, Document, Store, Compare, Bare, Passed, is_document, is_array, is_operators, is_dollar_first, has_name, is_logical, is_equality, is_membership, is_set, is_random_field, dotted, command_of, update_of, stored_at, tested_at, compared_with, station}
+use Rattle.encrypt_schema.specs.Stations.{Entry, Subject, Field, Prefix, Station, Outside, Insert, Update, Delete, Find, Inserts, Updates, Deletes, UpdateItem, DeleteItem, Filter, Cases, Projection, Test, Elements, Operators, Sets, Argument, Document, Store, Compare, Bare, Passed, Unknown, is_passed, is_document, is_array, is_operators, is_dollar_first, has_name, is_logical, is_equality, is_membership, is_set, is_random_field, dotted, command_of, update_of, stored_at, tested_at, compared_with, station}
 use Rattle.encrypt_schema.specs.Visits.{entry, command_entry, Visit, visit, visits_in, visits, command_visit, mark_at, marks, roles}
 use Rattle.encrypt_schema.proofs.Silence.{marks_append}
 use Rattle.encrypt_schema.proofs.Steps.{protected_inside}
@@ -45,7 +45,7 @@ command_ruled n (name ∷ names) =
     either n (named name (codes "insert")) Insert _ tt
     (either n (named name (codes "update")) Update _ tt
     (either n (named name (codes "delete")) Delete _ tt
-    (either n (named name (codes "find")) Find Passed tt tt)))
+    (either n (named name (codes "find")) Find _ tt (either n (is_passed name) Passed Unknown tt tt))))
 
 update_ruled : (n : ℕ) (names : List (List ℕ)) → IsRuled n (update_of names)
 update_ruled n names = either n (is_dollar_first names) Operators (Document []) tt tt
@@ -120,6 +120,7 @@ station_ruled rows (Store i) e h = tt
 station_ruled rows (Compare i) e h = tt
 station_ruled rows Bare e h = tt
 station_ruled rows Passed e h = tt
+station_ruled rows Unknown e h = tt
 
 -- marks behind marks
 ruled_append : (n : ℕ) (ms ns : List Mark) → AreRuled n ms → AreRuled n ns → AreRuled n (ms ++ ns)

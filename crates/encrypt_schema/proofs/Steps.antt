@@ -12,7 +12,7 @@ use Rattle.encrypt_schema.specs.declared.cursor.Place.TheVariants as places
 use Rattle.encrypt_schema.specs.Row.{Row, paths}
 use Rattle.encrypt_schema.specs.Classes.{number_of, covers, leads, class_by, class}
 use Rattle.encrypt_schema.specs.Fronts.{fronts}
-use Rattle.encrypt_schema.specs.Spots.{child_at, rule_at, spot_paths, rows_of, IsGrid}
+use Rattle.encrypt_schema.specs.Spots.{child_at, rule_at, spot_paths, grid_rows, IsGrid}
 use Rattle.encrypt_schema.specs.Cursors.{StandsAt, Stands, path_at, path_of, StandsForPath}
 use Rattle.encrypt_schema.specs.Places.{landed}
 use Rattle.encrypt_schema.proofs.Paths.{nil_prefix, among, found_is, not_among, some_among, covers_push, leads_front, among_leads}
@@ -56,62 +56,62 @@ class_clear rows p s =
     ∙ ap₂ (λ (a b : Bool). class_by (number_of 0 p (paths rows)) a b) (sym s.0) (sym s.1)
 
 module _ (spots : List Spot) (rules : List Rule) (g : IsGrid spots rules) where
-  on_spot : (p : List (List ℕ)) (i : ℕ) → number_of 0 p (fronts (rows_of spots rules)) ≡ Some i → number_of 0 p (spot_paths spots) ≡ Some i
+  on_spot : (p : List (List ℕ)) (i : ℕ) → number_of 0 p (fronts (grid_rows spots rules)) ≡ Some i → number_of 0 p (spot_paths spots) ≡ Some i
   on_spot p i e = ap (number_of 0 p) g.whole ∙ e
 
-  pub front_inside : (p : List (List ℕ)) (i : ℕ) → number_of 0 p (fronts (rows_of spots rules)) ≡ Some i → i < length spots
+  pub front_inside : (p : List (List ℕ)) (i : ℕ) → number_of 0 p (fronts (grid_rows spots rules)) ≡ Some i → i < length spots
   front_inside p i e = subst (λ (n : ℕ). i < n) (spot_count spots) (number_below p (spot_paths spots) i (on_spot p i e))
 
-  child_is : (p : List (List ℕ)) (i : ℕ) (n : List ℕ) → number_of 0 p (fronts (rows_of spots rules)) ≡ Some i → child_at spots i n ≡ number_of 0 (p ++ n ∷ []) (fronts (rows_of spots rules))
+  child_is : (p : List (List ℕ)) (i : ℕ) (n : List ℕ) → number_of 0 p (fronts (grid_rows spots rules)) ≡ Some i → child_at spots i n ≡ number_of 0 (p ++ n ∷ []) (fronts (grid_rows spots rules))
   child_is p i n e = g.tree.steps p i n (on_spot p i e) ∙ ap (number_of 0 (p ++ n ∷ [])) g.whole
 
-  if_inside : (p : List (List ℕ)) (o : Option ℕ) → number_of 0 p (fronts (rows_of spots rules)) ≡ o → IfSome o (λ k. k < length spots)
+  if_inside : (p : List (List ℕ)) (o : Option ℕ) → number_of 0 p (fronts (grid_rows spots rules)) ≡ o → IfSome o (λ k. k < length spots)
   if_inside p None e = tt
   if_inside p (Some k) e = front_inside p k e
 
-  pub child_inside : (p : List (List ℕ)) (i : ℕ) (n : List ℕ) → number_of 0 p (fronts (rows_of spots rules)) ≡ Some i → IfSome (child_at spots i n) (λ k. k < length spots)
+  pub child_inside : (p : List (List ℕ)) (i : ℕ) (n : List ℕ) → number_of 0 p (fronts (grid_rows spots rules)) ≡ Some i → IfSome (child_at spots i n) (λ k. k < length spots)
   child_inside p i n e = if_inside (p ++ n ∷ []) (child_at spots i n) (sym (child_is p i n e))
 
-  land_by : (p : List (List ℕ)) (covered : Bool) (n : List ℕ) → covers p (paths (rows_of spots rules)) ≡ covered → (o : Option ℕ) → number_of 0 (p ++ n ∷ []) (fronts (rows_of spots rules)) ≡ o
-      → StandsAt (rows_of spots rules) (landed covered o (rule_at spots)) (p ++ n ∷ [])
+  land_by : (p : List (List ℕ)) (covered : Bool) (n : List ℕ) → covers p (paths (grid_rows spots rules)) ≡ covered → (o : Option ℕ) → number_of 0 (p ++ n ∷ []) (fronts (grid_rows spots rules)) ≡ o
+      → StandsAt (grid_rows spots rules) (landed covered o (rule_at spots)) (p ++ n ∷ [])
   land_by p covered n c (Some k) e =
-      let rs = paths (rows_of spots rules) in
+      let rs = paths (grid_rows spots rules) in
       let q = p ++ n ∷ [] in
       let ruled : among q rs ≡ is_some (rule_at spots k) = sym (found_is 0 q rs) ∙ ap is_some (sym (g.rows.first q k (on_spot q k e))) in (
         e,
         covers_push p n rs ∙ ap₂ (λ (a b : Bool). a || b) c ruled,
-        sym (fronts_lead p n (rows_of spots rules)) ∙ some_among q (fronts (rows_of spots rules)) k e,
+        sym (fronts_lead p n (grid_rows spots rules)) ∙ some_among q (fronts (grid_rows spots rules)) k e,
       )
   land_by p covered n c None e =
-      let rs = paths (rows_of spots rules) in
+      let rs = paths (grid_rows spots rules) in
       let q = p ++ n ∷ [] in
-      let away : leads q rs ≡ false = sym (fronts_lead p n (rows_of spots rules)) ∙ sym (found_is 0 q (fronts (rows_of spots rules))) ∙ ap is_some e in
+      let away : leads q rs ≡ false = sym (fronts_lead p n (grid_rows spots rules)) ∙ sym (found_is 0 q (fronts (grid_rows spots rules))) ∙ ap is_some e in
       let cover : covers q rs ≡ (covered || false) = covers_push p n rs ∙ ap₂ (λ (a b : Bool). a || b) c (unled q rs away) in
       off covered q cover away where
-        off : (covered : Bool) (q : List (List ℕ)) → covers q (paths (rows_of spots rules)) ≡ (covered || false) → leads q (paths (rows_of spots rules)) ≡ false → StandsAt (rows_of spots rules) (landed covered None (rule_at spots)) q
+        off : (covered : Bool) (q : List (List ℕ)) → covers q (paths (grid_rows spots rules)) ≡ (covered || false) → leads q (paths (grid_rows spots rules)) ≡ false → StandsAt (grid_rows spots rules) (landed covered None (rule_at spots)) q
         off true q cover away = (cover, away)
         off false q cover away = (cover, away)
 
   -- a step from a front
-  pub step_front : (p : List (List ℕ)) (i : ℕ) (covered : Bool) (n : List ℕ) → StandsAt (rows_of spots rules) (places.Front i covered) p → StandsAt (rows_of spots rules) (landed covered (child_at spots i n) (rule_at spots)) (p ++ n ∷ [])
+  pub step_front : (p : List (List ℕ)) (i : ℕ) (covered : Bool) (n : List ℕ) → StandsAt (grid_rows spots rules) (places.Front i covered) p → StandsAt (grid_rows spots rules) (landed covered (child_at spots i n) (rule_at spots)) (p ++ n ∷ [])
   step_front p i covered n s = land_by p covered n s.1 (child_at spots i n) (sym (child_is p i n s.0))
 
   -- the class of a front
-  pub class_front : (p : List (List ℕ)) (i : ℕ) (covered : Bool) → StandsAt (rows_of spots rules) (places.Front i covered) p → class_by (rule_at spots i) covered true ≡ class (rows_of spots rules) p
+  pub class_front : (p : List (List ℕ)) (i : ℕ) (covered : Bool) → StandsAt (grid_rows spots rules) (places.Front i covered) p → class_by (rule_at spots i) covered true ≡ class (grid_rows spots rules) p
   unfolding class
   class_front p i covered s =
       ap (λ (o : Option ℕ). class_by o covered true) (g.rows.first p i (on_spot p i s.0))
-      ∙ ap₂ (λ (a b : Bool). class_by (number_of 0 p (paths (rows_of spots rules))) a b) (sym s.1) (sym s.2)
+      ∙ ap₂ (λ (a b : Bool). class_by (number_of 0 p (paths (grid_rows spots rules))) a b) (sym s.1) (sym s.2)
 
   -- the root, where there are rules
-  pub root_front : leads [] (paths (rows_of spots rules)) ≡ true → StandsAt (rows_of spots rules) (places.Front 0 (is_some (rule_at spots 0))) []
+  pub root_front : leads [] (paths (grid_rows spots rules)) ≡ true → StandsAt (grid_rows spots rules) (places.Front 0 (is_some (rule_at spots 0))) []
   root_front led =
-      let rs = paths (rows_of spots rules) in
-      let first = fronts_first (rows_of spots rules) in
+      let rs = paths (grid_rows spots rules) in
+      let first = fronts_first (grid_rows spots rules) in
       (first, covers_nil rs ∙ sym (found_is 0 [] rs) ∙ ap is_some (sym (g.rows.first [] 0 (on_spot [] 0 first))), led)
 
 -- where there are rules the empty path leads to one
-pub root_leads : (spots : List Spot) (rules : List Rule) → 0 < length rules → leads [] (paths (rows_of spots rules)) ≡ true
+pub root_leads : (spots : List Spot) (rules : List Rule) → 0 < length rules → leads [] (paths (grid_rows spots rules)) ≡ true
 root_leads spots [] some = absurd (not-suc-le-zero some)
 root_leads spots (rule ∷ rules) some = refl
 

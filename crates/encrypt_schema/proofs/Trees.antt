@@ -4,7 +4,7 @@ use mathlib.Core.Bool.{false≢true}
 use Rattle.std.specs.Cmp.Lexicographic.{bytes_decides}
 use Rattle.std.proofs.lemmas.Bool.{ne_eqb, eq-eqb, eqb-true, or_left, or_cases, and_parts, and_from}
 use Rattle.std.proofs.lemmas.List.{same_from_push}
-use Rattle.encrypt_schema.specs.Classes.{is_path, number_of}
+use Rattle.encrypt_schema.specs.Classes.{is_same_path, number_of}
 use Rattle.encrypt_schema.specs.Trees.{IsTree, HasRules, or_number}
 use Rattle.encrypt_schema.proofs.Paths.{path_same, path_self, path_longer, among, found_is, some_among}
 use Rattle.encrypt_schema.proofs.Numbers.{some_is, none_some, number_there, number_below, number_push, among_push, same_number}
@@ -34,16 +34,16 @@ some_none o e t = false≢true (sym (ap is_some e) ∙ t)
 
 module _ (known : List (List (List ℕ))) (q : List (List ℕ)) (n : List ℕ) (at : ℕ) (stands : number_of 0 q known ≡ Some at) (new : number_of 0 (q ++ n ∷ []) known ≡ None) where
   -- the step to the new path is the only one that is new
-  step_is : (path : List (List ℕ)) (i : ℕ) (name : List ℕ) → number_of 0 path known ≡ Some i → (i == at && bytes_eq n name) ≡ is_path (path ++ name ∷ []) (q ++ n ∷ [])
+  step_is : (path : List (List ℕ)) (i : ℕ) (name : List ℕ) → number_of 0 path known ≡ Some i → (i == at && bytes_eq n name) ≡ is_same_path (path ++ name ∷ []) (q ++ n ∷ [])
   step_is path i name e =
       bools_same
       (i == at && bytes_eq n name)
-      (is_path (path ++ name ∷ []) (q ++ n ∷ []))
+      (is_same_path (path ++ name ∷ []) (q ++ n ∷ []))
       (λ t.
       let h = and_parts (i == at) (bytes_eq n name) t in
       let here : path ≡ q = sym (number_there path known i e) ∙ ap (λ (k : ℕ). get_or known k []) (eqb-true i at h.0) ∙ number_there q known at stands in
       let same : name ≡ n = sym ((bytes_decides n name).0 h.1) in
-      subst (λ (r : List (List ℕ)). is_path r (q ++ n ∷ []) ≡ true) (sym (ap₂ (λ (p : List (List ℕ)) (m : List ℕ). p ++ m ∷ []) here same)) (path_self (q ++ n ∷ [])))
+      subst (λ (r : List (List ℕ)). is_same_path r (q ++ n ∷ []) ≡ true) (sym (ap₂ (λ (p : List (List ℕ)) (m : List ℕ). p ++ m ∷ []) here same)) (path_self (q ++ n ∷ [])))
       (λ t.
       let h = same_from_push path q name n (path_same (path ++ name ∷ []) (q ++ n ∷ []) t) in
       let one : i ≡ at = some_is i at (sym e ∙ ap (λ (r : List (List ℕ)). number_of 0 r known) h.0 ∙ stands) in
@@ -79,15 +79,15 @@ module _ (known : List (List (List ℕ))) (q : List (List ℕ)) (n : List ℕ) (
           ap (λ (k : ℕ). next k name) (sym h.2)
           ∙ new_step name
           ∙ ap (λ (r : List (List ℕ)). number_of 0 (r ++ name ∷ []) (known ++ (q ++ n ∷ []) ∷ [])) (sym (path_same path (q ++ n ∷ []) h.1)))
-          (or_is (number_of 0 path known) (is_path path (q ++ n ∷ [])) (length known) i (sym (number_push path (q ++ n ∷ []) known) ∙ e));
+          (or_is (number_of 0 path known) (is_same_path path (q ++ n ∷ [])) (length known) i (sym (number_push path (q ++ n ∷ []) known) ∙ e));
       closed = λ path name t.
           found_is 0 path (known ++ (q ++ n ∷ []) ∷ [])
           ∙ among_push path (q ++ n ∷ []) known
-          ∙ or_left (among path known) (is_path path (q ++ n ∷ []))
+          ∙ or_left (among path known) (is_same_path path (q ++ n ∷ []))
           (⊎_elim
           (λ h. sym (found_is 0 path known) ∙ tree.closed path name (found_is 0 (path ++ name ∷ []) known ∙ h))
           (λ h. ap (λ (r : List (List ℕ)). among r known) (same_from_push path q name n (path_same (path ++ name ∷ []) (q ++ n ∷ []) h)).0 ∙ some_among q known at stands)
-          (or_cases (among (path ++ name ∷ []) known) (is_path (path ++ name ∷ []) (q ++ n ∷ [])) (sym (among_push (path ++ name ∷ []) (q ++ n ∷ []) known) ∙ sym (found_is 0 (path ++ name ∷ []) (known ++ (q ++ n ∷ []) ∷ [])) ∙ t)));
+          (or_cases (among (path ++ name ∷ []) known) (is_same_path (path ++ name ∷ []) (q ++ n ∷ [])) (sym (among_push (path ++ name ∷ []) (q ++ n ∷ []) known) ∙ sym (found_is 0 (path ++ name ∷ []) (known ++ (q ++ n ∷ []) ∷ [])) ∙ t)));
     }
 
 -- a new path, at which no rule ends
@@ -101,9 +101,9 @@ rules_push known p rule next ruled rows new made past = record {
       (λ h.
       let unruled : number_of 0 p ruled ≡ None = none_from (number_of 0 p ruled) (λ t. some_none (number_of 0 p known) new (rows.all p t)) in
       ap rule (sym h.2) ∙ past ∙ sym unruled ∙ ap (λ (r : List (List ℕ)). number_of 0 r ruled) (sym (path_same path p h.1)))
-      (or_is (number_of 0 path known) (is_path path p) (length known) i (sym (number_push path p known) ∙ e));
+      (or_is (number_of 0 path known) (is_same_path path p) (length known) i (sym (number_push path p known) ∙ e));
   all = λ path t.
-      found_is 0 path (known ++ p ∷ []) ∙ among_push path p known ∙ or_left (among path known) (is_path path p) (sym (found_is 0 path known) ∙ rows.all path t);
+      found_is 0 path (known ++ p ∷ []) ∙ among_push path p known ∙ or_left (among path known) (is_same_path path p) (sym (found_is 0 path known) ∙ rows.all path t);
 }
 
 -- a rule more, at a path of the tree
@@ -118,5 +118,5 @@ rules_add known p at rule next ruled rows stands made = record {
       ⊎_elim
       (λ h. rows.all path (found_is 0 path ruled ∙ h))
       (λ h. ap (λ (r : List (List ℕ)). is_some (number_of 0 r known)) (path_same path p h) ∙ ap is_some stands)
-      (or_cases (among path ruled) (is_path path p) (sym (among_push path p ruled) ∙ sym (found_is 0 path (ruled ++ p ∷ [])) ∙ t));
+      (or_cases (among path ruled) (is_same_path path p) (sym (among_push path p ruled) ∙ sym (found_is 0 path (ruled ++ p ∷ [])) ∙ t));
 }

@@ -1,5 +1,5 @@
 -- Without rules, and in commands that pass unchanged, nothing is protected.
-use Rattle.std.proofs.Common.{◌≡◌, ℕ, ◌+◌, Bool, true, false, cond, ◌&&◌, ◌||◌, List, [], ◌∷◌, ◌++◌, codes, length, None, refl, ap, ◌∙◌}
+use Rattle.std.proofs.Common.{◌≡◌, ℕ, ◌+◌, Bool, true, false, cond, ◌&&◌, ◌||◌, List, [], ◌∷◌, ◌++◌, codes, length, Option, None, refl, ap, ap₂, ◌∙◌}
 use Rattle.std.proofs.lemmas.Bool.{false≢true}
 use Rattle.std.proofs.lemmas.Slice.Eq.{bytes_eq-Decides}
 use Rattle.bson_tree.specs.Tree.{Tree, leaf, node, Items, no_items, item}
@@ -11,11 +11,12 @@ use Rattle.encrypt_schema.specs.Names.{named, is_among}
 use Rattle.encrypt_schema.specs.Row.{Row}
 use Rattle.encrypt_schema.specs.Classes.{class}
 use Rattle.encrypt_schema.specs.Dotted.{split, is_dollar, positional}
-use Rattle.encrypt_schema.specs.Stations.{Entry, Station, Outside, Insert, Update, Delete, Find, Inserts, Updates, Deletes, UpdateItem, DeleteItem, Filter, Cases, Projection, Test, Elements, Operators, Sets, Argument, Document, Store, Compare, Passed, is_document, is_array, is_operators, is_dollar_first, has_name, is_logical, is_set, dotted, station, stored_at, tested_at, command_of}
-use Rattle.encrypt_schema.specs.Offences.{least, offence, command_lacks}
-use Rattle.encrypt_schema.specs.Visits.{names_of, entry, command_entry, Visit, visit, visits_in, visits, command_visit, command_visits, mark_at, marks, roles, first_refusal, or_else, refused_at}
-use Rattle.encrypt_schema.specs.Targets.{passed_names, is_passed}
-use Rattle.encrypt_schema.proofs.Silence.{marks_append, silent}
+use Rattle.encrypt_schema.specs.Stations.{Entry, Station, Outside, Insert, Update, Delete, Find, Inserts, Updates, Deletes, UpdateItem, DeleteItem, Filter, Cases, Projection, Test, Elements, Operators, Sets, Argument, Document, Store, Compare, Passed, Unknown, is_document, is_array, is_operators, is_dollar_first, has_name, is_logical, is_set, dotted, station, stored_at, tested_at, command_of, passed_names, is_passed}
+use Rattle.encrypt_schema.specs.Offences.{least, target_offence, view_offence, ruled_offence, of_role, command_lacks}
+use Rattle.encrypt_schema.specs.Collection.{Collection}
+use Rattle.encrypt_schema.specs.declared.reason.Reason.{Reason}
+use Rattle.encrypt_schema.specs.Visits.{names_of, entry, command_entry, Visit, visit, visits_in, visits, command_visit, command_visits, mark_at, marks, roles, target_of, view_of, ruled_of, content_of, first_refusal, or_else, refused_at, verdict_on}
+use Rattle.encrypt_schema.proofs.Silence.{marks_append, silent, IsQuiet, target_quiet, view_quiet, content_quiet}
 
 -- what is no value that is tested or protected
 abbrev pub is_free : Station → Bool
@@ -43,7 +44,7 @@ command_free [] = refl
 command_free (n ∷ ns) =
     free_cond (named n (codes "insert")) Insert _ refl
     (free_cond (named n (codes "update")) Update _ refl
-    (free_cond (named n (codes "delete")) Delete _ refl (free_cond (named n (codes "find")) Find Passed refl refl)))
+    (free_cond (named n (codes "delete")) Delete _ refl (free_cond (named n (codes "find")) Find _ refl (free_cond (is_passed n) Passed Unknown refl refl))))
 
 free_child : (s : Station) (e : Entry) → is_free s ≡ true → is_free (station [] s e) ≡ true
 free_child Outside e h = command_free e.names
@@ -143,22 +144,43 @@ passed_command name names h =
 unread : (rows : List Row) (at : ℕ) (c : Items) (s : Station) → s ≡ Passed
     → mark_at s (command_visit c) ++ marks rows (visits rows s at [] c) ≡ []
 unread rows at c s e =
-    let a = (silent rows Passed at [] c refl).0 in
+    let a = (silent (target_of []) rows Passed at [] c (target_quiet []) refl).0 in
     ap (λ (u : Station). mark_at u (command_visit c) ++ marks rows (visits rows u at [] c)) e ∙ a
-
-unjudged : (rows : List Row) (at : ℕ) (c : Items) (s : Station) → s ≡ Passed
-    → or_else (refused_at 0 (least (command_lacks s (names_of c)))) (first_refusal rows (visits rows s at [] c)) ≡ None
-unjudged rows at c s e =
-    let a = (silent rows Passed at [] c refl).1 in
-    ap (λ (u : Station). or_else (refused_at 0 (least (command_lacks u (names_of c)))) (first_refusal rows (visits rows u at [] c))) e ∙ a
 
 -- in a command that passes nothing is protected
 pub passed_no_roles : (rows : List Row) (at : ℕ) (name : List ℕ) (t : Tree) (is : Items) → is_passed name ≡ true
     → roles rows at (item name t is) ≡ []
 passed_no_roles rows at name t is h = unread rows (at + 4) (item name t is) _ (passed_command name (names_of is) h)
 
+unjudged : (pass : Visit → Option Reason) (rows : List Row) (at : ℕ) (c : Items) (s : Station) → IsQuiet pass → pass (command_visit c) ≡ None → s ≡ Passed
+    → or_else (refused_at 0 (pass (command_visit c))) (first_refusal pass (visits rows s at [] c)) ≡ None
+unjudged pass rows at c s quiet own e =
+    ap (λ (r : Option Reason). or_else (refused_at 0 r) (first_refusal pass (visits rows s at [] c))) own
+    ∙ ap (λ (u : Station). first_refusal pass (visits rows u at [] c)) e
+    ∙ (silent pass rows Passed at [] c quiet refl).1
+
+target_free : (db : List ℕ) (name : List ℕ) (t : Tree) (is : Items) → target_of db (command_visit (item name t is)) ≡ None
+unfolding target_offence
+target_free db name t is = refl
+
+view_free : (info : Option Collection) (c : Items) → view_of info (command_visit c) ≡ None
+unfolding view_offence
+view_free info c = refl
+
+ruled_free : (rows : List Row) (c : Items) (s : Station) → station rows Outside (command_entry c) ≡ s → s ≡ Passed → ruled_of rows (command_visit c) ≡ None
+unfolding ruled_offence
+ruled_free rows c s is e = ap (λ (u : Station). least (of_role rows u (command_entry c) ++ command_lacks u (names_of c))) (is ∙ e)
+
+content_free : (rows : List Row) (c : Items) → station rows Outside (command_entry c) ≡ Passed → content_of rows (command_visit c) ≡ None
+content_free [] c e = refl
+content_free (row ∷ rows) c e = ruled_free (row ∷ rows) c _ refl e
+
 -- and nothing is refused
-pub passed_no_refusal : (rows : List Row) (at : ℕ) (name : List ℕ) (t : Tree) (is : Items) → is_passed name ≡ true
-    → first_refusal rows (command_visits rows at (item name t is)) ≡ None
-unfolding offence
-passed_no_refusal rows at name t is h = unjudged rows (at + 4) (item name t is) _ (passed_command name (names_of is) h)
+pub passed_no_refusal : (db : List ℕ) (info : Option Collection) (rows : List Row) (at : ℕ) (name : List ℕ) (t : Tree) (is : Items) → is_passed name ≡ true
+    → verdict_on db info rows (command_visits rows at (item name t is)) ≡ None
+passed_no_refusal db info rows at name t is h =
+    let c : Items = item name t is in
+    let e = passed_command name (names_of is) h in
+    ap₂ or_else (unjudged (target_of db) rows (at + 4) c (station rows Outside (command_entry c)) (target_quiet db) (target_free db name t is) e)
+    (ap₂ or_else (unjudged (view_of info) rows (at + 4) c (station rows Outside (command_entry c)) (view_quiet info) (view_free info c) e)
+    (unjudged (content_of rows) rows (at + 4) c (station rows Outside (command_entry c)) (content_quiet rows) (content_free rows c e) e))

@@ -5,11 +5,11 @@ use Rattle.bson_tree.specs.Tree.{Items, node, item, no_items}
 use Rattle.encrypt_schema.specs.declared.marks.Role.TheVariants as role
 use Rattle.encrypt_schema.specs.declared.reason.Reason.TheVariants.{BadField, TypeNotAllowed, ArrayOnPath, BelowProtected, PositionalOnPath, OperatorOnProtected, Pipeline, FieldNotAllowed, RenameMixed}
 use Rattle.encrypt_schema.specs.Names.{named}
-use Rattle.encrypt_schema.specs.Policies.{is_policy, policy_at}
+use Rattle.encrypt_schema.specs.Policies.{is_same_policy, policy_at}
 use Rattle.encrypt_schema.specs.Classes.{class}
 use Rattle.encrypt_schema.specs.Dotted.{is_dollar, is_position, positional, split}
 use Rattle.encrypt_schema.specs.Stations.{is_set}
-use Rattle.encrypt_schema.specs.Offences.{is_again, offence, renamed}
+use Rattle.encrypt_schema.specs.Offences.{is_again, ruled_offence, renamed}
 use Rattle.encrypt_schema.specs.Visits.{is_payload, roles, content_verdict}
 use Rattle.encrypt_schema.proofs.Examples.{text, int, empty, one, update_by, update_with, mark_at, refusal, staff, pair}
 
@@ -19,7 +19,7 @@ dotted_set =
     update_by (text (codes "staff")) (node 3 (one (codes "$set") (node 3 (one (codes "a.b") (int 1)))))
 
 pub dotted_set_accepted : content_verdict staff 0 dotted_set ≡ None
-unfolding class is_again is_dollar is_payload is_position is_set named offence policy_at positional split
+unfolding class is_again is_dollar is_payload is_position is_set named ruled_offence policy_at positional split
 dotted_set_accepted = refl
 
 pub dotted_set_roles : roles staff 0 dotted_set ≡ mark_at 72 76 16 0 role.Store ∷ []
@@ -32,7 +32,7 @@ nested_set =
     update_by (text (codes "staff")) (node 3 (one (codes "$set") (node 3 (one (codes "a") (node 3 (one (codes "b") (int 1)))))))
 
 pub nested_set_accepted : content_verdict staff 0 nested_set ≡ None
-unfolding class is_again is_dollar is_payload is_position is_set named offence policy_at positional split
+unfolding class is_again is_dollar is_payload is_position is_set named ruled_offence policy_at positional split
 nested_set_accepted = refl
 
 pub nested_set_roles : roles staff 0 nested_set ≡ mark_at 77 81 16 0 role.Store ∷ []
@@ -44,7 +44,7 @@ abbrev pub replaced : Items
 replaced = update_by (text (codes "staff")) (node 3 (one (codes "a") (node 3 (one (codes "b") (int 1)))))
 
 pub replaced_accepted : content_verdict staff 0 replaced ≡ None
-unfolding class is_again is_dollar is_payload named offence policy_at
+unfolding class is_again is_dollar is_payload named ruled_offence policy_at
 replaced_accepted = refl
 
 pub replaced_roles : roles staff 0 replaced ≡ mark_at 67 71 16 0 role.Store ∷ []
@@ -57,7 +57,7 @@ positional_set =
     update_by (text (codes "staff")) (node 3 (one (codes "$set") (node 3 (one (codes "a.0.b") (int 1)))))
 
 pub positional_set_refused : content_verdict staff 0 positional_set ≡ refusal PositionalOnPath 74
-unfolding class is_again is_dollar is_position is_set named offence positional split
+unfolding class is_again is_dollar is_position is_set named ruled_offence positional split
 positional_set_refused = refl
 
 -- update staff {$setOnInsert: {"a.b": "t"}}, refused at 1.0.1.0.0
@@ -66,7 +66,7 @@ text_set =
     update_by (text (codes "staff")) (node 3 (one (codes "$setOnInsert") (node 3 (one (codes "a.b") (text (codes "t"))))))
 
 pub text_set_refused : content_verdict staff 0 text_set ≡ refusal TypeNotAllowed 80
-unfolding class is_again is_dollar is_payload is_position is_set named offence policy_at positional split
+unfolding class is_again is_dollar is_payload is_position is_set named ruled_offence policy_at positional split
 text_set_refused = refl
 
 -- update staff {$set: {a: []}}, refused at 1.0.1.0.0
@@ -75,7 +75,7 @@ array_set =
     update_by (text (codes "staff")) (node 3 (one (codes "$set") (node 3 (one (codes "a") (node 4 no_items)))))
 
 pub array_set_refused : content_verdict staff 0 array_set ≡ refusal ArrayOnPath 70
-unfolding class is_again is_dollar is_position is_set named offence positional split
+unfolding class is_again is_dollar is_position is_set named ruled_offence positional split
 array_set_refused = refl
 
 -- update staff {$set: 1}, refused at 1.0.1.0
@@ -83,7 +83,7 @@ abbrev pub number_set : Items
 number_set = update_by (text (codes "staff")) (node 3 (one (codes "$set") (int 1)))
 
 pub number_set_refused : content_verdict staff 0 number_set ≡ refusal BadField 63
-unfolding is_again is_dollar named offence
+unfolding is_again is_dollar is_set named ruled_offence
 number_set_refused = refl
 
 -- update staff {$set: {c: 1}, x: 1}, refused at 1.0.1.1
@@ -92,7 +92,7 @@ plain_name =
     update_by (text (codes "staff")) (node 3 (item (codes "$set") (node 3 (one (codes "c") (int 1))) (one (codes "x") (int 1))))
 
 pub plain_name_refused : content_verdict staff 0 plain_name ≡ refusal BadField 78
-unfolding class is_again is_dollar is_position is_set named offence positional split
+unfolding class is_again is_dollar is_position is_set named ruled_offence positional split
 plain_name_refused = refl
 
 -- update staff with the update [], refused at 1.0.1
@@ -100,7 +100,7 @@ abbrev pub pipeline : Items
 pipeline = update_by (text (codes "staff")) (node 4 no_items)
 
 pub pipeline_refused : content_verdict staff 0 pipeline ≡ refusal Pipeline 53
-unfolding is_again named offence
+unfolding is_again named ruled_offence
 pipeline_refused = refl
 
 -- update staff with an item without `u`, refused at 1.0
@@ -108,7 +108,7 @@ abbrev pub no_update : Items
 no_update = update_with (text (codes "staff")) (node 3 (one (codes "q") empty))
 
 pub no_update_refused : content_verdict staff 0 no_update ≡ refusal BadField 38
-unfolding is_again named offence
+unfolding is_again named ruled_offence
 no_update_refused = refl
 
 -- update staff with the updates {} and [], refused at 1.0.2
@@ -117,7 +117,7 @@ update_twice =
     update_with (text (codes "staff")) (node 3 (item (codes "q") empty (item (codes "u") empty (one (codes "u") (node 4 no_items)))))
 
 pub update_twice_refused : content_verdict staff 0 update_twice ≡ refusal BadField 61
-unfolding is_again named offence
+unfolding is_again named ruled_offence
 update_twice_refused = refl
 
 -- update staff with `arrayFilters`, refused at 1.0.2
@@ -126,7 +126,7 @@ array_filters =
     update_with (text (codes "staff")) (node 3 (item (codes "q") empty (item (codes "u") empty (one (codes "arrayFilters") (node 4 no_items)))))
 
 pub array_filters_refused : content_verdict staff 0 array_filters ≡ refusal FieldNotAllowed 72
-unfolding is_again named offence
+unfolding is_again named ruled_offence
 array_filters_refused = refl
 
 -- update staff {$unset: {"a.b": ""}}
@@ -135,7 +135,7 @@ unset =
     update_by (text (codes "staff")) (node 3 (one (codes "$unset") (node 3 (one (codes "a.b") (text [])))))
 
 pub unset_accepted : content_verdict staff 0 unset ≡ None
-unfolding class is_again is_dollar is_position is_set named offence positional split
+unfolding class is_again is_dollar is_position is_set named ruled_offence positional split
 unset_accepted = refl
 
 pub unset_roles : roles staff 0 unset ≡ []
@@ -148,7 +148,7 @@ unset_below =
     update_by (text (codes "staff")) (node 3 (one (codes "$unset") (node 3 (one (codes "a.b.c") (text [])))))
 
 pub unset_below_refused : content_verdict staff 0 unset_below ≡ refusal BelowProtected 76
-unfolding class is_again is_dollar is_position is_set named offence positional split
+unfolding class is_again is_dollar is_position is_set named ruled_offence positional split
 unset_below_refused = refl
 
 -- update staff {$inc: {"a.b": 1}}, refused at 1.0.1.0.0
@@ -157,7 +157,7 @@ increased =
     update_by (text (codes "staff")) (node 3 (one (codes "$inc") (node 3 (one (codes "a.b") (int 1)))))
 
 pub increased_refused : content_verdict staff 0 increased ≡ refusal OperatorOnProtected 72
-unfolding class is_again is_dollar is_position is_set named offence positional split
+unfolding class is_again is_dollar is_position is_set named ruled_offence positional split
 increased_refused = refl
 
 -- update staff {$inc: {"a.b.c": 1}}, refused at 1.0.1.0.0
@@ -166,7 +166,7 @@ increased_below =
     update_by (text (codes "staff")) (node 3 (one (codes "$inc") (node 3 (one (codes "a.b.c") (int 1)))))
 
 pub increased_below_refused : content_verdict staff 0 increased_below ≡ refusal OperatorOnProtected 74
-unfolding class is_again is_dollar is_position is_set named offence positional split
+unfolding class is_again is_dollar is_position is_set named ruled_offence positional split
 increased_below_refused = refl
 
 -- update staff {$rename: {"a.b": "c"}}, refused at 1.0.1.0.0
@@ -175,7 +175,7 @@ renamed_to_clear =
     update_by (text (codes "staff")) (node 3 (one (codes "$rename") (node 3 (one (codes "a.b") (text (codes "c"))))))
 
 pub renamed_to_clear_refused : content_verdict staff 0 renamed_to_clear ≡ refusal RenameMixed 75
-unfolding class is_again is_dollar is_position is_set named offence positional renamed split
+unfolding class is_again is_dollar is_position is_set named ruled_offence positional renamed split
 renamed_to_clear_refused = refl
 
 -- update staff {$rename: {"a.b.c": "d"}}, refused at 1.0.1.0.0
@@ -184,7 +184,7 @@ renamed_below =
     update_by (text (codes "staff")) (node 3 (one (codes "$rename") (node 3 (one (codes "a.b.c") (text (codes "d"))))))
 
 pub renamed_below_refused : content_verdict staff 0 renamed_below ≡ refusal RenameMixed 77
-unfolding class is_again is_dollar is_position is_set named offence positional renamed split
+unfolding class is_again is_dollar is_position is_set named ruled_offence positional renamed split
 renamed_below_refused = refl
 
 -- update staff {$rename: {"a.0.b": 1}}, refused at 1.0.1.0.0
@@ -193,7 +193,7 @@ renamed_to_number =
     update_by (text (codes "staff")) (node 3 (one (codes "$rename") (node 3 (one (codes "a.0.b") (int 1)))))
 
 pub renamed_to_number_refused : content_verdict staff 0 renamed_to_number ≡ refusal BadField 77
-unfolding class is_again is_dollar is_position is_set named offence positional renamed split
+unfolding class is_again is_dollar is_position is_set named ruled_offence positional renamed split
 renamed_to_number_refused = refl
 
 -- update staff {$rename: {c: "a.0.b"}}, refused at 1.0.1.0.0
@@ -202,7 +202,7 @@ renamed_to_position =
     update_by (text (codes "staff")) (node 3 (one (codes "$rename") (node 3 (one (codes "c") (text (codes "a.0.b"))))))
 
 pub renamed_to_position_refused : content_verdict staff 0 renamed_to_position ≡ refusal PositionalOnPath 73
-unfolding class is_again is_dollar is_position is_set named offence positional renamed split
+unfolding class is_again is_dollar is_position is_set named ruled_offence positional renamed split
 renamed_to_position_refused = refl
 
 -- update pair {$rename: {x: "y"}}
@@ -211,7 +211,7 @@ renamed_alike =
     update_by (text (codes "pair")) (node 3 (one (codes "$rename") (node 3 (one (codes "x") (text (codes "y"))))))
 
 pub renamed_alike_accepted : content_verdict pair 0 renamed_alike ≡ None
-unfolding class is_again is_dollar is_policy is_position is_set named offence policy_at positional renamed split
+unfolding class is_again is_dollar is_same_policy is_position is_set named ruled_offence policy_at positional renamed split
 renamed_alike_accepted = refl
 
 pub renamed_alike_roles : roles pair 0 renamed_alike ≡ []
@@ -224,5 +224,5 @@ renamed_otherwise =
     update_by (text (codes "pair")) (node 3 (one (codes "$rename") (node 3 (one (codes "x") (text (codes "z"))))))
 
 pub renamed_otherwise_refused : content_verdict pair 0 renamed_otherwise ≡ refusal RenameMixed 72
-unfolding class is_again is_dollar is_policy is_position is_set named offence policy_at positional renamed split
+unfolding class is_again is_dollar is_same_policy is_position is_set named ruled_offence policy_at positional renamed split
 renamed_otherwise_refused = refl

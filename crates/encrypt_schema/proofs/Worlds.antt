@@ -1,12 +1,14 @@
 -- What is shown of a command, its places that aren't below a protected one, is read from its skeleton alone.
-use Rattle.std.proofs.Common.{◌≡◌, ℕ, ◌+◌, Bool, true, false, cond, List, [], ◌∷◌, ◌++◌, length, map, Option, None, refl, sym, ap, ◌∙◌, arith}
+use Rattle.std.proofs.Common.{◌≡◌, ℕ, ◌+◌, Bool, true, false, cond, ◌&&◌, codes, List, [], ◌∷◌, ◌++◌, length, map, Option, refl, sym, ap, ◌∙◌, arith}
+use Rattle.std.proofs.lemmas.Bool.{false≢true}
 use Rattle.bson_tree.specs.Tree.{Tree, leaf, node, Items, no_items, item}
 use Rattle.bson_tree.specs.Spelling.{framed, value_bytes, items_bytes}
 use Rattle.encrypt_schema.specs.declared.reason.Reason.{Reason}
 use Rattle.encrypt_schema.specs.Row.{Row}
-use Rattle.encrypt_schema.specs.Stations.{Entry, Station, Outside, Store, Compare, station, has_role}
-use Rattle.encrypt_schema.specs.Offences.{offence, least}
-use Rattle.encrypt_schema.specs.Visits.{is_payload, entry, command_entry, Visit, visit, command_visit, mark_at, marks, Refusal, refusal, refused_at, first_refusal, or_else, station_of, offence_of}
+use Rattle.encrypt_schema.specs.Stations.{Entry, Station, Outside, Insert, Update, Delete, Find, Inserts, Updates, Deletes, Filter, Projection, Store, Compare, Passed, is_document, is_array, has_name, station, has_role}
+use Rattle.encrypt_schema.specs.Collection.{Collection}
+use Rattle.encrypt_schema.specs.Offences.{is_marked, target_offence, view_offence, ruled_offence, least}
+use Rattle.encrypt_schema.specs.Visits.{is_payload, entry, command_entry, Visit, visit, command_visit, mark_at, marks, target_of, view_of, ruled_of, content_of, first_refusal, station_of}
 use Rattle.encrypt_schema.specs.Skeletons.{Skeleton, hole, plain, branch, Skeletons, no_more, more, skeleton_in, skeletons, skeleton, width_of, widths_of}
 use Rattle.encrypt_schema.proofs.Tables.{without, station_without, reasons_without, command_without_role}
 use Rattle.encrypt_schema.proofs.Widths.{entry_in, names_kept, width_kept, widths_kept, veiled, entry_kept, station_kept}
@@ -97,6 +99,10 @@ mutual
       (shown_kept rows s (at + (2 + length name) + length (value_bytes t)) (elder ++ name ∷ []) is
       ∙ ap (λ (n : ℕ). seen rows s (at + (2 + length name) + n) (elder ++ name ∷ []) (skeletons rows s is)) (sym (width_kept rows u t)))
 
+no_role_cond : (b : Bool) (s u : Station) → has_role s ≡ false → has_role u ≡ false → has_role (cond b s u) ≡ false
+no_role_cond true s u p q = p
+no_role_cond false s u p q = q
+
 command_veiled : (rows : List Row) (e : Entry) → veiled (station rows Outside e) e ≡ e
 command_veiled rows e = ap (λ (b : Bool). cond b (without e) e) (command_without_role rows e)
 
@@ -134,37 +140,60 @@ marks_veiled rows [] = refl
 marks_veiled rows (v ∷ vs) =
     let a = mark_veiled rows v (has_role (station_of rows v)) refl in let b = marks_veiled rows vs in cc
 
-offence_by : (rows : List Row) (v : Visit) (b : Bool) → has_role (station_of rows v) ≡ b
-    → offence rows v.parent v.elder (cond b (without v.entry) v.entry) ≡ offence_of rows v
-unfolding offence
-offence_by rows v true h = ap least (reasons_without rows v.parent v.elder v.entry h)
-offence_by rows v false h = refl
+-- a pass that is read behind veils
+pub record IsVeiled (pass : Visit → Option Reason) (rows : List Row) : Type 0 where
+  pub read : (v : Visit) → pass (veil rows v) ≡ pass v
 
--- the offence of a place is read behind its veil
-pub offence_veiled : (rows : List Row) (v : Visit) → offence_of rows (veil rows v) ≡ offence_of rows v
-offence_veiled rows v = offence_by rows v (has_role (station_of rows v)) refl
+-- no field of a marked command is protected
+pub field_without_role : (rows : List Row) (s : Station) (e : Entry) → is_marked s ≡ true → has_role (station rows s e) ≡ false
+field_without_role rows Insert e h = no_role_cond (has_name (codes "documents") e && is_array e) Inserts Passed refl refl
+field_without_role rows Update e h = no_role_cond (has_name (codes "updates") e && is_array e) Updates Passed refl refl
+field_without_role rows Delete e h = no_role_cond (has_name (codes "deletes") e && is_array e) Deletes Passed refl refl
+field_without_role rows Find e h =
+    no_role_cond (has_name (codes "filter") e && is_document e) Filter _ refl (no_role_cond (has_name (codes "projection") e && is_document e) Projection Passed refl refl)
+field_without_role rows _ e h = absurd (false≢true h)
 
--- what is said of a place: where its value begins, and its offence
-pub record Judged : Type 0 where
-  pub at : ℕ
-  pub reason : Option Reason
+-- so it has no veil
+field_unveiled : (rows : List Row) (s : Station) (e : Entry) → is_marked s ≡ true → veiled (station rows s e) e ≡ e
+field_unveiled rows s e h = ap (λ (b : Bool). cond b (without e) e) (field_without_role rows s e h)
 
--- what is said of places, in order
-abbrev pub judged : List Row → List Visit → List Judged
-judged rows [] = []
-judged rows (v ∷ vs) = record { at = v.start; reason = offence_of rows v } ∷ judged rows vs
+target_read : (db : List ℕ) (rows : List Row) (s : Station) (elder : List (List ℕ)) (e : Entry)
+    → target_offence db s elder (veiled (station rows s e) e) ≡ target_offence db s elder e
+unfolding target_offence
+target_read db rows Outside elder e = ap (λ (x : Entry). target_offence db Outside elder x) (command_veiled rows e)
+target_read db rows Insert elder e = ap (λ (x : Entry). target_offence db Insert elder x) (field_unveiled rows Insert e refl)
+target_read db rows Update elder e = ap (λ (x : Entry). target_offence db Update elder x) (field_unveiled rows Update e refl)
+target_read db rows Delete elder e = ap (λ (x : Entry). target_offence db Delete elder x) (field_unveiled rows Delete e refl)
+target_read db rows Find elder e = ap (λ (x : Entry). target_offence db Find elder x) (field_unveiled rows Find e refl)
+target_read db rows _ elder e = refl
 
--- what is said of places is read behind their veils
-pub judged_veiled : (rows : List Row) (vs : List Visit) → judged rows (map (veil rows) vs) ≡ judged rows vs
-judged_veiled rows [] = refl
-judged_veiled rows (v ∷ vs) = let a = offence_veiled rows v in let b = judged_veiled rows vs in cc
+pub target_veiled : (db : List ℕ) (rows : List Row) → IsVeiled (target_of db) rows
+target_veiled db rows = record { read = λ v. target_read db rows v.parent v.elder v.entry }
 
--- the first refusal of what is said of each place
-abbrev pub first_said : List Judged → Option Refusal
-first_said [] = None
-first_said (j ∷ js) = or_else (refused_at j.at j.reason) (first_said js)
+view_read : (info : Option Collection) (s : Station) (elder : List (List ℕ)) (e f : Entry)
+    → view_offence info s elder e ≡ view_offence info s elder f
+unfolding view_offence
+view_read info s elder e f = refl
 
--- the first refusal is that of what is said
-pub said_first : (rows : List Row) (vs : List Visit) → first_said (judged rows vs) ≡ first_refusal rows vs
-said_first rows [] = refl
-said_first rows (v ∷ vs) = ap (or_else (refusal rows v)) (said_first rows vs)
+pub view_veiled : (info : Option Collection) (rows : List Row) → IsVeiled (view_of info) rows
+view_veiled info rows = record { read = λ v. view_read info v.parent v.elder _ _ }
+
+ruled_by : (rows : List Row) (v : Visit) (b : Bool) → has_role (station_of rows v) ≡ b
+    → ruled_offence rows v.parent v.elder (cond b (without v.entry) v.entry) ≡ ruled_of rows v
+unfolding ruled_offence
+ruled_by rows v true h = ap least (reasons_without rows v.parent v.elder v.entry h)
+ruled_by rows v false h = refl
+
+content_read : (rows : List Row) (v : Visit) → content_of rows (veil rows v) ≡ content_of rows v
+content_read [] v = refl
+content_read (row ∷ rows) v = ruled_by (row ∷ rows) v (has_role (station_of (row ∷ rows) v)) refl
+
+pub content_veiled : (rows : List Row) → IsVeiled (content_of rows) rows
+content_veiled rows = record { read = content_read rows }
+
+-- the first refusal is read behind veils
+pub first_veiled : (pass : Visit → Option Reason) (rows : List Row) (vs : List Visit) → IsVeiled pass rows
+    → first_refusal pass (map (veil rows) vs) ≡ first_refusal pass vs
+first_veiled pass rows [] p = refl
+first_veiled pass rows (v ∷ vs) p =
+    let a = p.read v in let b = first_veiled pass rows vs p in cc

@@ -1,7 +1,7 @@
 -- MongoDB commands insert, update, delete and find, by places: what a place is, read from its chain, which is
 -- the command, the place's ancestors and itself. A place is a list of child numbers; the empty one is the
 -- command itself.
-use Rattle.std.specs.Prelude.{ℕ, zero, suc, ◌+◌, Bool, false, not, ◌||◌, List, [], ◌∷◌, ◌++◌, length, Option, Some, None, unwrap_or, option_map, option_and_then, flat_map}
+use Rattle.std.specs.Prelude.{ℕ, zero, suc, ◌+◌, Bool, false, not, ◌||◌, List, [], ◌∷◌, ◌++◌, length, Option, Some, None, unwrap_or, map, option_map, option_and_then, flat_map}
 use Rattle.std.specs.Option.{option_map_or}
 use Rattle.bson_tree.specs.Tree.{Tree, leaf, node, Items, no_items, item}
 use Rattle.bson_tree.specs.Places.{tree_at, start_from, places}
@@ -13,7 +13,8 @@ use Rattle.encrypt_schema.specs.declared.reason.Reason.{Reason}
 use Rattle.encrypt_schema.specs.Row.{Row}
 use Rattle.encrypt_schema.specs.Stations.{Entry, Station, Outside, Store, Compare, station, has_role}
 use Rattle.encrypt_schema.specs.Offences.{offence}
-use Rattle.encrypt_schema.specs.Visits.{entry, Visit, station_of, mark_at, Refusal, refusal, or_else}
+use Rattle.encrypt_schema.specs.Collection.{Collection}
+use Rattle.encrypt_schema.specs.Visits.{entry, Visit, target_of, view_of, content_of, station_of, mark_at, Refusal, refused_at, or_else}
 
 -- what is looked at of an ancestor or of the place: the names of its elder siblings, and itself
 pub record Link : Type 0 where
@@ -62,16 +63,17 @@ last_of (onward l rest) = last_of rest
 abbrev pub station_along : List Row → Station → Chain → Station
 station_along rows s links = station rows (parent_along rows s links) (last_of links).entry
 
-abbrev pub offence_along : List Row → Station → Chain → Option Reason
-offence_along rows s links = offence rows (parent_along rows s links) (last_of links).elder (last_of links).entry
+abbrev pub offence_along : List ℕ → Option Collection → List Row → Station → Chain → Option Reason
+offence_along db info rows s links =
+    offence db info rows (parent_along rows s links) (last_of links).elder (last_of links).entry
 
 -- the station of a place of a command; none where there is no such place
 abbrev pub station_at : List Row → Items → List ℕ → Option Station
 station_at rows c place = option_map (station_along rows Outside) (chain place c)
 
--- the offence of a place of a command
-abbrev pub offence_at : List Row → Items → List ℕ → Option Reason
-offence_at rows c place = option_and_then (offence_along rows Outside) (chain place c)
+-- the offence of a place of a command, whichever pass it belongs to
+abbrev pub offence_at : List ℕ → Option Collection → List Row → Items → List ℕ → Option Reason
+offence_at db info rows c place = option_and_then (offence_along db info rows Outside) (chain place c)
 
 -- the length of the value at a place
 abbrev pub width_at : List ℕ → Tree → ℕ
@@ -97,14 +99,41 @@ abbrev pub visit_at : List Row → ℕ → Items → List ℕ → Option Visit
 visit_at rows at c place =
     option_map (visit_along rows Outside (start_at at place c) (width_at place (node 3 c))) (chain place c)
 
--- the refusal of a place of a command that begins at `at`
-abbrev pub refusal_at : List Row → ℕ → Items → List ℕ → Option Refusal
-refusal_at rows at c place = option_and_then (refusal rows) (visit_at rows at c place)
+-- the refusal of a place of a command that begins at `at`, in a pass
+abbrev pub refusal_at : (Visit → Option Reason) → List Row → ℕ → Items → List ℕ → Option Refusal
+refusal_at pass rows at c place = option_and_then (λ v. refused_at v.start (pass v)) (visit_at rows at c place)
+
+-- the chain of a place inside a document; none of the document itself
+abbrev pub chain_inside : List ℕ → Items → Option Chain
+chain_inside [] is = None
+chain_inside (i ∷ place) is = chain_from [] i place is
+
+-- a place inside a part of a command, read alike: a document of this station that begins at `at`, with its station
+-- and its offence
+abbrev pub part_visit_at : List Row → Station → ℕ → Items → List ℕ → Option Visit
+part_visit_at rows s at is place =
+    option_map (visit_along rows s (start_at at place is) (width_at place (node 3 is))) (chain_inside place is)
+
+abbrev pub part_station_at : List Row → Station → Items → List ℕ → Option Station
+part_station_at rows s is place = option_map (station_along rows s) (chain_inside place is)
+
+abbrev pub part_offence_at : List ℕ → Option Collection → List Row → Station → Items → List ℕ → Option Reason
+part_offence_at db info rows s is place = option_and_then (offence_along db info rows s) (chain_inside place is)
 
 -- the first refusal of several
 abbrev pub first_of : List (Option Refusal) → Option Refusal
 first_of [] = None
 first_of (refused ∷ others) = or_else refused (first_of others)
+
+-- the refusal of the first of a command's places that a pass refuses
+abbrev pub first_refusal_at : (Visit → Option Reason) → List Row → ℕ → Items → Option Refusal
+first_refusal_at pass rows at c = first_of (map (refusal_at pass rows at c) (places c))
+
+-- the verdict on a command that begins at `at`, by places: the target pass; else the view; else the content pass
+abbrev pub verdict_at : List ℕ → Option Collection → List Row → ℕ → Items → Option Refusal
+verdict_at db info rows at c =
+    or_else (first_refusal_at (target_of db) rows at c)
+    (or_else (first_refusal_at (view_of info) rows at c) (first_refusal_at (content_of rows) rows at c))
 
 -- an ancestor of the last place of a chain is protected
 abbrev pub is_below_role : List Row → Station → Chain → Bool

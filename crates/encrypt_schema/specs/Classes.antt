@@ -6,11 +6,11 @@ use Rattle.encrypt_schema.specs.Names.{named}
 use Rattle.encrypt_schema.specs.Row.{Row, paths}
 
 -- the first path is the second
-abbrev pub is_path : List (List ℕ) → List (List ℕ) → Bool
-is_path [] [] = true
-is_path [] (y ∷ q) = false
-is_path (x ∷ p) [] = false
-is_path (x ∷ p) (y ∷ q) = named x y && is_path p q
+abbrev pub is_same_path : List (List ℕ) → List (List ℕ) → Bool
+is_same_path [] [] = true
+is_same_path [] (y ∷ q) = false
+is_same_path (x ∷ p) [] = false
+is_same_path (x ∷ p) (y ∷ q) = named x y && is_same_path p q
 
 -- the first path is a prefix of the second: all of it is its front
 abbrev pub is_prefix : List (List ℕ) → List (List ℕ) → Bool
@@ -21,7 +21,7 @@ is_prefix (x ∷ p) (y ∷ q) = named x y && is_prefix p q
 -- the number of a path among others that are counted from n on
 abbrev pub number_of : ℕ → List (List ℕ) → List (List (List ℕ)) → Option ℕ
 number_of n path [] = None
-number_of n path (p ∷ ps) = if is_path path p then Some n else number_of (n + 1) path ps
+number_of n path (p ∷ ps) = if is_same_path path p then Some n else number_of (n + 1) path ps
 
 -- one of the paths is a prefix of this one
 abbrev pub covers : List (List ℕ) → List (List (List ℕ)) → Bool

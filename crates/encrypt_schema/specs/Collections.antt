@@ -72,8 +72,8 @@ info_fields is = do
   Some (record { name = name; view = view; schema = schema })
 
 -- a collection before has this name
-abbrev pub has_name : List ℕ → List Collection → Bool
-has_name name before = is_some (collection_of before name)
+abbrev pub is_taken : List ℕ → List Collection → Bool
+is_taken name before = is_some (collection_of before name)
 
 -- the rules of an info: those of its schema; none of a view, whose schema isn't read
 abbrev pub rules_by : Bool → Option Items → Result (List Row) SchemaFault
@@ -89,7 +89,7 @@ with_rules fields (Ok rows) = Ok (record { name = fields.name; view = fields.vie
 abbrev pub judged_fields : List Collection → Option Fields → Result Collection InfoKind
 judged_fields before None = Err Shape
 judged_fields before (Some fields) =
-    if has_name fields.name before then Err Twice else with_rules fields (rules_by fields.view fields.schema)
+    if is_taken fields.name before then Err Twice else with_rules fields (rules_by fields.view fields.schema)
 
 -- the collection that an info states, behind those before: its form is judged first, then its name, then its schema
 unfoldable pub collection_in : List Collection → Items → Result Collection InfoKind

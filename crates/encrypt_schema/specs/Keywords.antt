@@ -51,5 +51,5 @@ unfoldable pub keyword_at : List ℕ → Option (ℕ × Form)
 keyword_at name = row_at 0 name keywords
 
 -- a table of the code, as its rows
-abbrev pub rows_in : List (Bor (List ℕ) × Form) → List (List ℕ × Form)
-rows_in table = map (λ row. (row.0.now, row.1)) table
+abbrev pub forms_in : List (Bor (List ℕ) × Form) → List (List ℕ × Form)
+forms_in table = map (λ row. (row.0.now, row.1)) table

@@ -5,27 +5,85 @@ use Rattle.encrypt_schema.specs.declared.class.Class.{Class}
 use Rattle.encrypt_schema.specs.declared.class.Class.TheVariants.{Protected, Below, Above, Clear}
 use Rattle.encrypt_schema.specs.declared.policy.Policy.{Policy}
 use Rattle.encrypt_schema.specs.declared.reason.Reason.{Reason}
-use Rattle.encrypt_schema.specs.declared.reason.Reason.TheVariants.{BadField, TypeNotAllowed, AlreadyEncrypted, ArrayOnPath, BelowProtected, PositionalOnPath, RandomCompared, OperatorOnProtected, PrefixCompared, Pipeline, FieldNotAllowed, RenameMixed}
+use Rattle.encrypt_schema.specs.declared.reason.Reason.TheVariants.{NotACommand, BadField, WrongDb, View, TypeNotAllowed, AlreadyEncrypted, ArrayOnPath, BelowProtected, PositionalOnPath, RandomCompared, OperatorOnProtected, PrefixCompared, Pipeline, FieldNotAllowed, RenameMixed}
 use Rattle.encrypt_schema.specs.Reasons.{reason_code}
 use Rattle.encrypt_schema.specs.Names.{named, is_among}
 use Rattle.encrypt_schema.specs.Row.{Row}
-use Rattle.encrypt_schema.specs.Policies.{policy_at, is_random, has_type, is_policy}
+use Rattle.encrypt_schema.specs.Collection.{Collection}
+use Rattle.encrypt_schema.specs.Policies.{policy_at, is_random, has_type, is_same_policy}
 use Rattle.encrypt_schema.specs.Classes.{class}
 use Rattle.encrypt_schema.specs.Dotted.{split, is_dollar, positional}
-use Rattle.encrypt_schema.specs.Stations.{Entry, Subject, Field, Prefix, Station, Outside, Insert, Update, Delete, Find, Inserts, Updates, Deletes, UpdateItem, DeleteItem, Filter, Cases, Projection, Test, Elements, Operators, Sets, Argument, Document, Store, Compare, Bare, Passed, is_document, is_array, is_operators, has_name, is_logical, is_equality, is_membership, is_random_field, dotted, station}
+use Rattle.encrypt_schema.specs.Stations.{Entry, Subject, Field, Prefix, Station, Outside, Insert, Update, Delete, Find, Unknown, Inserts, Updates, Deletes, UpdateItem, DeleteItem, Filter, Cases, Projection, Test, Elements, Operators, Sets, Argument, Document, Store, Compare, Bare, is_document, is_array, is_operators, has_name, is_logical, is_equality, is_membership, is_random_field, dotted, station}
 
--- a reason where a test holds
+-- a reason where a test holds, and where it doesn't
 abbrev pub when : Bool → Reason → List Reason
 when true reason = reason ∷ []
 when false reason = []
+
+abbrev pub unless : Bool → Reason → List Reason
+unless test reason = when (not test) reason
+
+-- a string (02)
+abbrev pub is_string : Entry → Bool
+is_string e = e.tag == 2
+
+-- the text in the bytes of a string: behind a length of four bytes, and before a final 00
+abbrev pub text_of : List ℕ → List ℕ
+text_of raw = take (length raw - 5) (drop 4 raw)
+
+-- no bytes; no names
+abbrev pub is_empty : List ℕ → Bool
+is_empty [] = true
+is_empty (byte ∷ bytes) = false
+
+abbrev pub has_none : List (List ℕ) → Bool
+has_none [] = true
+has_none (name ∷ names) = false
 
 -- one of the names that are read stands for the second time
 unfoldable pub is_again : List (List ℕ) → List (List ℕ) → List ℕ → Bool
 is_again read elder name = is_among name read && is_among name elder
 
--- a required name is missing
-abbrev pub lacks : List ℕ → List (List ℕ) → Bool
-lacks word names = not (is_among word names)
+-- Target pass
+
+-- the name of the database's field
+unfoldable pub is_db : List ℕ → Bool
+is_db name = named name (codes "$db")
+
+-- a field of a marked command on the database `db`. The first: no string, or the empty string. A later one: the
+-- command's name; a second `$db`; a `$db` that is no string, or another text
+abbrev pub of_field : List ℕ → List (List ℕ) → Entry → List Reason
+of_field db [] e = when (not (is_string e) || is_empty (text_of e.raw)) BadField
+of_field db (command ∷ elder) e =
+    when (named e.name command) BadField
+    ++ when (is_db e.name && (is_among e.name elder || not (is_string e))) BadField
+    ++ when (is_db e.name && is_string e && not (named (text_of e.raw) db)) WrongDb
+
+-- a marked command
+abbrev pub is_marked : Station → Bool
+is_marked Insert = true
+is_marked Update = true
+is_marked Delete = true
+is_marked Find = true
+is_marked _ = false
+
+-- the target pass at a place: the first argument behind the database is what its parent is
+abbrev pub of_target : List ℕ → Station → List (List ℕ) → Entry → List Reason
+-- the document, empty; the first field, its name not known; a field of a marked command
+of_target db Outside elder e = when (has_none e.names) NotACommand
+of_target db Unknown elder e = when (has_none elder) NotACommand
+of_target db parent elder e = if is_marked parent then of_field db elder e else []
+
+-- the collection is a view
+abbrev pub is_view : Option Collection → Bool
+is_view None = false
+is_view (Some collection) = collection.view
+
+-- the first field of a marked command whose collection is a view
+abbrev pub of_view : Option Collection → Station → List (List ℕ) → Entry → List Reason
+of_view info parent elder e = when (is_marked parent && has_none elder && is_view info) View
+
+-- Content pass: what a value has to be by its own role
 
 -- the types that no policy allows: undefined (06), null (0A), maxKey (7F), minKey (FF)
 abbrev pub is_never_allowed : ℕ → Bool
@@ -41,14 +99,29 @@ stored_under policy e =
 abbrev pub stored : List Row → ℕ → Entry → List Reason
 stored rows i e = stored_under (policy_at i rows) e
 
--- a value that is compared. With the field of a rule: what is wrong where it is stored; the random algorithm;
--- a regex (0B). At a path above fields of rules: a document or an array
-abbrev pub compared : List Row → Subject → Entry → List Reason
-compared rows (Field i) e =
+-- by the place's own station: a stored value; a compared value, also under the random algorithm, or a regex (0B);
+-- a value compared at a path above fields of rules, a document or an array
+abbrev pub of_role : List Row → Station → Entry → List Reason
+of_role rows (Store i) e = stored rows i e
+of_role rows (Compare i) e =
     stored rows i e
     ++ when (is_random (policy_at i rows).algorithm) RandomCompared
     ++ when (e.tag == 11) OperatorOnProtected
-compared rows Prefix e = when (is_document e || is_array e) PrefixCompared
+of_role rows Bare e = when (is_document e || is_array e) PrefixCompared
+of_role rows _ e = []
+
+-- Content pass: what a value has to be where it stands
+
+-- the reasons of a place by its path's class: on a field of a rule, above some, below one; none elsewhere
+abbrev pub by_class : List Reason → List Reason → List Reason → Class → List Reason
+by_class on above below (Protected i) = on
+by_class on above below Above = above
+by_class on above below Below = below
+by_class on above below Clear = []
+
+-- a required name is missing
+abbrev pub lacks : List ℕ → List (List ℕ) → Bool
+lacks word names = not (is_among word names)
 
 -- a required name of a command is missing
 abbrev pub command_lacks : Station → List (List ℕ) → List Reason
@@ -57,19 +130,25 @@ command_lacks Update names = when (lacks (codes "updates") names) BadField
 command_lacks Delete names = when (lacks (codes "deletes") names) BadField
 command_lacks _ names = []
 
--- a value in a stored document, by its path's class
-abbrev pub document_value : List Row → Class → Entry → List Reason
-document_value rows (Protected i) e = stored rows i e
-document_value rows Above e = when (is_array e) ArrayOnPath
-document_value rows Below e = []
-document_value rows Clear e = []
+-- a name that is read: one for the second time
+abbrev pub again : List (List ℕ) → List (List ℕ) → Entry → List Reason
+again read elder e = when (is_again read elder e.name) BadField
 
--- a value in a filter, by its path's class: one that is no operator document is compared
-abbrev pub filter_value : List Row → Class → Entry → List Reason
-filter_value rows (Protected i) e = if is_operators e then [] else compared rows (Field i) e
-filter_value rows Above e = if is_operators e then [] else compared rows Prefix e
-filter_value rows Below e = BelowProtected ∷ []
-filter_value rows Clear e = []
+-- the field of a name: no array; no document; one that can't be used
+abbrev pub want_array : List ℕ → Entry → List Reason
+want_array word e = when (has_name word e && not (is_array e)) BadField
+
+abbrev pub want_document : List ℕ → Entry → List Reason
+want_document word e = when (has_name word e && not (is_document e)) BadField
+
+abbrev pub unusable : List ℕ → Entry → List Reason
+unusable word e = when (has_name word e) FieldNotAllowed
+
+-- the names of a document with the single name `$slice` or `$meta`
+abbrev pub is_slice_or_meta : List (List ℕ) → Bool
+is_slice_or_meta [] = false
+is_slice_or_meta (name ∷ []) = named name (codes "$slice") || named name (codes "$meta")
+is_slice_or_meta (name ∷ other ∷ names) = false
 
 -- the value of `$in`, `$nin`: no array; else the random algorithm
 abbrev pub membership_value : List Row → Subject → Entry → List Reason
@@ -82,50 +161,14 @@ not_value (Field i) e =
     if is_operators e then [] else if e.tag == 11 then OperatorOnProtected ∷ [] else BadField ∷ []
 not_value Prefix e = if is_operators e then [] else if e.tag == 11 then [] else BadField ∷ []
 
--- an element of an operator document
-abbrev pub test_value : List Row → Subject → Entry → List Reason
-test_value rows x e =
-    if is_equality e.name then compared rows x e
-    else if is_membership e.name then membership_value rows x e
-    else if has_name (codes "$not") e then not_value x e
-    else if has_name (codes "$exists") e then []
-    else OperatorOnProtected ∷ []
-
--- an element of a projection: an array; a document other than one with the single name `$slice` or `$meta`
-abbrev pub is_slice_or_meta : List (List ℕ) → Bool
-is_slice_or_meta [] = false
-is_slice_or_meta (name ∷ []) = named name (codes "$slice") || named name (codes "$meta")
-is_slice_or_meta (name ∷ other ∷ names) = false
-
--- an element of the argument of `$set` and `$setOnInsert`, by its path's class
-abbrev pub set_value : List Row → Class → Entry → List Reason
-set_value rows (Protected i) e = stored rows i e
-set_value rows Above e = when (is_array e) ArrayOnPath
-set_value rows Below e = BelowProtected ∷ []
-set_value rows Clear e = []
-
--- an element of the argument of `$unset`, by its path's class
-abbrev pub unset_value : Class → List Reason
-unset_value (Protected i) = []
-unset_value Above = []
-unset_value Below = BelowProtected ∷ []
-unset_value Clear = []
-
--- an element of the argument of an operator of no other row, by its path's class
-abbrev pub other_value : Class → List Reason
-other_value (Protected i) = OperatorOnProtected ∷ []
-other_value Above = OperatorOnProtected ∷ []
-other_value Below = OperatorOnProtected ∷ []
-other_value Clear = []
-
--- the text in the bytes of a string: behind a length of four bytes, and before a final 00
-abbrev pub text_of : List ℕ → List ℕ
-text_of raw = take (length raw - 5) (drop 4 raw)
+-- a path with a position in an array on the way to fields of rules
+abbrev pub positional_path : List Row → List ℕ → List Reason
+positional_path rows name = when (positional rows (split name)) PositionalOnPath
 
 -- a field may be renamed where both names are clear, or protected by one policy
 abbrev pub may_rename : List Row → Class → Class → Bool
 may_rename rows Clear Clear = true
-may_rename rows (Protected i) (Protected j) = is_policy (policy_at i rows) (policy_at j rows)
+may_rename rows (Protected i) (Protected j) = is_same_policy (policy_at i rows) (policy_at j rows)
 may_rename rows _ _ = false
 
 -- an element of the argument of `$rename`: no string; a positional target; fields that are protected
@@ -136,87 +179,74 @@ renamed rows e =
     ++ when (positional rows (split (text_of e.raw))) PositionalOnPath
     ++ when (not (may_rename rows (dotted rows e.name) (dotted rows (text_of e.raw)))) RenameMixed
 
--- an element of an operator's argument
+-- an element of the argument of an operator other than `$set` and `$setOnInsert`
 abbrev pub argument_value : List Row → List ℕ → Entry → List Reason
 argument_value rows operator e =
-    if named operator (codes "$unset") then unset_value (dotted rows e.name)
+    if named operator (codes "$unset") then by_class [] [] (BelowProtected ∷ []) (dotted rows e.name)
     else if named operator (codes "$rename") then renamed rows e
-    else other_value (dotted rows e.name)
+    else by_class (OperatorOnProtected ∷ []) (OperatorOnProtected ∷ []) (OperatorOnProtected ∷ []) (dotted rows e.name)
 
--- all reasons that hold of a place: the first argument behind the rules is what its parent is
-abbrev pub reasons_at : List Row → Station → List (List ℕ) → Entry → List Reason
+-- by what the parent is: the first argument behind the rules
+abbrev pub of_row : List Row → Station → List (List ℕ) → Entry → List Reason
 -- a command: a required name is missing
-reasons_at rows Outside elder e = command_lacks (station rows Outside e) e.names
--- insert: `documents`, once, an array
-reasons_at rows Insert elder e =
-    when (is_again (codes "documents" ∷ []) elder e.name) BadField
-    ++ when (has_name (codes "documents") e && not (is_array e)) BadField
--- of documents
-reasons_at rows Inserts elder e = when (not (is_document e)) BadField
--- update: `updates`, once, an array; `let`, once, can't be used
-reasons_at rows Update elder e =
-    when (is_again (codes "updates" ∷ codes "let" ∷ []) elder e.name) BadField
-    ++ when (has_name (codes "updates") e && not (is_array e)) BadField
-    ++ when (has_name (codes "let") e) FieldNotAllowed
--- of documents; each has `q` and `u`
-reasons_at rows Updates elder e =
-    when (not (is_document e)) BadField
-    ++ when (lacks (codes "q") e.names || lacks (codes "u") e.names) BadField
--- an item of `updates`: each name once; `q` a document; `u` a document, or an array, which is a pipeline;
--- `arrayFilters` and `c` can't be used
-reasons_at rows UpdateItem elder e =
-    when (is_again (codes "q" ∷ codes "u" ∷ codes "arrayFilters" ∷ codes "c" ∷ []) elder e.name) BadField
-    ++ when (has_name (codes "q") e && not (is_document e)) BadField
+of_row rows Outside elder e = command_lacks (station rows Outside e) e.names
+-- insert: `documents`, an array of documents
+of_row rows Insert elder e = again (codes "documents" ∷ []) elder e ++ want_array (codes "documents") e
+of_row rows Inserts elder e = unless (is_document e) BadField
+-- update: `updates`, an array of documents; `let`
+of_row rows Update elder e =
+    again (codes "updates" ∷ codes "let" ∷ []) elder e ++ want_array (codes "updates") e ++ unusable (codes "let") e
+of_row rows Updates elder e =
+    unless (is_document e) BadField ++ when (lacks (codes "q") e.names || lacks (codes "u") e.names) BadField
+-- an item of `updates`: `q`, a document; `u`, an array, or another non-document; `arrayFilters`, `c`
+of_row rows UpdateItem elder e =
+    again (codes "q" ∷ codes "u" ∷ codes "arrayFilters" ∷ codes "c" ∷ []) elder e ++ want_document (codes "q") e
     ++ when (has_name (codes "u") e && is_array e) Pipeline
     ++ when (has_name (codes "u") e && not (is_array e) && not (is_document e)) BadField
-    ++ when (has_name (codes "arrayFilters") e || has_name (codes "c") e) FieldNotAllowed
--- delete: `deletes`, once, an array; `let`, once, can't be used
-reasons_at rows Delete elder e =
-    when (is_again (codes "deletes" ∷ codes "let" ∷ []) elder e.name) BadField
-    ++ when (has_name (codes "deletes") e && not (is_array e)) BadField
-    ++ when (has_name (codes "let") e) FieldNotAllowed
--- of documents; each has `q`
-reasons_at rows Deletes elder e =
-    when (not (is_document e)) BadField ++ when (lacks (codes "q") e.names) BadField
--- an item of `deletes`: `q`, once, a document
-reasons_at rows DeleteItem elder e =
-    when (is_again (codes "q" ∷ []) elder e.name) BadField
-    ++ when (has_name (codes "q") e && not (is_document e)) BadField
--- find: each name once; `filter` and `projection` documents; `min`, `max` and `let` can't be used
-reasons_at rows Find elder e =
-    when
-    (is_again (codes "filter" ∷ codes "projection" ∷ codes "min" ∷ codes "max" ∷ codes "let" ∷ []) elder e.name)
-    BadField
-    ++ when ((has_name (codes "filter") e || has_name (codes "projection") e) && not (is_document e)) BadField
-    ++ when (has_name (codes "min") e || has_name (codes "max") e || has_name (codes "let") e) FieldNotAllowed
--- an element of a projection
-reasons_at rows Projection elder e =
+    ++ unusable (codes "arrayFilters") e ++ unusable (codes "c") e
+-- delete: `deletes`, an array of documents; `let`
+of_row rows Delete elder e =
+    again (codes "deletes" ∷ codes "let" ∷ []) elder e ++ want_array (codes "deletes") e ++ unusable (codes "let") e
+of_row rows Deletes elder e = unless (is_document e) BadField ++ when (lacks (codes "q") e.names) BadField
+-- an item of `deletes`: `q`, a document
+of_row rows DeleteItem elder e = again (codes "q" ∷ []) elder e ++ want_document (codes "q") e
+-- find: `filter` and `projection`, documents; `min`, `max`, `let`
+of_row rows Find elder e =
+    again (codes "filter" ∷ codes "projection" ∷ codes "min" ∷ codes "max" ∷ codes "let" ∷ []) elder e
+    ++ want_document (codes "filter") e ++ want_document (codes "projection") e
+    ++ unusable (codes "min") e ++ unusable (codes "max") e ++ unusable (codes "let") e
+-- an element of a projection: an array; a document other than one with the single name `$slice` or `$meta`
+of_row rows Projection elder e =
     when (is_array e || (is_document e && not (is_slice_or_meta e.names))) FieldNotAllowed
--- a stored document at a path
-reasons_at rows (Document path) elder e = document_value rows (class rows (path ++ e.name ∷ [])) e
--- a filter: `$and`, `$or`, `$nor` take an array; of the other names that begin with a dollar sign only
--- `$comment` can be used; a path may not be positional
-reasons_at rows Filter elder e =
-    if is_logical e.name then when (not (is_array e)) BadField
-    else if is_dollar e.name then when (not (has_name (codes "$comment") e)) FieldNotAllowed
-    else when (positional rows (split e.name)) PositionalOnPath ++ filter_value rows (dotted rows e.name) e
--- of documents
-reasons_at rows Cases elder e = when (not (is_document e)) BadField
-reasons_at rows (Test x) elder e = test_value rows x e
-reasons_at rows (Elements x) elder e = compared rows x e
--- an update with operators: each name begins with a dollar sign; each value is a document
-reasons_at rows Operators elder e =
-    when (not (is_dollar e.name)) BadField ++ when (not (is_document e)) BadField
--- an argument: a path may not be positional
-reasons_at rows Sets elder e =
-    when (positional rows (split e.name)) PositionalOnPath ++ set_value rows (dotted rows e.name) e
-reasons_at rows (Argument operator) elder e =
-    when (positional rows (split e.name)) PositionalOnPath ++ argument_value rows operator e
+-- table Document, at a path
+of_row rows (Document front) elder e =
+    by_class [] (when (is_array e) ArrayOnPath) [] (class rows (front ++ e.name ∷ []))
+-- table Filter: `$and`, `$or`, `$nor`, an array of documents; of the other names with `$`, `$comment`; a dotted path
+of_row rows Filter elder e =
+    if is_logical e.name then unless (is_array e) BadField
+    else if is_dollar e.name then unless (has_name (codes "$comment") e) FieldNotAllowed
+    else positional_path rows e.name ++ by_class [] [] (BelowProtected ∷ []) (dotted rows e.name)
+of_row rows Cases elder e = unless (is_document e) BadField
+-- an operator document: `$eq`, `$ne`; `$in`, `$nin`; `$not`; `$exists`; any other
+of_row rows (Test x) elder e =
+    if is_equality e.name then []
+    else if is_membership e.name then membership_value rows x e
+    else if has_name (codes "$not") e then not_value x e
+    else unless (has_name (codes "$exists") e) OperatorOnProtected
+of_row rows (Elements x) elder e = []
+-- table Update: an operator; an element of its argument, by its dotted path
+of_row rows Operators elder e = unless (is_dollar e.name) BadField ++ unless (is_document e) BadField
+of_row rows Sets elder e =
+    positional_path rows e.name
+    ++ by_class [] (when (is_array e) ArrayOnPath) (BelowProtected ∷ []) (dotted rows e.name)
+of_row rows (Argument operator) elder e = positional_path rows e.name ++ argument_value rows operator e
 -- what isn't looked into
-reasons_at rows (Store i) elder e = []
-reasons_at rows (Compare i) elder e = []
-reasons_at rows Bare elder e = []
-reasons_at rows Passed elder e = []
+of_row rows _ elder e = []
+
+-- all reasons that hold of a place under rules: by its own station, and by its parent's
+abbrev pub reasons_at : List Row → Station → List (List ℕ) → Entry → List Reason
+reasons_at rows parent elder e =
+    of_role rows (station rows parent e) e ++ of_row rows parent elder e
 
 -- the reason with the lesser number, the first where they are one
 abbrev pub lesser : Reason → Option Reason → Reason
@@ -228,6 +258,29 @@ abbrev pub least : List Reason → Option Reason
 least [] = None
 least (reason ∷ reasons) = Some (lesser reason (least reasons))
 
--- the offence of a place: the least reason that holds of it
-unfoldable pub offence : List Row → Station → List (List ℕ) → Entry → Option Reason
-offence rows parent elder e = least (reasons_at rows parent elder e)
+-- the offence of a place in a pass: the least reason that holds of it
+unfoldable pub target_offence : List ℕ → Station → List (List ℕ) → Entry → Option Reason
+target_offence db parent elder e = least (of_target db parent elder e)
+
+unfoldable pub view_offence : Option Collection → Station → List (List ℕ) → Entry → Option Reason
+view_offence info parent elder e = least (of_view info parent elder e)
+
+-- that of the content pass, under rules
+unfoldable pub ruled_offence : List Row → Station → List (List ℕ) → Entry → Option Reason
+ruled_offence rows parent elder e = least (reasons_at rows parent elder e)
+
+-- the same whether there are rules or not: without rules nothing is refused
+abbrev pub content_offence : List Row → Station → List (List ℕ) → Entry → Option Reason
+content_offence [] parent elder e = None
+content_offence (row ∷ rows) parent elder e = ruled_offence (row ∷ rows) parent elder e
+
+-- the first of two reasons
+abbrev pub first_reason : Option Reason → Option Reason → Option Reason
+first_reason None later = later
+first_reason (Some reason) later = Some reason
+
+-- the offence of a place: that of the first pass that has one
+abbrev pub offence : List ℕ → Option Collection → List Row → Station → List (List ℕ) → Entry → Option Reason
+offence db info rows parent elder e =
+    first_reason (target_offence db parent elder e)
+    (first_reason (view_offence info parent elder e) (content_offence rows parent elder e))

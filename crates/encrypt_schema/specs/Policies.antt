@@ -32,20 +32,20 @@ abbrev pub are_types_of : List ℕ → List ℕ → Bool
 are_types_of types others = list_all (λ tag. has_type others tag) types
 
 -- two algorithms are one
-abbrev pub is_algorithm : Algorithm → Algorithm → Bool
-is_algorithm Deterministic Deterministic = true
-is_algorithm Deterministic Random = false
-is_algorithm Random Deterministic = false
-is_algorithm Random Random = true
+abbrev pub is_same_algorithm : Algorithm → Algorithm → Bool
+is_same_algorithm Deterministic Deterministic = true
+is_same_algorithm Deterministic Random = false
+is_same_algorithm Random Deterministic = false
+is_same_algorithm Random Random = true
 
 -- two keys are one
-abbrev pub is_key : KeyRef → KeyRef → Bool
-is_key (Id id) (Id other) = bytes_eq id other
+abbrev pub is_same_key : KeyRef → KeyRef → Bool
+is_same_key (Id id) (Id other) = bytes_eq id other
 
 -- two policies have equal algorithms, keys and sets of types
-unfoldable pub is_policy : Policy → Policy → Bool
-is_policy policy other =
-    is_algorithm policy.algorithm other.algorithm
-    && is_key policy.key other.key
+unfoldable pub is_same_policy : Policy → Policy → Bool
+is_same_policy policy other =
+    is_same_algorithm policy.algorithm other.algorithm
+    && is_same_key policy.key other.key
     && are_types_of policy.types other.types
     && are_types_of other.types policy.types

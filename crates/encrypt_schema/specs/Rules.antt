@@ -89,12 +89,12 @@ is_formed position is = do
 unfoldable pub setting_of : List ℕ → List ℕ → Items → Option Tree
 setting_of keyword setting is = option_and_then (λ t. find setting (kids_of t)) (find keyword is)
 
-abbrev pub or_else : Option Tree → Option Tree → Option Tree
-or_else None other = other
-or_else (Some t) other = Some t
+abbrev pub or_child : Option Tree → Option Tree → Option Tree
+or_child None other = other
+or_child (Some t) other = Some t
 
 unfoldable pub stated : List ℕ → Items → Option Tree
-stated setting is = or_else (setting_of (codes "encrypt") setting is) (setting_of (codes "encryptMetadata") setting is)
+stated setting is = or_child (setting_of (codes "encrypt") setting is) (setting_of (codes "encryptMetadata") setting is)
 
 -- 4. the algorithm in force inside: the one stated, which is one of two texts, else the one around
 unfoldable pub algorithm_named : List ℕ → Option Algorithm

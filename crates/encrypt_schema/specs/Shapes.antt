@@ -12,12 +12,12 @@ abbrev pub key_of : Tree → Option (List ℕ)
 key_of t = if is_array t then option_and_then uuid_of (single (kids_of t)) else None
 
 -- `bsonType` of `encrypt`: a string, or an array of strings that isn't empty
-abbrev pub is_empty : Items → Bool
-is_empty no_items = true
-is_empty (item name t is) = false
+abbrev pub has_no_items : Items → Bool
+has_no_items no_items = true
+has_no_items (item name t is) = false
 
 abbrev pub is_types : Tree → Bool
-is_types t = if is_string t then true else (if is_empty (kids_of t) then false else is_array_of is_string t)
+is_types t = if is_string t then true else (if has_no_items (kids_of t) then false else is_array_of is_string t)
 
 -- a setting: `keyId`, `algorithm`, and where types may be named `bsonType`, each of its form
 unfoldable pub is_setting : Bool → List ℕ → Tree → Bool

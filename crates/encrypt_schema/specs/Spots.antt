@@ -42,8 +42,8 @@ abbrev pub row_by : List (List (List ℕ)) → Rule → Row
 row_by known rule = record { path = get_or known rule.spot []; policy = rule.policy }
 
 -- the rules that a tree of names holds
-abbrev pub rows_of : List Spot → List Rule → List Row
-rows_of spots rules = map (row_by (spot_paths spots)) rules
+abbrev pub grid_rows : List Spot → List Rule → List Row
+grid_rows spots rules = map (row_by (spot_paths spots)) rules
 
 -- the rules end at spots
 abbrev pub AreInside : ℕ → List Rule → Type 0
@@ -54,8 +54,8 @@ AreInside count (rule ∷ rules) = (rule.spot < count) × AreInside count rules
 pub record IsGrid (spots : List Spot) (rules : List Rule) : Type 0 where
   pub root : 0 < length spots
   pub tree : IsTree (spot_paths spots) (child_at spots)
-  pub rows : HasRules (spot_paths spots) (rule_at spots) (paths (rows_of spots rules))
-  pub whole : spot_paths spots ≡ fronts (rows_of spots rules)
+  pub rows : HasRules (spot_paths spots) (rule_at spots) (paths (grid_rows spots rules))
+  pub whole : spot_paths spots ≡ fronts (grid_rows spots rules)
   pub inside : AreInside (length spots) rules
   pub few : length rules ≤ 4096
   pub size : length spots ≤ 1 + 100 * length rules

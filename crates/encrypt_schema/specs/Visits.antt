@@ -9,7 +9,8 @@ use Rattle.encrypt_schema.specs.declared.marks.Role.TheVariants as role
 use Rattle.encrypt_schema.specs.declared.reason.Reason.{Reason}
 use Rattle.encrypt_schema.specs.Row.{Row}
 use Rattle.encrypt_schema.specs.Stations.{Entry, Station, Outside, Store, Compare, station}
-use Rattle.encrypt_schema.specs.Offences.{offence}
+use Rattle.encrypt_schema.specs.Collection.{Collection}
+use Rattle.encrypt_schema.specs.Offences.{target_offence, view_offence, ruled_offence, content_offence}
 
 -- the names of a document's elements
 abbrev pub names_of : Items → List (List ℕ)
@@ -116,9 +117,18 @@ marks rows (v ∷ vs) = mark_at (station_of rows v) v ++ marks rows vs
 abbrev pub roles : List Row → ℕ → Items → List Mark
 roles rows at c = marks rows (command_visits rows at c)
 
--- the offence of a place
-abbrev pub offence_of : List Row → Visit → Option Reason
-offence_of rows v = offence rows v.parent v.elder v.entry
+-- the offence of a place in each pass
+abbrev pub target_of : List ℕ → Visit → Option Reason
+target_of db v = target_offence db v.parent v.elder v.entry
+
+abbrev pub view_of : Option Collection → Visit → Option Reason
+view_of info v = view_offence info v.parent v.elder v.entry
+
+abbrev pub ruled_of : List Row → Visit → Option Reason
+ruled_of rows v = ruled_offence rows v.parent v.elder v.entry
+
+abbrev pub content_of : List Row → Visit → Option Reason
+content_of rows v = content_offence rows v.parent v.elder v.entry
 
 -- why a command is refused, and the offset of the value that is refused; 0 for the command itself
 pub record Refusal : Type 0 where
@@ -135,16 +145,22 @@ abbrev pub or_else : Option Refusal → Option Refusal → Option Refusal
 or_else None later = later
 or_else (Some first) later = Some first
 
--- the refusal of a place
-abbrev pub refusal : List Row → Visit → Option Refusal
-refusal rows v = refused_at v.start (offence_of rows v)
+-- the refusal of the first place that a pass refuses
+abbrev pub first_refusal : (Visit → Option Reason) → List Visit → Option Refusal
+first_refusal pass [] = None
+first_refusal pass (v ∷ vs) = or_else (refused_at v.start (pass v)) (first_refusal pass vs)
 
--- the refusal of the first place that has an offence
-abbrev pub first_refusal : List Row → List Visit → Option Refusal
-first_refusal rows [] = None
-first_refusal rows (v ∷ vs) = or_else (refusal rows v) (first_refusal rows vs)
+-- the verdict on places: that of the target pass; else that of the view; else that of the content pass
+abbrev pub verdict_on : List ℕ → Option Collection → List Row → List Visit → Option Refusal
+verdict_on db info rows vs =
+    or_else (first_refusal (target_of db) vs)
+    (or_else (first_refusal (view_of info) vs) (first_refusal (content_of rows) vs))
 
--- the verdict on the contents of a command that begins at `at`; without rules nothing is refused
+-- the verdict of the target pass on a command that begins at `at`: it looks at the command and its fields, whatever
+-- the rules are
+abbrev pub target_verdict : List ℕ → ℕ → Items → Option Refusal
+target_verdict db at c = first_refusal (target_of db) (command_visits [] at c)
+
+-- the verdict of the content pass
 abbrev pub content_verdict : List Row → ℕ → Items → Option Refusal
-content_verdict [] at c = None
-content_verdict (row ∷ rows) at c = first_refusal (row ∷ rows) (command_visits (row ∷ rows) at c)
+content_verdict rows at c = first_refusal (content_of rows) (command_visits rows at c)

@@ -10,7 +10,7 @@ use Rattle.encrypt_schema.specs.declared.walking.Place.TheVariants as places
 use Rattle.encrypt_schema.specs.Row.{Row}
 use Rattle.encrypt_schema.specs.Cursors.{path_of}
 use Rattle.encrypt_schema.specs.Stations.{Station, Insert, Inserts, Document, Store, Passed, station}
-use Rattle.encrypt_schema.specs.Visits.{entry, Visit, visits_in, marks, Refusal, first_refusal}
+use Rattle.encrypt_schema.specs.Visits.{entry, Visit, visits_in, marks, ruled_of, Refusal, first_refusal}
 
 -- the station for which a place of the walk stands
 abbrev pub station_by : List Row → Place → Station
@@ -43,8 +43,8 @@ Told own refused before after (Err (faults.Refused reason at)) = refused ≡ Som
 Told own refused before after (Err faults.Memory) = Unit {0}
 
 -- the marks of places stand behind those before, where none is refused; else the first refusal is told
-abbrev pub Marked : List Row → List Visit → List Mark → List Mark → Result (Unit {0}) MarkFault → Type 0
-Marked rows vs before after result = Told (marks rows vs) (first_refusal rows vs) before after result
+abbrev pub MarksPlaces : List Row → List Visit → List Mark → List Mark → Result (Unit {0}) MarkFault → Type 0
+MarksPlaces rows vs before after result = Told (marks rows vs) (first_refusal (ruled_of rows) vs) before after result
 
 -- marks begin with those that were there before
 pub record Begins (before after : List Mark) : Type 0 where

@@ -1,10 +1,10 @@
 //! The collection infos of a SCHEMAS file: MongoDB's answers to `listCollections`, one document each,
 //! one after another.
 
-ghost use Rattle.std.specs.Prelude.{◌≡◌, ◌<◌, ◌≤◌, ◌+◌, ◌++◌, ◌∷◌, [], ◌^◌, ℕ, List, length, is_some, option_copied, slice_get, None, IfOk, MatchResult};
+ghost use Rattle.std.specs.Prelude.{◌≡◌, ◌<◌, ◌≤◌, ◌+◌, ◌++◌, ◌∷◌, [], ◌^◌, ℕ, List, length, is_some, option_copied, slice_get, true, None, IfOk, MatchResult};
 ghost use Rattle.encrypt_schema.specs.declared.faults.InfoFault.TheVariants as errors;
 ghost use Rattle.encrypt_schema.specs.Collection.{Collection, place_from, collection_of};
-ghost use Rattle.encrypt_schema.specs.Collections.{Reads, collection_in, has_name, rules_by};
+ghost use Rattle.encrypt_schema.specs.Collections.{Reads, collection_in, is_taken, rules_by};
 ghost use Rattle.encrypt_schema.specs.Schemas.{Gives};
 ghost use Rattle.encrypt_schema.specs.Seen.{document_seen, fields_seen};
 ghost use Rattle.encrypt_schema.specs.Spots.{numbered};
@@ -27,11 +27,14 @@ pub struct Info {
 }
 
 impl Model for Info {
+    ghost use Rattle.std.specs.Prelude.{◌≡◌, [], true};
     ghost use Rattle.encrypt_schema.specs.Collection.{Collection};
 
     ghost Value = { Collection };
 
     ghost view = { λ s. record { name = s.name; view = s.view; rows = s.rows } };
+
+    ghost invariant = { λ s. s.view ≡ true → s.rows ≡ [] };
 }
 
 impl Info {
@@ -52,6 +55,7 @@ impl Info {
     /// The rules of its schema; none, where it has no schema or is a view.
     pub fn rows(&self) -> &Rows
         ensures rows { result.now ≡ self.now.rows }
+        ensures unruled { self.now.view ≡ true → result.now ≡ [] }
     {
         &self.rows
     }
@@ -216,6 +220,7 @@ impl Infos {
 
 /// The collection of this name with these rules.
 fn state(alloc: Global, name: &[u8], view: bool, rows: Rows) -> Result<Info, InfoFault>
+    requires unruled { view ≡ true → rows ≡ [] }
     ensures { MatchResult result (λ c. c ≡ record { name = name.now; view = view; rows = rows }) (λ e. e ≡ errors.Memory) }
 {
     match Bytes::from_slice(alloc, name) {
@@ -226,7 +231,8 @@ fn state(alloc: Global, name: &[u8], view: bool, rows: Rows) -> Result<Info, Inf
 
 /// The rules of an info: those of its schema; none of a view.
 fn rules_of(alloc: Global, view: bool, schema: Option<RawDoc<'_>>) -> Result<Rows, SchemaFault>
-    ensures { Gives (λ r. r) result (rules_by view (document_seen schema.entry)) }
+    ensures rules { Gives (λ r. r) result (rules_by view (document_seen schema.entry)) }
+    ensures unruled { IfOk result (λ r. view ≡ true → r ≡ []) }
 {
     if view {
         return Ok(Rows::empty(alloc)?);

@@ -1,7 +1,7 @@
 //! The keywords of a schema, as MongoDB's JSON schema and its Client Side Encryption have them.
 
 ghost use Rattle.std.specs.Prelude.{◌≡◌, ◌<◌, length, IfSome};
-ghost use Rattle.encrypt_schema.specs.Keywords.{keyword_at, row_at, rows_in};
+ghost use Rattle.encrypt_schema.specs.Keywords.{keyword_at, row_at, forms_in};
 
 /// The form of a keyword's value.
 #[derive(Clone, Copy, Debug, PartialEq, Eq)]
@@ -77,7 +77,7 @@ pub(crate) fn keyword_of(name: &[u8]) -> Option<(usize, Form)>
 /// The number of the row with this name, and its form.
 #[tactic(auto, unfolding(crate::specs::Names::named))]
 fn find_row(table: &[(&'static [u8], Form)], name: &[u8]) -> Option<(usize, Form)>
-    ensures row { result ≡ row_at 0 name.now (rows_in table.now) }
+    ensures row { result ≡ row_at 0 name.now (forms_in table.now) }
     ensures within { IfSome result (λ k. k.0 < length table.now) }
 {
     let mut number = 0;

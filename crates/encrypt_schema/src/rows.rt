@@ -3,7 +3,7 @@
 ghost use Rattle.std.specs.Prelude.{◌≡◌, ◌<◌, ◌≤◌, ◌++◌, ◌∷◌, [], length, slice_get};
 ghost use Rattle.std.specs.Prelude.{option_map, option_copied, OnOk, OnErr, IfOk};
 ghost use Rattle.encrypt_schema.specs.Borrowed.{names};
-ghost use Rattle.encrypt_schema.specs.Spots.{rows_of, IsGrid};
+ghost use Rattle.encrypt_schema.specs.Spots.{grid_rows, IsGrid};
 
 use crate::policy::Policy;
 use crate::spots::{Spot, clear_spots, note_rule, reach, root_spot};
@@ -36,9 +36,9 @@ impl Model for Rows {
 
     ghost Value = { List Row };
 
-    ghost use Rattle.encrypt_schema.specs.Spots.{rows_of, IsGrid};
+    ghost use Rattle.encrypt_schema.specs.Spots.{grid_rows, IsGrid};
 
-    ghost view = { λ r. rows_of r.spots.items r.rules.items };
+    ghost view = { λ r. grid_rows r.spots.items r.rules.items };
 
     ghost invariant = { λ r. IsGrid r.spots.items r.rules.items };
 }
@@ -107,7 +107,7 @@ fn put_row(
     requires grid { IsGrid spots.old.items rules.old.items }
     requires room { length rules.old.items < 4096 }
     ensures grid { OnOk result (IsGrid spots.new.items rules.new.items) }
-    ensures added { OnOk result (rows_of spots.new.items rules.new.items ≡ rows_of spots.old.items rules.old.items ++ record { path = names path.now; policy = policy } ∷ []) }
+    ensures added { OnOk result (grid_rows spots.new.items rules.new.items ≡ grid_rows spots.old.items rules.old.items ++ record { path = names path.now; policy = policy } ∷ []) }
     ensures root { 0 < length spots.new.items }
 {
     if path.len() > MOST_NAMES {

@@ -2,7 +2,7 @@
 
 ghost use Rattle.std.specs.Prelude.{◌≡◌, ◌&&◌, is_some, codes, IfOk};
 ghost use Rattle.encrypt_schema.specs.Names.{named};
-ghost use Rattle.encrypt_schema.specs.Shapes.{key_of, is_empty, is_types, is_setting, all_settings, are_settings, are_schemas, fits};
+ghost use Rattle.encrypt_schema.specs.Shapes.{key_of, has_no_items, is_types, is_setting, all_settings, are_settings, are_schemas, fits};
 ghost use Rattle.encrypt_schema.specs.Values.{is_document, is_array_of};
 
 use crate::distinct::are_distinct;
@@ -161,7 +161,7 @@ fn is_types(item: &RawItem<'_>) -> bool
 
 /// Whether a document has no element.
 fn is_empty(document: &RawDoc<'_>) -> bool
-    ensures { result ≡ is_empty document.now.tree }
+    ensures { result ≡ has_no_items document.now.tree }
 {
     document.items().next().is_none()
 }

@@ -3,11 +3,11 @@
 ghost use Rattle.std.specs.Prelude.{◌≡◌, ◌+◌, ◌∷◌, [], ℕ, List, None, length, take};
 ghost use Rattle.bson_tree.specs.Spelling.{value_bytes};
 ghost use Rattle.encrypt_schema.specs.Names.{is_among};
-ghost use Rattle.encrypt_schema.specs.Offences.{offence};
+ghost use Rattle.encrypt_schema.specs.Offences.{ruled_offence};
 ghost use Rattle.encrypt_schema.specs.Row.{Row};
 ghost use Rattle.encrypt_schema.specs.Stations.{station};
-ghost use Rattle.encrypt_schema.specs.Visits.{Visit, entry, first_refusal, mark, mark_at, marks, names_of, visits, visits_in};
-ghost use Rattle.encrypt_schema.specs.Walking.{Begins, Marked, Told, element_visit, element_visits, station_by};
+ghost use Rattle.encrypt_schema.specs.Visits.{Visit, entry, first_refusal, mark, mark_at, marks, names_of, ruled_of, visits, visits_in};
+ghost use Rattle.encrypt_schema.specs.Walking.{Begins, MarksPlaces, Told, element_visit, element_visits, station_by};
 
 use crate::cursor::Cursor;
 use crate::marks::{Mark, MarkFault, Marks, Role};
@@ -54,7 +54,7 @@ pub trait Table {
         item: &RawItem<'_>,
     ) -> Option<Reason>
         requires covered { covers self.now rows.now at }
-        ensures offence { result ≡ offence rows.now (station_by rows.now at) (take k (names_of document.now.tree)) (entry item.now.name item.now.tree) };
+        ensures offence { result ≡ ruled_offence rows.now (station_by rows.now at) (take k (names_of document.now.tree)) (entry item.now.name item.now.tree) };
 }
 
 /// Whether one of the first `k` elements of a document has this name.
@@ -118,7 +118,7 @@ pub fn mark_elements<T: Table>(
     document: &RawDoc<'_>,
 ) -> Result<(), MarkFault>
     requires covered { T.covers table.now rows.now at }
-    ensures marked { Marked rows.now (visits rows.now (station_by rows.now at) (document.now.start + 4) [] document.now.tree) marks.old marks.new result }
+    ensures marked { MarksPlaces rows.now (visits rows.now (station_by rows.now at) (document.now.start + 4) [] document.now.tree) marks.old marks.new result }
     ensures kept { Begins marks.old marks.new }
 {
     let mut k = 0;
@@ -145,7 +145,7 @@ fn mark_element<T: Table>(
     item: &RawItem<'_>,
 ) -> Result<(), MarkFault>
     requires covered { T.covers table.now rows.now at }
-    ensures marked { Marked rows.now (element_visits rows.now (station_by rows.now at) (take k (names_of document.now.tree)) item.now) marks.old marks.new result }
+    ensures marked { MarksPlaces rows.now (element_visits rows.now (station_by rows.now at) (take k (names_of document.now.tree)) item.now) marks.old marks.new result }
     ensures kept { Begins marks.old marks.new }
 {
     let _ = item.value();
@@ -175,7 +175,7 @@ fn mark_inside<T: Table>(
     item: &RawItem<'_>,
 ) -> Result<(), MarkFault>
     requires covered { T.covers table.now rows.now at }
-    ensures marked { Marked rows.now (visits_in rows.now (station_by rows.now at) item.now.start item.now.tree) marks.old marks.new result }
+    ensures marked { MarksPlaces rows.now (visits_in rows.now (station_by rows.now at) item.now.start item.now.tree) marks.old marks.new result }
     ensures kept { Begins marks.old marks.new }
 {
     match item.child() {

@@ -9,12 +9,11 @@ use Rattle.encrypt_schema.specs.Reasons.{reason_code}
 use Rattle.encrypt_schema.specs.Row.{Row}
 use Rattle.encrypt_schema.specs.Classes.{class}
 use Rattle.encrypt_schema.specs.Dotted.{split, is_dollar, positional}
-use Rattle.encrypt_schema.specs.Names.{named}
+use Rattle.encrypt_schema.specs.Names.{named, is_among}
 use Rattle.encrypt_schema.specs.Policies.{policy_at, is_random, has_type}
-use Rattle.encrypt_schema.specs.Stations.{Entry, Subject, Field, Prefix, Station, Outside, Insert, Update, Delete, Find, Inserts, Updates, Deletes, UpdateItem, DeleteItem, Filter, Cases, Projection, Test, Elements, Operators, Sets, Argument, Document, Store, Compare, Bare, Passed, dotted, station, is_document, is_array, is_operators, has_name, is_logical, is_equality, is_membership, is_random_field}
-use Rattle.encrypt_schema.specs.Offences.{when, is_again, lacks, is_never_allowed, is_slice_or_meta, may_rename, text_of, stored, compared, command_lacks, document_value, filter_value, not_value, test_value, set_value, unset_value, other_value, renamed, argument_value, reasons_at, lesser, least, offence}
-use Rattle.encrypt_schema.specs.Targets.{CommandField, is_marked, is_passed, is_db, is_string, is_empty, first_reasons, later_reasons, later_refusal}
-use Rattle.encrypt_schema.specs.Visits.{Visit, Refusal, refused_at, or_else, refusal, first_refusal, offence_of, command_visits, content_verdict}
+use Rattle.encrypt_schema.specs.Stations.{Entry, Subject, Field, Prefix, Station, Outside, Insert, Update, Delete, Find, Inserts, Updates, Deletes, UpdateItem, DeleteItem, Filter, Cases, Projection, Test, Operators, Sets, Argument, Document, Store, Compare, Bare, Unknown, dotted, station, is_document, is_array, is_operators, has_name, is_logical, is_equality, is_membership, is_random_field}
+use Rattle.encrypt_schema.specs.Offences.{when, again, by_class, has_none, is_again, is_db, is_empty, is_never_allowed, is_slice_or_meta, is_string, lacks, may_rename, text_of, stored, command_lacks, not_value, of_field, of_role, of_row, of_target, positional_path, renamed, argument_value, reasons_at, ruled_offence, target_offence, unusable, want_array, want_document, lesser, least}
+use Rattle.encrypt_schema.specs.Visits.{Visit, target_of, content_of, Refusal, refused_at, or_else, first_refusal, command_visits, target_verdict, content_verdict}
 use Rattle.fle_runner.specs.Mark.{is_view_reason, as_built}
 
 -- the reason of a view isn't among these
@@ -46,17 +45,26 @@ choice : (b : Bool) {rs ss : List Reason} → Others rs → Others ss → Others
 choice true h k = h
 choice false h k = k
 
+-- the reasons by a class
+by_class_others : {on above below : List Reason} (c : Class) → Others on → Others above → Others below → Others (by_class on above below c)
+by_class_others (Protected i) p q r = p
+by_class_others Above p q r = q
+by_class_others Below p q r = r
+by_class_others Clear p q r = none
+
 -- the reasons of places
 stored_others : (rows : List Row) (i : ℕ) (e : Entry) → Others (stored rows i e)
 stored_others rows i e =
     both (given (is_never_allowed e.tag || not (has_type (policy_at i rows).types e.tag)) TypeNotAllowed refl) (given e.payload AlreadyEncrypted refl)
 
-compared_others : (rows : List Row) (x : Subject) (e : Entry) → Others (compared rows x e)
-compared_others rows (Field i) e =
+role_others : (rows : List Row) (s : Station) (e : Entry) → Others (of_role rows s e)
+role_others rows (Store i) e = stored_others rows i e
+role_others rows (Compare i) e =
     both
     (both (stored_others rows i e) (given (is_random (policy_at i rows).algorithm) RandomCompared refl))
     (given (e.tag == 11) OperatorOnProtected refl)
-compared_others rows Prefix e = given (is_document e || is_array e) PrefixCompared refl
+role_others rows Bare e = given (is_document e || is_array e) PrefixCompared refl
+role_others rows _ e = none
 
 lacks_others : (s : Station) (names : List (List ℕ)) → Others (command_lacks s names)
 lacks_others Insert names = given (lacks (codes "documents") names) BadField refl
@@ -64,53 +72,10 @@ lacks_others Update names = given (lacks (codes "updates") names) BadField refl
 lacks_others Delete names = given (lacks (codes "deletes") names) BadField refl
 lacks_others _ names = none
 
-document_others : (rows : List Row) (c : Class) (e : Entry) → Others (document_value rows c e)
-document_others rows (Protected i) e = stored_others rows i e
-document_others rows Above e = given (is_array e) ArrayOnPath refl
-document_others rows Below e = none
-document_others rows Clear e = none
-
-filter_others : (rows : List Row) (c : Class) (e : Entry) → Others (filter_value rows c e)
-filter_others rows (Protected i) e = choice (is_operators e) none (compared_others rows (Field i) e)
-filter_others rows Above e = choice (is_operators e) none (compared_others rows Prefix e)
-filter_others rows Below e = sole BelowProtected refl
-filter_others rows Clear e = none
-
 not_others : (x : Subject) (e : Entry) → Others (not_value x e)
 not_others (Field i) e =
     choice (is_operators e) none (choice (e.tag == 11) (sole OperatorOnProtected refl) (sole BadField refl))
 not_others Prefix e = choice (is_operators e) none (choice (e.tag == 11) none (sole BadField refl))
-
-test_others : (rows : List Row) (x : Subject) (e : Entry) → Others (test_value rows x e)
-test_others rows x e =
-    choice
-    (is_equality e.name)
-    (compared_others rows x e)
-    (choice
-    (is_membership e.name)
-    (choice (is_array e) (given (is_random_field rows x) RandomCompared refl) (sole BadField refl))
-    (choice
-    (has_name (codes "$not") e)
-    (not_others x e)
-    (choice (has_name (codes "$exists") e) none (sole OperatorOnProtected refl))))
-
-set_others : (rows : List Row) (c : Class) (e : Entry) → Others (set_value rows c e)
-set_others rows (Protected i) e = stored_others rows i e
-set_others rows Above e = given (is_array e) ArrayOnPath refl
-set_others rows Below e = sole BelowProtected refl
-set_others rows Clear e = none
-
-unset_others : (c : Class) → Others (unset_value c)
-unset_others (Protected i) = none
-unset_others Above = none
-unset_others Below = sole BelowProtected refl
-unset_others Clear = none
-
-other_others : (c : Class) → Others (other_value c)
-other_others (Protected i) = sole OperatorOnProtected refl
-other_others Above = sole OperatorOnProtected refl
-other_others Below = sole OperatorOnProtected refl
-other_others Clear = none
 
 renamed_others : (rows : List Row) (e : Entry) → Others (renamed rows e)
 unfolding renamed
@@ -123,70 +88,107 @@ argument_others : (rows : List Row) (operator : List ℕ) (e : Entry) → Others
 argument_others rows operator e =
     choice
     (named operator (codes "$unset"))
-    (unset_others (dotted rows e.name))
-    (choice (named operator (codes "$rename")) (renamed_others rows e) (other_others (dotted rows e.name)))
+    (by_class_others (dotted rows e.name) none none (sole BelowProtected refl))
+    (choice
+    (named operator (codes "$rename"))
+    (renamed_others rows e)
+    (by_class_others (dotted rows e.name) (sole OperatorOnProtected refl) (sole OperatorOnProtected refl) (sole OperatorOnProtected refl)))
 
-positional_others : (rows : List Row) (e : Entry) → Others (when (positional rows (split e.name)) PositionalOnPath)
-positional_others rows e = given (positional rows (split e.name)) PositionalOnPath refl
+again_others : (read elder : List (List ℕ)) (e : Entry) → Others (again read elder e)
+again_others read elder e = given (is_again read elder e.name) BadField refl
 
--- a name again, and a value of the wrong form
-again_others : (read elder : List (List ℕ)) (name : List ℕ) (form : Bool)
-    → Others (when (is_again read elder name) BadField ++ when form BadField)
-again_others read elder name form = both (given (is_again read elder name) BadField refl) (given form BadField refl)
+array_others : (word : List ℕ) (e : Entry) → Others (want_array word e)
+array_others word e = given (has_name word e && not (is_array e)) BadField refl
 
-others_at : (rows : List Row) (s : Station) (elder : List (List ℕ)) (e : Entry) → Others (reasons_at rows s elder e)
-others_at rows Outside elder e = lacks_others (station rows Outside e) e.names
-others_at rows Insert elder e =
-    again_others (codes "documents" ∷ []) elder e.name (has_name (codes "documents") e && not (is_array e))
-others_at rows Inserts elder e = given (not (is_document e)) BadField refl
-others_at rows Update elder e =
-    both
-    (both (given (is_again (codes "updates" ∷ codes "let" ∷ []) elder e.name) BadField refl) (given (has_name (codes "updates") e && not (is_array e)) BadField refl))
-    (given (has_name (codes "let") e) FieldNotAllowed refl)
-others_at rows Updates elder e =
+document_others : (word : List ℕ) (e : Entry) → Others (want_document word e)
+document_others word e = given (has_name word e && not (is_document e)) BadField refl
+
+unusable_others : (word : List ℕ) (e : Entry) → Others (unusable word e)
+unusable_others word e = given (has_name word e) FieldNotAllowed refl
+
+positional_others : (rows : List Row) (name : List ℕ) → Others (positional_path rows name)
+positional_others rows name = given (positional rows (split name)) PositionalOnPath refl
+
+row_others : (rows : List Row) (s : Station) (elder : List (List ℕ)) (e : Entry) → Others (of_row rows s elder e)
+row_others rows Outside elder e = lacks_others (station rows Outside e) e.names
+row_others rows Insert elder e = both (again_others (codes "documents" ∷ []) elder e) (array_others (codes "documents") e)
+row_others rows Inserts elder e = given (not (is_document e)) BadField refl
+row_others rows Update elder e =
+    both (both (again_others (codes "updates" ∷ codes "let" ∷ []) elder e) (array_others (codes "updates") e)) (unusable_others (codes "let") e)
+row_others rows Updates elder e =
     both (given (not (is_document e)) BadField refl) (given (lacks (codes "q") e.names || lacks (codes "u") e.names) BadField refl)
-others_at rows UpdateItem elder e =
+row_others rows UpdateItem elder e =
     both
     (both
     (both
-    (both (given (is_again (codes "q" ∷ codes "u" ∷ codes "arrayFilters" ∷ codes "c" ∷ []) elder e.name) BadField refl) (given (has_name (codes "q") e && not (is_document e)) BadField refl))
+    (both
+    (both (again_others (codes "q" ∷ codes "u" ∷ codes "arrayFilters" ∷ codes "c" ∷ []) elder e) (document_others (codes "q") e))
     (given (has_name (codes "u") e && is_array e) Pipeline refl))
     (given (has_name (codes "u") e && not (is_array e) && not (is_document e)) BadField refl))
-    (given (has_name (codes "arrayFilters") e || has_name (codes "c") e) FieldNotAllowed refl)
-others_at rows Delete elder e =
-    both
-    (both (given (is_again (codes "deletes" ∷ codes "let" ∷ []) elder e.name) BadField refl) (given (has_name (codes "deletes") e && not (is_array e)) BadField refl))
-    (given (has_name (codes "let") e) FieldNotAllowed refl)
-others_at rows Deletes elder e =
+    (unusable_others (codes "arrayFilters") e))
+    (unusable_others (codes "c") e)
+row_others rows Delete elder e =
+    both (both (again_others (codes "deletes" ∷ codes "let" ∷ []) elder e) (array_others (codes "deletes") e)) (unusable_others (codes "let") e)
+row_others rows Deletes elder e =
     both (given (not (is_document e)) BadField refl) (given (lacks (codes "q") e.names) BadField refl)
-others_at rows DeleteItem elder e =
-    again_others (codes "q" ∷ []) elder e.name (has_name (codes "q") e && not (is_document e))
-others_at rows Find elder e =
+row_others rows DeleteItem elder e = both (again_others (codes "q" ∷ []) elder e) (document_others (codes "q") e)
+row_others rows Find elder e =
     both
-    (both (given (is_again (codes "filter" ∷ codes "projection" ∷ codes "min" ∷ codes "max" ∷ codes "let" ∷ []) elder e.name) BadField refl) (given ((has_name (codes "filter") e || has_name (codes "projection") e) && not (is_document e)) BadField refl))
-    (given (has_name (codes "min") e || has_name (codes "max") e || has_name (codes "let") e) FieldNotAllowed refl)
-others_at rows Projection elder e =
+    (both
+    (both
+    (both
+    (both (again_others (codes "filter" ∷ codes "projection" ∷ codes "min" ∷ codes "max" ∷ codes "let" ∷ []) elder e) (document_others (codes "filter") e))
+    (document_others (codes "projection") e))
+    (unusable_others (codes "min") e))
+    (unusable_others (codes "max") e))
+    (unusable_others (codes "let") e)
+row_others rows Projection elder e =
     given (is_array e || (is_document e && not (is_slice_or_meta e.names))) FieldNotAllowed refl
-others_at rows (Document path) elder e = document_others rows (class rows (path ++ e.name ∷ [])) e
-others_at rows Filter elder e =
+row_others rows (Document path) elder e =
+    by_class_others (class rows (path ++ e.name ∷ [])) none (given (is_array e) ArrayOnPath refl) none
+row_others rows Filter elder e =
     choice
     (is_logical e.name)
     (given (not (is_array e)) BadField refl)
     (choice
     (is_dollar e.name)
     (given (not (has_name (codes "$comment") e)) FieldNotAllowed refl)
-    (both (positional_others rows e) (filter_others rows (dotted rows e.name) e)))
-others_at rows Cases elder e = given (not (is_document e)) BadField refl
-others_at rows (Test x) elder e = test_others rows x e
-others_at rows (Elements x) elder e = compared_others rows x e
-others_at rows Operators elder e =
+    (both (positional_others rows e.name) (by_class_others (dotted rows e.name) none none (sole BelowProtected refl))))
+row_others rows Cases elder e = given (not (is_document e)) BadField refl
+row_others rows (Test x) elder e =
+    choice
+    (is_equality e.name)
+    none
+    (choice
+    (is_membership e.name)
+    (choice (is_array e) (given (is_random_field rows x) RandomCompared refl) (sole BadField refl))
+    (choice (has_name (codes "$not") e) (not_others x e) (given (not (has_name (codes "$exists") e)) OperatorOnProtected refl)))
+row_others rows Operators elder e =
     both (given (not (is_dollar e.name)) BadField refl) (given (not (is_document e)) BadField refl)
-others_at rows Sets elder e = both (positional_others rows e) (set_others rows (dotted rows e.name) e)
-others_at rows (Argument operator) elder e = both (positional_others rows e) (argument_others rows operator e)
-others_at rows (Store i) elder e = none
-others_at rows (Compare i) elder e = none
-others_at rows Bare elder e = none
-others_at rows Passed elder e = none
+row_others rows Sets elder e =
+    both (positional_others rows e.name) (by_class_others (dotted rows e.name) none (given (is_array e) ArrayOnPath refl) (sole BelowProtected refl))
+row_others rows (Argument operator) elder e = both (positional_others rows e.name) (argument_others rows operator e)
+row_others rows _ elder e = none
+
+others_at : (rows : List Row) (s : Station) (elder : List (List ℕ)) (e : Entry) → Others (reasons_at rows s elder e)
+others_at rows s elder e = both (role_others rows (station rows s e) e) (row_others rows s elder e)
+
+-- the target pass
+field_others : (db : List ℕ) (elder : List (List ℕ)) (e : Entry) → Others (of_field db elder e)
+field_others db [] e = given (not (is_string e) || is_empty (text_of e.raw)) BadField refl
+field_others db (command ∷ elder) e =
+    both
+    (both (given (named e.name command) BadField refl) (given (is_db e.name && (is_among e.name elder || not (is_string e))) BadField refl))
+    (given (is_db e.name && is_string e && not (named (text_of e.raw) db)) WrongDb refl)
+
+target_others : (db : List ℕ) (s : Station) (elder : List (List ℕ)) (e : Entry) → Others (of_target db s elder e)
+target_others db Outside elder e = given (has_none e.names) NotACommand refl
+target_others db Unknown elder e = given (has_none elder) NotACommand refl
+target_others db Insert elder e = field_others db elder e
+target_others db Update elder e = field_others db elder e
+target_others db Delete elder e = field_others db elder e
+target_others db Find elder e = field_others db elder e
+target_others db _ elder e = none
 
 -- the least of reasons is one of them
 abbrev IsOther : Option Reason → Type 0
@@ -214,42 +216,33 @@ refused_built : (at : ℕ) (o : Option Reason) → IsOther o → IsBuilt (refuse
 refused_built at None h = tt
 refused_built at (Some r) h = h
 
-pub either_built : (r s : Option Refusal) → IsBuilt r → IsBuilt s → IsBuilt (or_else r s)
+either_built : (r s : Option Refusal) → IsBuilt r → IsBuilt s → IsBuilt (or_else r s)
 either_built None s h k = k
 either_built (Some x) s h k = h
 
-place_built : (rows : List Row) (v : Visit) → IsBuilt (refusal rows v)
-unfolding offence
-place_built rows v = refused_built v.start (offence_of rows v) (least_other _ (others_at rows v.parent v.elder v.entry).are)
+ruled_other : (rows : List Row) (s : Station) (elder : List (List ℕ)) (e : Entry) → IsOther (ruled_offence rows s elder e)
+unfolding ruled_offence
+ruled_other rows s elder e = least_other (reasons_at rows s elder e) (others_at rows s elder e).are
 
-places_built : (rows : List Row) (vs : List Visit) → IsBuilt (first_refusal rows vs)
-places_built rows [] = tt
-places_built rows (v ∷ vs) = either_built (refusal rows v) (first_refusal rows vs) (place_built rows v) (places_built rows vs)
+content_other : (rows : List Row) (v : Visit) → IsOther (content_of rows v)
+content_other [] v = tt
+content_other (row ∷ rows) v = ruled_other (row ∷ rows) v.parent v.elder v.entry
+
+target_other : (db : List ℕ) (v : Visit) → IsOther (target_of db v)
+unfolding target_offence
+target_other db v = least_other (of_target db v.parent v.elder v.entry) (target_others db v.parent v.elder v.entry).are
+
+places_built : (pass : Visit → Option Reason) (vs : List Visit) → ((v : Visit) → IsOther (pass v)) → IsBuilt (first_refusal pass vs)
+places_built pass [] h = tt
+places_built pass (v ∷ vs) h =
+    either_built (refused_at v.start (pass v)) (first_refusal pass vs) (refused_built v.start (pass v) (h v)) (places_built pass vs h)
 
 pub contents_built : (rows : List Row) (c : Items) → IsBuilt (content_verdict rows 0 c)
-contents_built [] c = tt
-contents_built (row ∷ rows) c = places_built (row ∷ rows) (command_visits (row ∷ rows) 0 c)
+contents_built rows c = places_built (content_of rows) (command_visits rows 0 c) (content_other rows)
 
--- nor are the fields by themselves
-later_others : (db command : List ℕ) (seen : Bool) (e : Entry) → Others (later_reasons db command seen e)
-later_others db command seen e =
-    both
-    (both (given (named e.name command) BadField refl) (given (is_db e.name && (seen || not (is_string e))) BadField refl))
-    (given (is_db e.name && is_string e && not (named (text_of e.raw) db)) WrongDb refl)
-
-first_others : (e : Entry) → Others (first_reasons e)
-first_others e =
-    both (given (not (is_marked e.name || is_passed e.name)) NotACommand refl) (given (is_marked e.name && (not (is_string e) || is_empty (text_of e.raw))) BadField refl)
-
-pub first_built : (at : ℕ) (e : Entry) → IsBuilt (refused_at at (least (first_reasons e)))
-first_built at e = refused_built at (least (first_reasons e)) (least_other (first_reasons e) (first_others e).are)
-
-pub later_built : (db command : List ℕ) (seen : Bool) (fields : List CommandField) → IsBuilt (later_refusal db command seen fields)
-later_built db command seen [] = tt
-later_built db command seen (f ∷ fs) =
-    either_built (refused_at f.start (least (later_reasons db command seen f.entry))) (later_refusal db command (seen || is_db f.entry.name) fs)
-    (refused_built f.start (least (later_reasons db command seen f.entry)) (least_other (later_reasons db command seen f.entry) (later_others db command seen f.entry).are))
-    (later_built db command (seen || is_db f.entry.name) fs)
+-- nor is a command by itself and its fields
+pub fields_built : (db : List ℕ) (c : Items) → IsBuilt (target_verdict db 0 c)
+fields_built db c = places_built (target_of db) (command_visits [] 0 c) (target_other db)
 
 -- such a refusal is told as it is
 pub told_as_it_is : (o : Option Refusal) → IsBuilt o → option_map as_built o ≡ o

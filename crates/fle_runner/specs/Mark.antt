@@ -6,12 +6,13 @@ use Rattle.encrypt_schema.specs.Collections.{Faulty, collections}
 use Rattle.encrypt_schema.specs.declared.faults.InfoFault.{InfoFault}
 use Rattle.encrypt_schema.specs.declared.faults.InfoFault.TheVariants as faults
 use Rattle.encrypt_schema.specs.Row.{Row}
-use Rattle.encrypt_schema.specs.Targets.{is_view, rows_in, rows_of, verdict}
+use Rattle.encrypt_schema.specs.Offences.{is_view}
+use Rattle.encrypt_schema.specs.Targets.{rows_in, rows_of, verdict}
 use Rattle.encrypt_schema.specs.Visits.{Refusal, or_else, content_verdict}
 use Rattle.encrypt_schema.specs.declared.marks.MarkFault.{MarkFault}
 use Rattle.encrypt_schema.specs.declared.marks.MarkFault.TheVariants as mark_faults
-use Rattle.command_marker.specs.Commands.{passes, unbuilt}
-use Rattle.command_marker.specs.Reply.{reply_clear_to, reply_limit, reply_to}
+use Rattle.command_marker.specs.Commands.{unbuilt}
+use Rattle.command_marker.specs.Reply.{reply_limit, reply_to}
 use Rattle.fle_stream.specs.Plan.{Plan, Verdict, writes, refused, too_long}
 use Rattle.fle_stream.specs.Task.{Task, fails, each, with_file}
 use Rattle.encrypt_schema.specs.declared.reason.Reason.{Reason}
@@ -56,13 +57,9 @@ abbrev pub verdict_by : Items → List ℕ → Option Refusal → Verdict
 verdict_by c reply (Some r) = refuses r.reason (place_of r.at c)
 verdict_by c reply None = sized reply
 
--- the reply to a command under these infos: no rule concerns one that passes
-abbrev pub reply_for : List Collection → Items → List ℕ
-reply_for infos c = if passes c then reply_clear_to c else reply_to (rows_of infos c) c
-
 -- what a command of this database comes to under these infos
 unfoldable pub mark_verdict : List Collection → List ℕ → Items → Verdict
-mark_verdict infos db c = verdict_by c (reply_for infos c) (mark_refusal infos db c)
+mark_verdict infos db c = verdict_by c (reply_to (rows_of infos c) c) (mark_refusal infos db c)
 
 -- what a command comes to, whose fields aren't refused, by its contents under these rules
 abbrev pub verdict_under : List Row → Items → Verdict

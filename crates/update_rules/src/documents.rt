@@ -3,10 +3,10 @@
 ghost use Rattle.std.specs.Prelude.{◌≡◌, ◌+◌, ◌++◌, ◌∷◌, [], ℕ, List, take};
 ghost use Rattle.encrypt_schema.specs.Classes.{class};
 ghost use Rattle.encrypt_schema.specs.Cursors.{Stands, StandsForPath, path_of};
-ghost use Rattle.encrypt_schema.specs.Offences.{offence};
+ghost use Rattle.encrypt_schema.specs.Offences.{ruled_offence};
 ghost use Rattle.encrypt_schema.specs.Stations.{Document, station};
 ghost use Rattle.encrypt_schema.specs.Visits.{entry, names_of, visits};
-ghost use Rattle.encrypt_schema.specs.Walking.{Begins, Marked, station_by};
+ghost use Rattle.encrypt_schema.specs.Walking.{Begins, MarksPlaces, station_by};
 ghost use Rattle.update_rules.specs.Covered.{IsStored};
 
 use bson_codec::{RawDoc, RawItem};
@@ -37,10 +37,10 @@ pub fn step_document(rows: &Rows, at: Cursor, item: &RawItem<'_>) -> Place
 
 /// Why an element of a stored document at this path is refused: a value that its rule doesn't allow, and an
 /// array on the way to a protected field.
-#[tactic(auto, unfolding(encrypt_schema::specs::Offences::offence))]
+#[tactic(auto, unfolding(encrypt_schema::specs::Offences::ruled_offence))]
 pub fn offence_document(rows: &Rows, at: Cursor, item: &RawItem<'_>) -> Option<Reason>
     requires cursor { StandsForPath rows.now at }
-    ensures offence { (elder : List (List ℕ)) → result ≡ offence rows.now (Document (path_of rows.now at)) elder (entry item.now.name item.now.tree) }
+    ensures offence { (elder : List (List ℕ)) → result ≡ ruled_offence rows.now (Document (path_of rows.now at)) elder (entry item.now.name item.now.tree) }
 {
     match rows.class(rows.step(at, item.name())) {
         Class::Protected(i) => type_allowed_under(rows, i, item),
@@ -69,7 +69,7 @@ impl Table for Documents {
         }
     }
 
-    #[tactic(auto, unfolding(encrypt_schema::specs::Offences::offence))]
+    #[tactic(auto, unfolding(encrypt_schema::specs::Offences::ruled_offence))]
     fn offence(
         &self,
         rows: &Rows,
@@ -101,7 +101,7 @@ pub fn mark_document(
 ) -> Result<(), MarkFault>
     requires above { (path : List (List ℕ)) × Stands rows.now at path × (class rows.now path ≡ Class.Above) }
     ensures marked { (path : List (List ℕ)) → Stands rows.now at path → class rows.now path ≡ Class.Above
-        → Marked rows.now (visits rows.now (Document path) (document.now.start + 4) [] document.now.tree) marks.old marks.new result }
+        → MarksPlaces rows.now (visits rows.now (Document path) (document.now.start + 4) [] document.now.tree) marks.old marks.new result }
     ensures kept { Begins marks.old marks.new }
 {
     mark_elements(marks, rows, &Documents, Place::Document(at), document)

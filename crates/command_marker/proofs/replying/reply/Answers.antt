@@ -13,5 +13,5 @@ pub returns : goal.returns
 returns c =
     record {
       replies = marked_is c.rows.result.now c.args.marked.now.rows c.command-command.result c.args.marked.now.command c.marks.result.now c.reply_by.result
-          c.rows.ensures.rows c.command-command.ensures.command c.marks.ensures.marks c.reply_by.ensures.replies;
+          c.rows.ensures.rows c.command-command.ensures.command c.marks.ensures.marks c.command-command.ensures.marked c.reply_by.ensures.replies;
     }

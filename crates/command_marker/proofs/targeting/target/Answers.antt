@@ -2,9 +2,10 @@ use Rattle.std.proofs.Common.{◌≡◌, ◌∙◌, ℕ, false, codes, Option, S
 use Rattle.bson_codec.specs.Borrowed.{At}
 use Rattle.encrypt_schema.specs.declared.reason.Reason.{Reason}
 use Rattle.encrypt_schema.specs.Names.{named}
-use Rattle.encrypt_schema.specs.Targets.{command_fields, is_marked, is_passed, later_refusal}
+use Rattle.encrypt_schema.specs.Stations.{is_passed}
 use Rattle.encrypt_schema.specs.Visits.{refused_at, or_else}
 use Rattle.command_marker.specs.Commands.{is_unbuilt, is_command, collection_in}
+use Rattle.command_marker.specs.Fields.{is_marked_name, later_refusal}
 use Rattle.command_marker.proofs.Targets.{target_none, target_built, insert_left, string_left, aims_err}
 use Rattle.command_marker.proofs.targeting.target.Goals as goal
 
@@ -22,7 +23,7 @@ returns-in-Some-first_reason c =
     let is = sym (ap (λ (a : At). a.tree) c.items-fields.ensures.elements) in
     let begun = ap (λ (a : At). a.start) c.items-fields.ensures.elements in
     let built : is_unbuilt first.name ≡ false = ap is_unbuilt (sym c.name-name.ensures.name) ∙ sym c.is_unbuilt.ensures ∙ c.if-is_unbuilt.false in
-    let later = later_refusal db first.name false (command_fields rest.start rest.tree) in
+    let later = later_refusal db first.name false rest.start rest.tree in
     record {
       aims =
           target_built db command.start command.tree c.items-fields.result rest first c.in-Some.ensures.steps is begun built
@@ -34,7 +35,7 @@ pub name_in-requires : goal.name_in-requires
 name_in-requires c =
     let first = c.in-Some.first in
     let built : is_unbuilt first.name ≡ false = ap is_unbuilt (sym c.name-name.ensures.name) ∙ sym c.is_unbuilt.ensures ∙ c.if-is_unbuilt.false in
-    string_left (is_marked first.name) (named first.name (codes "insert")) (is_passed first.name) _ _ built c.in_default-first_reason.ensures
+    string_left (is_marked_name first.name) (named first.name (codes "insert")) (is_passed first.name) _ _ built c.in_default-first_reason.ensures
 
 pub returns-in-Ok : goal.returns-in-Ok
 returns-in-Ok c =
@@ -45,17 +46,16 @@ returns-in-Ok c =
     let is = sym (ap (λ (a : At). a.tree) c.items-fields.ensures.elements) in
     let begun = ap (λ (a : At). a.start) c.items-fields.ensures.elements in
     let built : is_unbuilt first.name ≡ false = ap is_unbuilt (sym c.name-name.ensures.name) ∙ sym c.is_unbuilt.ensures ∙ c.if-is_unbuilt.false in
-    let fields = command_fields rest.start rest.tree in
-    let later = later_refusal db first.name false fields in
+    let later = later_refusal db first.name false rest.start rest.tree in
     let whole = is ∙ c.in-Some.ensures.steps.0 in
     record {
       aims = (
         target_built db command.start command.tree c.items-fields.result rest first c.in-Some.ensures.steps is begun built
             ∙ ap (λ (r : Option Reason). or_else (refused_at first.start r) later) (sym c.in_default-first_reason.ensures)
-            ∙ ap (λ (n : _). later_refusal db n false fields) (sym c.name-name.ensures.name)
+            ∙ ap (λ (n : _). later_refusal db n false rest.start rest.tree) (sym c.name-name.ensures.name)
             ∙ c.in-Ok.ensures,
         ap (is_command (codes "insert")) whole
-            ∙ insert_left (is_marked first.name) (named first.name (codes "insert")) (is_passed first.name) _ built c.in_default-first_reason.ensures,
+            ∙ insert_left (is_marked_name first.name) (named first.name (codes "insert")) (is_passed first.name) _ built c.in_default-first_reason.ensures,
         c.name_in.ensures.text ∙ sym (ap collection_in whole),
       );
     }
@@ -69,13 +69,12 @@ returns-in-Err c =
     let is = sym (ap (λ (a : At). a.tree) c.items-fields.ensures.elements) in
     let begun = ap (λ (a : At). a.start) c.items-fields.ensures.elements in
     let built : is_unbuilt first.name ≡ false = ap is_unbuilt (sym c.name-name.ensures.name) ∙ sym c.is_unbuilt.ensures ∙ c.if-is_unbuilt.false in
-    let fields = command_fields rest.start rest.tree in
-    let later = later_refusal db first.name false fields in
+    let later = later_refusal db first.name false rest.start rest.tree in
     record {
       aims =
           aims_err db command _ c.in-Err.fault
           (target_built db command.start command.tree c.items-fields.result rest first c.in-Some.ensures.steps is begun built
           ∙ ap (λ (r : Option Reason). or_else (refused_at first.start r) later) (sym c.in_default-first_reason.ensures)
-          ∙ ap (λ (n : _). later_refusal db n false fields) (sym c.name-name.ensures.name))
+          ∙ ap (λ (n : _). later_refusal db n false rest.start rest.tree) (sym c.name-name.ensures.name))
           c.in-Err.ensures;
     }

@@ -3,7 +3,7 @@ use Rattle.std.proofs.Common.{◌≤◌, ◌≡◌, ◌++◌, ◌∷◌, [], ℕ
 use Rattle.encrypt_schema.specs.Classes.{number_of}
 use Rattle.encrypt_schema.specs.Trees.{or_number}
 use Rattle.encrypt_schema.specs.Borrowed.{names}
-use Rattle.encrypt_schema.specs.Spots.{rows_of, rule_at, IsGrid}
+use Rattle.encrypt_schema.specs.Spots.{grid_rows, rule_at, IsGrid}
 use Rattle.std.proofs.lemmas.List.{length-map}
 use Rattle.encrypt_schema.proofs.Fronts.{fronts_first}
 use Rattle.encrypt_schema.proofs.Growth.{stands_inside}
@@ -11,7 +11,7 @@ use Rattle.encrypt_schema.proofs.Grids.{Adds, rows_added, grid_added}
 use Rattle.encrypt_schema.proofs.rows.put_row.Goals as goal
 
 pub reach-requires-clause-root : goal.reach-requires-clause-root
-reach-requires-clause-root c = ap (number_of 0 []) c.requires.grid.whole ∙ fronts_first (rows_of c.args.spots.now.items c.args.rules.now.items)
+reach-requires-clause-root c = ap (number_of 0 []) c.requires.grid.whole ∙ fronts_first (grid_rows c.args.spots.now.items c.args.rules.now.items)
 
 pub note_rule-requires : goal.note_rule-requires
 note_rule-requires c = record { inside = stands_inside c.reach.new.spots.items c.in_ok-at.at (names c.args.path.now, c.in_ok-at.ensures.stands) }
@@ -50,5 +50,5 @@ returns-clause-grid c =
 
 pub returns-clause-added : goal.returns-clause-added
 returns-clause-added c =
-    ap (rows_of c.note_rule.new.spots.items) (pushed c)
+    ap (grid_rows c.note_rule.new.spots.items) (pushed c)
     ∙ rows_added c.args.spots.now.items c.reach.new.spots.items c.note_rule.new.spots.items c.args.rules.now.items (names c.args.path.now) c.in_ok-at.at c.args.policy (adds c)

@@ -3,7 +3,7 @@ use Rattle.encrypt_schema.specs.Stations.{Passed}
 use Rattle.encrypt_schema.specs.Walking.{station_by, element_visit, Told}
 use Rattle.std.proofs.lemmas.List.{append-nil}
 use Rattle.bson_tree.specs.Tree.{items_size, count}
-use Rattle.encrypt_schema.specs.Visits.{names_of, visits, marks, first_refusal}
+use Rattle.encrypt_schema.specs.Visits.{names_of, visits, marks, ruled_of, first_refusal}
 use Rattle.encrypt_schema.proofs.Elements.{elder_next, own_told, goes_on, ends, begins_more}
 use Rattle.encrypt_schema.proofs.walking.+walk.Goals as goal
 
@@ -45,5 +45,5 @@ mark_elements-returns-in-Err-clause-marked g t c =
     let s = station_by rows c.args.at in
     let all = visits rows s (c.args.document.now.start + 4) [] c.args.document.now.tree in
     ends rows s (take c.loop-item.k (names_of c.args.document.now.tree)) c.loop-item.item-iterator c.next.new.self c.in-Some.item
-    c.loop-item.marks c.mark_element.new.marks (marks rows all) c.args.marks.now (first_refusal rows all) c.in-Err.fault
+    c.loop-item.marks c.mark_element.new.marks (marks rows all) c.args.marks.now (first_refusal (ruled_of rows) all) c.in-Err.fault
     c.in-Some.ensures.steps c.in-Err.ensures.marked c.loop-item.invariant.clean

@@ -1,6 +1,6 @@
 use Rattle.std.proofs.Common.{◌≡◌, ◌+◌, ◌*◌, ◌≤◌, ◌++◌, [], take, drop}
 use Rattle.bson_tree.specs.Tree.{tree_size, items_size, count}
-use Rattle.encrypt_schema.specs.Visits.{names_of, visits, marks, first_refusal}
+use Rattle.encrypt_schema.specs.Visits.{names_of, visits, marks, ruled_of, first_refusal}
 use Rattle.encrypt_schema.specs.Walking.{station_by, Begins}
 use Rattle.encrypt_schema.proofs.walking.+walk.Given as goal
 
@@ -20,7 +20,7 @@ invariant-mark_elements-loop-item g l = record {
   elder : drop l.k (names_of l.document.tree) ≡ names_of l.item-iterator.tree;
   marked : l.marks ++ marks l.rows (visits l.rows (station_by l.rows l.at) l.item-iterator.start (take l.k (names_of l.document.tree)) l.item-iterator.tree)
       ≡ l.fn.marks ++ marks l.rows (visits l.rows (station_by l.rows l.at) (l.document.start + 4) [] l.document.tree);
-  clean : first_refusal l.rows (visits l.rows (station_by l.rows l.at) l.item-iterator.start (take l.k (names_of l.document.tree)) l.item-iterator.tree)
-      ≡ first_refusal l.rows (visits l.rows (station_by l.rows l.at) (l.document.start + 4) [] l.document.tree);
+  clean : first_refusal (ruled_of l.rows) (visits l.rows (station_by l.rows l.at) l.item-iterator.start (take l.k (names_of l.document.tree)) l.item-iterator.tree)
+      ≡ first_refusal (ruled_of l.rows) (visits l.rows (station_by l.rows l.at) (l.document.start + 4) [] l.document.tree);
   kept : Begins l.fn.marks l.marks;
 }

@@ -4,7 +4,7 @@ use Rattle.encrypt_schema.specs.Collection.{Collection}
 use Rattle.fle_stream.specs.Judge.{JudgeIs}
 use Rattle.fle_runner.specs.Mark.{mark_verdict, verdict_into}
 use Rattle.fle_stream.specs.Plan.{Verdict}
-use Rattle.fle_runner.proofs.Verdicts.{fields_told, insert_told}
+use Rattle.fle_runner.proofs.Verdicts.{tells_fields, insert_told}
 use Rattle.fle_runner.proofs.mark.judge_command.Goals as goal
 
 pub returns-in-Ok-Collection : goal.returns-in-Ok-Collection
@@ -24,5 +24,5 @@ returns-in-Err c =
     let infos = c.args.infos.now in
     let command = c.args.command.now in
     record {
-      judged = λ e. c.judge_fault.ensures.judged (mark_verdict infos db command.tree) e (fields_told db infos command c.in-Err.refusal c.requires.whole c.in-Err.ensures.aims);
+      judged = λ e. c.judge_fault.ensures.judged (mark_verdict infos db command.tree) e (tells_fields db infos command c.in-Err.refusal c.requires.whole c.in-Err.ensures.aims);
     }

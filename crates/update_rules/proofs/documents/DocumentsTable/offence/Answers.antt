@@ -1,6 +1,6 @@
 use Rattle.std.proofs.Common.{◌∙◌, ap, sym, take}
 use Rattle.encrypt_schema.specs.declared.walking.Place.{Place}
-use Rattle.encrypt_schema.specs.Offences.{offence}
+use Rattle.encrypt_schema.specs.Offences.{ruled_offence}
 use Rattle.encrypt_schema.specs.Visits.{entry, names_of}
 use Rattle.encrypt_schema.specs.Walking.{station_by}
 use Rattle.update_rules.proofs.documents.DocumentsTable.offence.Goals as goal
@@ -11,5 +11,5 @@ returns-in-Document c =
     let elder = take c.args.k (names_of c.args.document.now.tree) in
     let e = entry c.args.item.now.name c.args.item.now.tree in
     record {
-      offence = c.offence_document.ensures.offence elder ∙ ap (λ (p : Place). offence rows (station_by rows p) elder e) (sym c.in-Document.is);
+      offence = c.offence_document.ensures.offence elder ∙ ap (λ (p : Place). ruled_offence rows (station_by rows p) elder e) (sym c.in-Document.is);
     }
