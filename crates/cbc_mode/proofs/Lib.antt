@@ -2,3 +2,4 @@ pub mod Padded
 pub mod Chained
 pub mod WholeBlocks
 pub mod Undone
+pub mod Unpadded

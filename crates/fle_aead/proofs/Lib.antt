@@ -1,1 +1,2 @@
 pub mod SealedForm
+pub mod OpenedMessage

@@ -1,10 +1,10 @@
 //! Opening (draft-mcgrew-aead-aes-cbc-hmac-sha2, 2.2).
 
 ghost use Rattle.std.specs.Prelude.{◌≡◌, ◌≢◌, ◌+◌, ◌-◌, ◌*◌, ◌^◌, ◌<◌, ◌≤◌, ◌↔◌};
-ghost use Rattle.std.specs.Prelude.{drop, IfNone, IfOk, IfSome, IsTrue, length, List, take, ℕ};
+ghost use Rattle.std.specs.Prelude.{drop, IfNone, IfOk, IfSome, IsTrue, length, List, MatchResult, None, Some, take, ℕ};
 ghost use Rattle.cbc_mode.specs.Padding.{pad};
 ghost use Rattle.fle_aead.specs.Sealed.{iv_of, IsSealed, IsSealedLength, IsTagged};
-ghost use Rattle.fle_aead.specs.Sealed.{IsWronglyPadded, IsWronglyTagged, opened, opened_body};
+ghost use Rattle.fle_aead.specs.Sealed.{IsWronglyPadded, IsWronglyTagged, opened, opened_body, opened_message};
 
 use crate::key::DataKey;
 use crate::sealing::{IV, TAG};
@@ -52,6 +52,9 @@ pub fn open_into<B: Block256>(
         sealed.now) }
     ensures opens { (iv p : List ℕ) → IsSealed key.now aad.now iv p sealed.now
         → result ≡ Ok (length p) }
+    ensures message { MatchResult result
+        (λ n. opened_message key.now aad.now sealed.now ≡ Some (take n out.new))
+        (λ _. opened_message key.now aad.now sealed.now ≡ None) }
     ensures short { (result ≡ Err OpenFault.Short) ↔ (¬ IsSealedLength (length sealed.now)) }
     ensures tag { (computed found : List ℕ) → (result ≡ Err (OpenFault.Tag computed found))
         ↔ IsWronglyTagged key.now aad.now sealed.now computed found }
