@@ -3,3 +3,4 @@ pub mod Chained
 pub mod WholeBlocks
 pub mod Undone
 pub mod Unpadded
+pub mod Differences
