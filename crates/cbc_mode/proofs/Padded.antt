@@ -1,6 +1,6 @@
 -- The padded message, block by block.
 use Rattle.std.proofs.Common.{◌≡◌, ℕ, ◌+◌, ◌-◌, ◌*◌, ◌/◌, ◌%◌, ◌<◌, ◌≤◌, List, ◌++◌, length, take, drop, replicate, arith, ap, sym, ◌∙◌, refl, get_or}
-use Rattle.std.proofs.lemmas.List.{append_assoc, get_or-append_right, get_or-drop, get_or-replicate, length-append, length-drop, length-replicate, length-take-le, drop-append-le, drop-replicate, drop_at, take-append-drop, take-append-le, take_all, take_at}
+use Rattle.std.proofs.lemmas.List.{append_assoc, get_or-append_right, get_or-drop, get_or-replicate, length-append, length-drop, length-replicate, length-take-le, drop-append-le, drop-replicate, take-append-drop, take-append-le, take_all, take_at}
 use Rattle.std.proofs.lemmas.Grind.{same_number_lists}
 use Rattle.std.proofs.Math.Seq.{take-add}
 use Rattle.cbc_mode.specs.Padding.{pad}

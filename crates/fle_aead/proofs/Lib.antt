@@ -1,2 +1,3 @@
 pub mod SealedForm
 pub mod OpenedMessage
+pub mod Agreeing

@@ -1,4 +1,4 @@
-use Rattle.std.proofs.Common.{◌≡◌, ◌+◌, ◌-◌, ◌*◌, ◌∙◌, arith, refl, rules}
+use Rattle.std.proofs.Common.{◌≡◌, ◌+◌, ◌*◌, ◌∙◌, arith, refl}
 use Rattle.cbc_mode.proofs.Chained.{open_begin, open_end}
 use Rattle.cbc_mode.proofs.opening.open_blocks.Goals as goal
 

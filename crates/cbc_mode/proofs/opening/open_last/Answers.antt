@@ -1,4 +1,4 @@
-use Rattle.std.proofs.Common.{◌≡◌, ◌+◌, ◌-◌, ◌*◌, ◌∙◌, arith, refl, rules}
+use Rattle.std.proofs.Common.{◌≡◌, ◌+◌, ◌-◌, arith, rules}
 use Rattle.cbc_mode.proofs.Chained.{open_step, open_end, put-behind}
 use Rattle.cbc_mode.proofs.opening.open_last.Goals as goal
 

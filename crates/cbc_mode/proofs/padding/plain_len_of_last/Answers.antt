@@ -1,4 +1,4 @@
-use Rattle.std.proofs.Common.{◌≡◌, ◌-◌, ◌<◌, get_or, length, ap, ◌∙◌, arith, refl, rules}
+use Rattle.std.proofs.Common.{◌≡◌, ◌-◌, get_or, length, ap, ◌∙◌, arith, refl, rules}
 use Rattle.cbc_mode.proofs.Padded.{last-pad, padded_from, padded_ends}
 use Rattle.cbc_mode.proofs.padding.plain_len_of_last.Goals as goal
 
