@@ -1,5 +1,5 @@
 -- Products by the constants of the two column maps, each over all bytes.
-use Rattle.std.proofs.Common.{◌≡◌, ℕ, ◌+◌, ◌-◌, ◌*◌, ◌%◌, ◌<◌, ◌≤◌, true, refl, arith}
+use Rattle.std.proofs.Common.{◌≡◌, ℕ, ◌+◌, ◌-◌, ◌*◌, ◌/◌, ◌%◌, ◌<◌, true, refl, arith}
 use Rattle.std.specs.Prelude.{◌==◌, bit_xor}
 use Rattle.aes_block.specs.Field.{times_x, product_by, product, power, inverse}
 use Rattle.aes_block.proofs.Computed.{passes_below, same_below}
@@ -53,23 +53,13 @@ entries_14 = refl
 pub product-14 : (a : ℕ) → a < 256 → product a 14 ≡ times_x (bit_xor (times_x (bit_xor (times_x a) a)) a)
 product-14 a l = same_below 256 (λ a. product a 14) (λ a. times_x (bit_xor (times_x (bit_xor (times_x a) a)) a)) entries_14 a l
 
-low_doubles : passes_below 128 (λ a. a * 2 % 256 == times_x a) ≡ true
+doubles : passes_below 256 (λ a. bit_xor (a * 2 % 256) (a / 128 * 27) == times_x a) ≡ true
 unfolding times_x
-low_doubles = refl
+doubles = refl
 
--- where 2 a has no power x^8
-pub times_x-low : (a : ℕ) → a < 128 → a * 2 % 256 ≡ times_x a
-times_x-low a l = same_below 128 (λ a. a * 2 % 256) times_x low_doubles a l
-
-high_doubles : passes_below 128 (λ a. bit_xor ((a + 128) * 2 % 256) 27 == times_x (a + 128)) ≡ true
-unfolding times_x
-high_doubles = refl
-
--- where 2 a has it, 1b is m(x) without it
-pub times_x-high : (a : ℕ) → 128 ≤ a → a < 256 → bit_xor (a * 2 % 256) 27 ≡ times_x a
-times_x-high a h l =
-    let e : a - 128 + 128 ≡ a = omega arith in
-    rw e at (same_below 128 (λ a. bit_xor ((a + 128) * 2 % 256) 27) (λ a. times_x (a + 128)) high_doubles (a - 128) (omega arith))
+-- 1b, which is m(x) without x^8, is added as often as 2 a has that power
+pub times_x-doubled : (a : ℕ) → a < 256 → bit_xor (a * 2 % 256) (a / 128 * 27) ≡ times_x a
+times_x-doubled a l = same_below 256 (λ a. bit_xor (a * 2 % 256) (a / 128 * 27)) times_x doubles a l
 
 inverse_pairs : passes_below 255 (λ n. product (n + 1) (inverse (n + 1)) == 1) ≡ true
 unfolding inverse power product product_by times_x

@@ -4,4 +4,6 @@ pub mod Block
 pub mod Steps
 pub mod Expansion
 pub mod Cipher
-pub mod Inverse
+pub mod Nibbles
+pub mod Sealing
+pub mod Opening

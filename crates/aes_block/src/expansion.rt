@@ -3,7 +3,8 @@
 ghost use Rattle.std.specs.Prelude.{◌≡◌, ◌<◌, ◌≤◌, length};
 ghost use Rattle.aes_block.specs.Expansion.{added_word, expanded, key_words, rot_word, round_constant, sub_word, word_at};
 
-use crate::steps::sub_byte;
+use crate::substitution::substituted;
+use std::simd::prelude::*;
 
 // The number of words of a 256-bit key.
 const KEY_WORDS: usize = 8;
@@ -12,7 +13,9 @@ fn sub_word(w: u32) -> u32
     ensures { result ≡ sub_word w }
 {
     let [a, b, c, d] = w.to_be_bytes();
-    u32::from_be_bytes([sub_byte(a), sub_byte(b), sub_byte(c), sub_byte(d)])
+    let lanes = [a, b, c, d, 0, 0, 0, 0, 0, 0, 0, 0, 0, 0, 0, 0];
+    let s = substituted(u8x16::from_array(lanes)).to_array();
+    u32::from_be_bytes([s[0], s[1], s[2], s[3]])
 }
 
 fn rot_word(w: u32) -> u32

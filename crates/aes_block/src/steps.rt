@@ -2,83 +2,34 @@
 
 ghost use Rattle.std.specs.Prelude.{◌≡◌, ◌≤◌};
 ghost use Rattle.aes_block.specs.Field.{product, times_x};
-ghost use Rattle.aes_block.specs.Substitution.{inv_sub_byte, sub_byte};
 ghost use Rattle.aes_block.specs.Steps.{add_round_key, inv_mix_columns, inv_shift_rows, inv_sub_bytes, mix_columns, round_key, shift_rows, sub_bytes, sum4};
 
-use crate::sbox::{INV_SBOX, SBOX};
+use crate::substitution::{inv_substituted, substituted};
 use crate::words::bytes_of;
+use std::simd::prelude::*;
 
 // 1b: the modulus of FIPS 197, 4.2, without its power x^8.
 const REDUCTION: u8 = 0x1b;
 
-const HIGHEST_BIT: u8 = 0x80;
+const HIGHEST_BIT: u32 = 7;
 
-pub(crate) fn sub_byte(b: u8) -> u8
-    ensures { result ≡ sub_byte b }
-{
-    SBOX[b as usize]
-}
-
-pub(crate) fn inv_sub_byte(b: u8) -> u8
-    ensures { result ≡ inv_sub_byte b }
-{
-    INV_SBOX[b as usize]
-}
-
+// No branch depends on the byte.
 fn times_x(a: u8) -> u8
     ensures { result ≡ times_x a }
 {
-    if a < HIGHEST_BIT {
-        a << 1
-    } else {
-        (a << 1) ^ REDUCTION
-    }
+    (a << 1) ^ ((a >> HIGHEST_BIT) * REDUCTION)
 }
 
 pub(crate) fn sub_bytes(s: [u8; 16]) -> [u8; 16]
     ensures { result ≡ sub_bytes s }
 {
-    [
-        sub_byte(s[0]),
-        sub_byte(s[1]),
-        sub_byte(s[2]),
-        sub_byte(s[3]),
-        sub_byte(s[4]),
-        sub_byte(s[5]),
-        sub_byte(s[6]),
-        sub_byte(s[7]),
-        sub_byte(s[8]),
-        sub_byte(s[9]),
-        sub_byte(s[10]),
-        sub_byte(s[11]),
-        sub_byte(s[12]),
-        sub_byte(s[13]),
-        sub_byte(s[14]),
-        sub_byte(s[15]),
-    ]
+    substituted(u8x16::from_array(s)).to_array()
 }
 
 pub(crate) fn inv_sub_bytes(s: [u8; 16]) -> [u8; 16]
     ensures { result ≡ inv_sub_bytes s }
 {
-    [
-        inv_sub_byte(s[0]),
-        inv_sub_byte(s[1]),
-        inv_sub_byte(s[2]),
-        inv_sub_byte(s[3]),
-        inv_sub_byte(s[4]),
-        inv_sub_byte(s[5]),
-        inv_sub_byte(s[6]),
-        inv_sub_byte(s[7]),
-        inv_sub_byte(s[8]),
-        inv_sub_byte(s[9]),
-        inv_sub_byte(s[10]),
-        inv_sub_byte(s[11]),
-        inv_sub_byte(s[12]),
-        inv_sub_byte(s[13]),
-        inv_sub_byte(s[14]),
-        inv_sub_byte(s[15]),
-    ]
+    inv_substituted(u8x16::from_array(s)).to_array()
 }
 
 pub(crate) fn shift_rows(s: [u8; 16]) -> [u8; 16]

@@ -1,5 +1,5 @@
-use crate::steps::{inv_sub_byte, sub_byte};
-use crate::{cipher, cipher_tables, expand, inv_cipher, inv_cipher_tables};
+use crate::steps::{inv_sub_bytes, sub_bytes};
+use crate::{cipher, cipher_tables, expand, inv_cipher, inv_cipher_tables, inv_cipher_tables_pair};
 use fle_vectors::{BLOCK_C3, EXPANSION_A3, SUBSTITUTIONS};
 use std::alloc::AllocError;
 
@@ -7,8 +7,8 @@ use std::alloc::AllocError;
 #[test]
 fn fips197_s_box_entries(rt: HostRuntime) {
     for entry in SUBSTITUTIONS {
-        assert_eq!(rt; sub_byte(entry.byte), entry.substitute);
-        assert_eq!(rt; inv_sub_byte(entry.substitute), entry.byte);
+        assert_eq!(rt; sub_bytes([entry.byte; 16]), [entry.substitute; 16]);
+        assert_eq!(rt; inv_sub_bytes([entry.substitute; 16]), [entry.byte; 16]);
     }
 }
 
@@ -42,5 +42,16 @@ fn fips197_c3_by_tables(rt: HostRuntime) {
     assert_eq!(rt;
         inv_cipher_tables(&schedule, BLOCK_C3.sealed),
         BLOCK_C3.plain
+    );
+}
+
+// Two blocks, each told from the other.
+#[test]
+fn a_pair_is_opened_in_its_order(rt: HostRuntime) {
+    let schedule = expand(&BLOCK_C3.key);
+    let zeros = cipher(&schedule, [0; 16]);
+    assert_eq!(rt;
+        inv_cipher_tables_pair(&schedule, BLOCK_C3.sealed, zeros),
+        (BLOCK_C3.plain, [0; 16])
     );
 }

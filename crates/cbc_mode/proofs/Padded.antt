@@ -1,6 +1,7 @@
 -- The padded message, block by block.
 use Rattle.std.proofs.Common.{◌≡◌, ℕ, ◌+◌, ◌-◌, ◌*◌, ◌/◌, ◌%◌, ◌<◌, ◌≤◌, List, ◌++◌, length, take, drop, replicate, arith, ap, sym, ◌∙◌, refl, get_or}
-use Rattle.std.proofs.lemmas.List.{append_assoc, get_or-append_right, get_or-replicate, length-append, length-drop, length-replicate, length-take-le, drop-append-le, drop-replicate, drop_at, take-append-drop, take-append-le, take_all, take_at}
+use Rattle.std.proofs.lemmas.List.{append_assoc, get_or-append_right, get_or-drop, get_or-replicate, length-append, length-drop, length-replicate, length-take-le, drop-append-le, drop-replicate, take-append-drop, take-append-le, take_all, take_at}
+use Rattle.std.proofs.lemmas.Grind.{same_number_lists}
 use Rattle.std.proofs.Math.Seq.{take-add}
 use Rattle.cbc_mode.specs.Padding.{pad}
 
@@ -39,35 +40,30 @@ last-pad p short =
     rw n (get_or-append_right p (replicate (16 - length p) (16 - length p)) (length p) 15 0 refl (omega arith)
     ∙ get_or-replicate (16 - length p) (15 - length p) (16 - length p) 0 (omega arith))
 
--- what stands in a block from a place on
-abbrev pub block_end : List ℕ → ℕ → List ℕ
-block_end b n = take (16 - n) (drop n b)
-
-block_end-drop : (b : List ℕ) (n : ℕ) → length b ≡ 16 → block_end b n ≡ drop n b
-block_end-drop b n long = take_all (16 - n) (drop n b) (omega (arith, length-drop n b))
-
 -- a block that ends in as many bytes as its last byte says, each of them that number, is padded
 pub padded_from : (b : List ℕ) (v : ℕ) → length b ≡ 16 → 1 ≤ v → v ≤ 16
-    → block_end b (16 - v) ≡ replicate (length (block_end b (16 - v))) v → b ≡ pad (take (16 - v) b)
+    → ((k : ℕ) → 16 - v ≤ k → k < 16 → get_or b k 0 ≡ v) → b ≡ pad (take (16 - v) b)
 unfolding pad
 padded_from b v long low high same =
     let front : length (take (16 - v) b) ≡ 16 - v = length-take-le (16 - v) b (omega arith) in
     let n : 16 - length (take (16 - v) b) % 16 ≡ v = omega arith in
     let count : length (drop (16 - v) b) ≡ v = omega (arith, length-drop (16 - v) b) in
-    let back : drop (16 - v) b ≡ replicate v v = rw (block_end-drop b (16 - v) long, count) at same in
+    let back : drop (16 - v) b ≡ replicate v v =
+    same_number_lists (drop (16 - v) b) (replicate v v) (omega (arith, count, length-replicate v v))
+    (λ k below. get_or-drop (16 - v) b k 0 ∙ same (16 - v + k) (omega arith) (omega (arith, count)) ∙ sym (get_or-replicate v k v 0 (omega (arith, count)))) in
     rw (n, ← back) (sym (take-append-drop (16 - v) b))
 
 -- and a padded block ends so
-pub padded_ends : (b p : List ℕ) → length b ≡ 16 → length p < 16 → b ≡ pad p
-    → block_end b (16 - get_or b 15 0) ≡ replicate (length (block_end b (16 - get_or b 15 0))) (get_or b 15 0)
+pub padded_ends : (b p : List ℕ) → length p < 16 → b ≡ pad p
+    → (k : ℕ) → 16 - get_or b 15 0 ≤ k → k < 16 → get_or b k 0 ≡ get_or b 15 0
 unfolding pad
-padded_ends b p long short is =
+padded_ends b p short is k low high =
     let v : get_or b 15 0 ≡ 16 - length p = ap (λ s. get_or s 15 0) is ∙ last-pad p short in
     let n : 16 - length p % 16 ≡ 16 - length p = omega arith in
-    let at : 16 - (16 - length p) ≡ length p = omega arith in
-    let back : drop (length p) b ≡ replicate (16 - length p) (16 - length p) =
-    ap (drop (length p)) is ∙ rw n (drop_at p _ (length p) refl) in
-    rw (v, at, block_end-drop b (length p) long, back, length-replicate) refl
+    let here : get_or (pad p) k 0 ≡ 16 - length p =
+    rw n (get_or-append_right p (replicate (16 - length p) (16 - length p)) (length p) k 0 refl (omega (arith, v))
+    ∙ get_or-replicate (16 - length p) (k - length p) (16 - length p) 0 (omega arith)) in
+    ap (λ s. get_or s k 0) is ∙ here ∙ sym v
 
 -- whole blocks in front leave the padding as it is
 pub append-pad : (a p : List ℕ) → length a % 16 ≡ 0 → a ++ pad p ≡ pad (a ++ p)

@@ -1,8 +1,8 @@
 //! Decryption (SP 800-38A, 6.2).
 
-ghost use Rattle.std.specs.Prelude.{◌≡◌, ◌≢◌, ◌%◌, ◌<◌, ◌≤◌, ◌↔◌, drop};
+ghost use Rattle.std.specs.Prelude.{◌≡◌, ◌≢◌, ◌+◌, ◌-◌, ◌*◌, ◌%◌, ◌<◌, ◌≤◌, ◌↔◌, ◌++◌, drop};
 ghost use Rattle.std.specs.Prelude.{IfOk, IsTrue, length, List, take, ℕ};
-ghost use Rattle.cbc_mode.specs.Cbc.{cbc_opened, IsWholeBlocks};
+ghost use Rattle.cbc_mode.specs.Cbc.{cbc_opened, opened_blocks, IsWholeBlocks};
 ghost use Rattle.cbc_mode.specs.Padding.{pad};
 
 use crate::blocks::{BLOCK, block_at, put, xored};
@@ -61,7 +61,7 @@ fn is_whole_blocks(n: usize) -> bool
     n > 0 && n % BLOCK == 0
 }
 
-/// Decrypts whole blocks into the front of `out`.
+/// Decrypts whole blocks into the front of `out`, two at a time.
 fn open_blocks<B: Block256>(
     hooks: &B,
     schedule: &Schedule,
@@ -75,11 +75,64 @@ fn open_blocks<B: Block256>(
     ensures opened { take (length sealed.now) out.new ≡ cbc_opened schedule.now iv sealed.now }
     ensures behind { drop (length sealed.now) out.new ≡ drop (length sealed.now) out.old }
 {
+    let count = sealed.len() / BLOCK;
     let mut before = iv;
-    for i in 0..sealed.len() / BLOCK {
-        let block = block_at(sealed, BLOCK * i);
-        let opened = xored(hooks.open_block(schedule, block), before);
-        put(out, BLOCK * i, opened);
-        before = block;
+    for i in 0..count / 2 {
+        let next = open_pair(hooks, schedule, sealed, 2 * i, before, out);
+        before = next;
     }
+    if count % 2 == 1 {
+        open_last(hooks, schedule, sealed, count - 1, before, out);
+    }
+}
+
+/// Decrypts the blocks i and i + 1, of which block i follows the block `before`, and answers block i + 1.
+fn open_pair<B: Block256>(
+    hooks: &B,
+    schedule: &Schedule,
+    sealed: &[u8],
+    i: usize,
+    before: [u8; 16],
+    out: &mut [u8],
+) -> [u8; 16]
+    requires hooks { B.answers hooks.now }
+    requires inside { 16 * (i + 2) ≤ length sealed.now }
+    requires room { length sealed.now ≤ length out.old }
+    ensures opened { (n : ℕ) (whole : List ℕ) → i + 1 < n
+        → take (16 * i) out.old ++ opened_blocks schedule.now (n - i) before (drop (16 * i) sealed.now) ≡ whole
+        → take (16 * (i + 2)) out.new
+        ++ opened_blocks schedule.now (n - (i + 2)) result (drop (16 * (i + 2)) sealed.now) ≡ whole }
+    ensures behind { drop (length sealed.now) out.new ≡ drop (length sealed.now) out.old }
+{
+    let first = block_at(sealed, BLOCK * i);
+    let second = block_at(sealed, BLOCK * (i + 1));
+    let (a, b) = hooks.open_two(schedule, first, second);
+    put(out, BLOCK * i, xored(a, before));
+    put(out, BLOCK * (i + 1), xored(b, first));
+    second
+}
+
+/// Decrypts block i, the last, which follows the block `before`.
+fn open_last<B: Block256>(
+    hooks: &B,
+    schedule: &Schedule,
+    sealed: &[u8],
+    i: usize,
+    before: [u8; 16],
+    out: &mut [u8],
+)
+    requires hooks { B.answers hooks.now }
+    requires last { length sealed.now ≡ 16 * (i + 1) }
+    requires room { length sealed.now ≤ length out.old }
+    ensures opened { (whole : List ℕ)
+        → take (16 * i) out.old ++ opened_blocks schedule.now 1 before (drop (16 * i) sealed.now) ≡ whole
+        → take (length sealed.now) out.new ≡ whole }
+    ensures behind { drop (length sealed.now) out.new ≡ drop (length sealed.now) out.old }
+{
+    let block = block_at(sealed, BLOCK * i);
+    put(
+        out,
+        BLOCK * i,
+        xored(hooks.open_block(schedule, block), before),
+    );
 }

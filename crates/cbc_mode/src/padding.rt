@@ -1,7 +1,7 @@
 //! The padding to whole blocks (PKCS #7: RFC 5652, 6.3).
 
 ghost use Rattle.std.specs.Prelude.{◌≡◌, ◌≢◌, ◌+◌, ◌*◌, ◌/◌, ◌%◌, ◌^◌, ◌<◌, ◌≤◌, ◌↔◌};
-ghost use Rattle.std.specs.Prelude.{drop, IfNone, IfSome, IsTrue, length, List, replicate, take, ℕ};
+ghost use Rattle.std.specs.Prelude.{drop, get_or, IfNone, IfSome, IsTrue, length, List, take, ℕ};
 ghost use Rattle.cbc_mode.specs.Cbc.{IsWholeBlocks};
 ghost use Rattle.cbc_mode.specs.Padding.{pad};
 
@@ -59,7 +59,8 @@ pub fn plain_len(opened: &[u8]) -> Option<usize>
     }
 }
 
-/// The same for the last block, of which fewer than 16 bytes are the message's.
+/// The same for the last block, of which fewer than 16 bytes are the message's. All of its bytes are read, and no
+/// branch depends on one of them but on the verdict.
 fn plain_len_of_last(block: [u8; 16]) -> Option<usize>
     ensures right { IfSome result (λ n. block ≡ pad (take n block)) }
     ensures shorter { IfSome result (λ n. n < 16) }
@@ -67,20 +68,43 @@ fn plain_len_of_last(block: [u8; 16]) -> Option<usize>
 {
     let padding = block[BLOCK - 1];
     let count = padding as usize;
-    if count < LEAST || MOST < count {
-        return None;
-    }
-    let n = BLOCK - count;
-    if all_are(&block[n..], padding) {
+    let n = BLOCK.saturating_sub(count);
+    if both(is_count(count), ends_in(block, n, padding)) {
         Some(n)
     } else {
         None
     }
 }
 
-/// Whether each of the bytes has this value.
-fn all_are(bytes: &[u8], value: u8) -> bool
-    ensures { IsTrue result ↔ (bytes.now ≡ replicate (length bytes.now) value) }
+/// Whether a number is one of bytes of padding.
+fn is_count(count: usize) -> bool
+    ensures { IsTrue result ↔ ((1 ≤ count) × (count ≤ 16)) }
 {
-    bytes.iter().all(|b| *b == value)
+    both(LEAST <= count, count <= MOST)
+}
+
+/// Whether both are true, with no branch.
+fn both(a: bool, b: bool) -> bool
+    ensures { IsTrue result ↔ (IsTrue a × IsTrue b) }
+{
+    a & b
+}
+
+/// Whether each byte from place n on has this value.
+fn ends_in(block: [u8; 16], n: usize, value: u8) -> bool
+    ensures { IsTrue result ↔ ((k : ℕ) → n ≤ k → k < 16 → get_or block k 0 ≡ value) }
+{
+    let mut differences = 0;
+    for i in 0..BLOCK {
+        differences |= from(n, i, block[i] ^ value);
+    }
+    differences == 0
+}
+
+/// The byte at place i where that is n or more, and else 0.
+fn from(n: usize, i: usize, byte: u8) -> u8
+    ensures behind { n ≤ i → result ≡ byte }
+    ensures before { i < n → result ≡ 0 }
+{
+    ((n <= i) as u8 * 0xff) & byte
 }

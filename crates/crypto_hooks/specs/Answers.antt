@@ -10,3 +10,11 @@ pub record Answers {F : Type 0} (g : Shared F (Bor (List ℕ) × (List ℕ × Un
   pub taken : (s : Bor (List ℕ)) (b : List ℕ) → IsSchedule s.now → IsBlock b → g.pre f (s, (b, tt))
   pub given : (s : Bor (List ℕ)) (b r : List ℕ) → IsSchedule s.now → IsBlock b
       → g.post f (s, (b, tt)) r → r ≡ answer s.now b
+
+-- for every key schedule and every two blocks, f may be called and answers this function of the
+-- schedule and each block
+pub record AnswersPair {F : Type 0} (g : Shared F (Bor (List ℕ) × (List ℕ × (List ℕ × Unit {0}))) (List ℕ × List ℕ))
+    (answer : List ℕ → List ℕ → List ℕ) (f : F) : Type 0 where
+  pub taken : (s : Bor (List ℕ)) (a b : List ℕ) → IsSchedule s.now → IsBlock a → IsBlock b → g.pre f (s, (a, (b, tt)))
+  pub given : (s : Bor (List ℕ)) (a b : List ℕ) (r : List ℕ × List ℕ) → IsSchedule s.now → IsBlock a → IsBlock b
+      → g.post f (s, (a, (b, tt))) r → (r.0 ≡ answer s.now a) × (r.1 ≡ answer s.now b)

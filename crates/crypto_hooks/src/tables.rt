@@ -3,9 +3,9 @@
 ghost use Rattle.std.specs.Prelude.{⊤};
 
 use crate::block256::Block256;
-use aes_block::{Schedule, cipher_tables, inv_cipher_tables};
+use aes_block::{Schedule, cipher_tables, inv_cipher_tables, inv_cipher_tables_pair};
 
-/// The cipher by lookup tables, for callers that have none of their own.
+/// The cipher by look-ups in vector registers, in constant time, for callers that have none of their own.
 #[derive(Clone, Copy)]
 pub struct Tables;
 
@@ -18,5 +18,14 @@ impl Block256 for Tables {
 
     fn open_block(&self, schedule: &Schedule, block: [u8; 16]) -> [u8; 16] {
         inv_cipher_tables(schedule, block)
+    }
+
+    fn open_two(
+        &self,
+        schedule: &Schedule,
+        first: [u8; 16],
+        second: [u8; 16],
+    ) -> ([u8; 16], [u8; 16]) {
+        inv_cipher_tables_pair(schedule, first, second)
     }
 }

@@ -1,5 +1,5 @@
 //! The standard's block through each kind of hooks.
-use crate::{Block256, Tables, there_and_back, there_and_back_boxed};
+use crate::{Block256, Tables, there_and_back, there_and_back_boxed, two_there_and_back};
 use aes_block::expand;
 use fle_vectors::BLOCK_C3;
 use std::alloc::AllocError;
@@ -32,4 +32,19 @@ fn boxed_closures_lead_there_and_back(rt: HostRuntime) -> Result<(), AllocError>
         BLOCK_C3.plain
     );
     Ok(())
+}
+
+// FIPS 197, C.3, beside a block of zeros.
+#[test]
+fn two_blocks_are_opened_in_their_order(rt: HostRuntime) {
+    let schedule = expand(&BLOCK_C3.key);
+    let zeros = Tables.seal_block(&schedule, [0; 16]);
+    assert_eq!(rt;
+        Tables.open_two(&schedule, BLOCK_C3.sealed, zeros),
+        (BLOCK_C3.plain, [0; 16])
+    );
+    assert_eq!(rt;
+        two_there_and_back(&schedule, BLOCK_C3.plain, [0; 16]),
+        (BLOCK_C3.plain, [0; 16])
+    );
 }

@@ -1,1 +1,3 @@
 pub mod SealedForm
+pub mod OpenedMessage
+pub mod Agreeing

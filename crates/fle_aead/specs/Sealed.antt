@@ -1,11 +1,11 @@
 -- AEAD_AES_256_CBC_HMAC_SHA_512 (draft-mcgrew-aead-aes-cbc-hmac-sha2-05, 2.1 and 2.2, with a key
 -- of 96 bytes and a tag of 32), as MongoDB's client-side field level encryption has it. Bytes are
 -- numbers below 256; a is the associated data.
-use Rattle.std.specs.Prelude.{◌≡◌, ◌≢◌, ℕ, ◌+◌, ◌-◌, ◌*◌, ◌<◌, List, ◌++◌, All, length, take, drop}
+use Rattle.std.specs.Prelude.{◌≡◌, ◌≢◌, ℕ, ◌+◌, ◌-◌, ◌*◌, ◌%◌, ◌<◌, List, ◌++◌, All, length, take, drop, Bool, ◌&&◌, ◌==◌, nat_lt, bytes_eq, Option, None, if◌then◌else◌}
 use Rattle.std.specs.Int.{w64, to_be_bytes}
 use Rattle.aes_block.specs.Block.{IsBlock}
 use Rattle.cbc_mode.specs.Cbc.{cbc_sealed, cbc_opened}
-use Rattle.cbc_mode.specs.Padding.{pad}
+use Rattle.cbc_mode.specs.Padding.{pad, unpad}
 use Rattle.hmac_sha512.specs.Hmac.{hmac}
 use Rattle.fle_aead.specs.Key.{mac_key, iv_key, schedule}
 
@@ -71,3 +71,15 @@ pub record IsWronglyTagged (key a c computed found : List ℕ) : Type 0 where
 pub record IsWronglyPadded (key a c : List ℕ) : Type 0 where
   pub tagged : IsTagged key a c
   pub no_plain : (p : List ℕ) → opened key c ≢ pad p
+
+-- draft, 2.2, step 3, as a test: one or more blocks between vector and tag, and the right tag
+abbrev pub is_sealed_length : ℕ → Bool
+is_sealed_length n = nat_lt 48 n && n % 16 == 0
+
+abbrev pub is_tagged : List ℕ → List ℕ → List ℕ → Bool
+is_tagged key a c = is_sealed_length (length c) && bytes_eq (tag_of c) (tag key a (body_of c))
+
+-- draft, 2.2: the message that c opens to under key and associated data, or None: the tag is judged,
+-- then the padding
+unfoldable pub opened_message : List ℕ → List ℕ → List ℕ → Option (List ℕ)
+opened_message key a c = if is_tagged key a c then unpad (opened key c) else None

@@ -12,7 +12,7 @@
 //! let n = open_into(&Tables, &key, aad, &sealed, &mut out)?;
 //! ```
 //!
-//! It doesn't compare tags in constant time, wipes no key, and asks nothing of the vector.
+//! Tags are compared and paddings judged with no early exit. It wipes no key, and asks nothing of the vector.
 #![tactic(auto)]
 
 pub use key::DataKey;

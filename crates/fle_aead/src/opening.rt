@@ -1,15 +1,16 @@
 //! Opening (draft-mcgrew-aead-aes-cbc-hmac-sha2, 2.2).
 
 ghost use Rattle.std.specs.Prelude.{◌≡◌, ◌≢◌, ◌+◌, ◌-◌, ◌*◌, ◌^◌, ◌<◌, ◌≤◌, ◌↔◌};
-ghost use Rattle.std.specs.Prelude.{drop, IfNone, IfOk, IfSome, IsTrue, length, List, take, ℕ};
+ghost use Rattle.std.specs.Prelude.{drop, IfNone, IfOk, IfSome, IsTrue, length, List, MatchResult, None, Some, take, ℕ};
 ghost use Rattle.cbc_mode.specs.Padding.{pad};
 ghost use Rattle.fle_aead.specs.Sealed.{iv_of, IsSealed, IsSealedLength, IsTagged};
-ghost use Rattle.fle_aead.specs.Sealed.{IsWronglyPadded, IsWronglyTagged, opened, opened_body};
+ghost use Rattle.fle_aead.specs.Sealed.{IsWronglyPadded, IsWronglyTagged, opened, opened_body, opened_message};
 
 use crate::key::DataKey;
 use crate::sealing::{IV, TAG};
 use cbc_mode::{CbcFault, cbc_open_into};
 use crypto_hooks::Block256;
+use std::fmt;
 
 /// The length of a block in bytes.
 const BLOCK: usize = 16;
@@ -17,8 +18,9 @@ const BLOCK: usize = 16;
 /// The least length of a sealed message: a vector, a block and a tag.
 const LEAST: usize = IV + BLOCK + TAG;
 
-/// Why a sealed message isn't opened, in the order in which it is judged.
-#[derive(Clone, Copy, Debug, PartialEq, Eq)]
+/// Why a sealed message isn't opened, in the order in which it is judged. Its `Debug` has no tag, since whoever
+/// reads the right one can forge the message.
+#[derive(Clone, Copy, PartialEq, Eq)]
 pub enum OpenFault {
     /// The length isn't 48 and one or more blocks of 16.
     Short,
@@ -31,6 +33,16 @@ pub enum OpenFault {
     },
     /// The tag is right and the padding isn't.
     Padding,
+}
+
+impl fmt::Debug for OpenFault {
+    fn fmt<W: fmt::Write>(&self, f: &mut fmt::Formatter<W>) -> fmt::Result {
+        f.write_str(match self {
+            OpenFault::Short => "Short",
+            OpenFault::Tag { .. } => "Tag",
+            OpenFault::Padding => "Padding",
+        })
+    }
 }
 
 /// Opens a sealed message with associated data into `out`, which is at least as long, and answers
@@ -52,6 +64,9 @@ pub fn open_into<B: Block256>(
         sealed.now) }
     ensures opens { (iv p : List ℕ) → IsSealed key.now aad.now iv p sealed.now
         → result ≡ Ok (length p) }
+    ensures message { MatchResult result
+        (λ n. opened_message key.now aad.now sealed.now ≡ Some (take n out.new))
+        (λ _. opened_message key.now aad.now sealed.now ≡ None) }
     ensures short { (result ≡ Err OpenFault.Short) ↔ (¬ IsSealedLength (length sealed.now)) }
     ensures tag { (computed found : List ℕ) → (result ≡ Err (OpenFault.Tag computed found))
         ↔ IsWronglyTagged key.now aad.now sealed.now computed found }
@@ -87,11 +102,15 @@ fn is_sealed_len(n: usize) -> bool
     n >= LEAST && n % BLOCK == 0
 }
 
-/// Whether the tag found is the one computed.
+/// Whether the tag found is the one computed. All bytes are read, and no branch depends on one of them.
 fn tags_agree(computed: &[u8; 32], found: &[u8; 32]) -> bool
     ensures { IsTrue result ↔ (found.now ≡ computed.now) }
 {
-    found == computed
+    let mut differences = 0;
+    for i in 0..TAG {
+        differences |= found[i] ^ computed[i];
+    }
+    differences == 0
 }
 
 /// The tag, which is all of these bytes.

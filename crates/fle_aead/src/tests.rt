@@ -1,17 +1,8 @@
 //! Values that were sealed outside this repository, and what is refused.
 use crate::{DataKey, OpenFault, derive_iv, open_into, seal_into, sealed_len};
 use crypto_hooks::Tables;
+use fle_vectors::{AEAD_B3, DATA_KEY};
 use std::alloc::AllocError;
-
-/// A data key, the bytes 80 to DF.
-const KEY: [u8; 96] = [
-    0x80, 0x81, 0x82, 0x83, 0x84, 0x85, 0x86, 0x87, 0x88, 0x89, 0x8a, 0x8b, 0x8c, 0x8d, 0x8e, 0x8f,
-    0x90, 0x91, 0x92, 0x93, 0x94, 0x95, 0x96, 0x97, 0x98, 0x99, 0x9a, 0x9b, 0x9c, 0x9d, 0x9e, 0x9f,
-    0xa0, 0xa1, 0xa2, 0xa3, 0xa4, 0xa5, 0xa6, 0xa7, 0xa8, 0xa9, 0xaa, 0xab, 0xac, 0xad, 0xae, 0xaf,
-    0xb0, 0xb1, 0xb2, 0xb3, 0xb4, 0xb5, 0xb6, 0xb7, 0xb8, 0xb9, 0xba, 0xbb, 0xbc, 0xbd, 0xbe, 0xbf,
-    0xc0, 0xc1, 0xc2, 0xc3, 0xc4, 0xc5, 0xc6, 0xc7, 0xc8, 0xc9, 0xca, 0xcb, 0xcc, 0xcd, 0xce, 0xcf,
-    0xd0, 0xd1, 0xd2, 0xd3, 0xd4, 0xd5, 0xd6, 0xd7, 0xd8, 0xd9, 0xda, 0xdb, 0xdc, 0xdd, 0xde, 0xdf,
-];
 
 /// The associated data of a string that is sealed under a derived vector: 01, the key's id, 02.
 const AAD: [u8; 18] = [
@@ -49,8 +40,8 @@ const TAG_OF_ZEROS: [u8; 32] = [
 
 #[test]
 fn a_value_is_sealed_and_opened_as_elsewhere(rt: HostRuntime) {
-    let key = DataKey::new(KEY);
-    assert_eq!(rt; *key.bytes(), KEY);
+    let key = DataKey::new(DATA_KEY);
+    assert_eq!(rt; *key.bytes(), DATA_KEY);
     assert_eq!(rt; sealed_len(16), 80);
     let iv = derive_iv(&key, &AAD, &PLAIN);
     let mut sealed = [0; 80];
@@ -64,7 +55,7 @@ fn a_value_is_sealed_and_opened_as_elsewhere(rt: HostRuntime) {
 
 #[test]
 fn a_copy_of_a_key_opens_what_the_key_sealed(rt: HostRuntime) -> Result<(), AllocError> {
-    let key = DataKey::new(KEY).clone()?;
+    let key = DataKey::new(DATA_KEY).clone()?;
     let mut out = [0; 80];
     let answer = open_into(&Tables, &key, &AAD, &SEALED, &mut out);
     assert!(rt; answer == Ok(16));
@@ -73,7 +64,7 @@ fn a_copy_of_a_key_opens_what_the_key_sealed(rt: HostRuntime) -> Result<(), Allo
 
 #[test]
 fn lengths_of_no_sealed_message_are_refused(rt: HostRuntime) {
-    let key = DataKey::new(KEY);
+    let key = DataKey::new(DATA_KEY);
     let mut out = [7; 64];
     let no_block = open_into(&Tables, &key, &AAD, &[0; 48], &mut out);
     assert!(rt; no_block == Err(OpenFault::Short));
@@ -84,7 +75,7 @@ fn lengths_of_no_sealed_message_are_refused(rt: HostRuntime) {
 
 #[test]
 fn a_wrong_tag_is_refused_with_both_tags(rt: HostRuntime) {
-    let key = DataKey::new(KEY);
+    let key = DataKey::new(DATA_KEY);
     let mut out = [7; 64];
     let answer = open_into(&Tables, &key, &AAD, &[0; 64], &mut out);
     let wrong = OpenFault::Tag {
@@ -97,8 +88,80 @@ fn a_wrong_tag_is_refused_with_both_tags(rt: HostRuntime) {
 
 #[test]
 fn a_wrong_padding_under_a_right_tag_is_refused(rt: HostRuntime) {
-    let key = DataKey::new(KEY);
+    let key = DataKey::new(DATA_KEY);
     let mut out = [7; 64];
     let answer = open_into(&Tables, &key, &AAD, &WRONGLY_PADDED, &mut out);
     assert!(rt; answer == Err(OpenFault::Padding));
+}
+
+/// The data key that begins with the two keys of RFC 7518, B.3. The third has no part there.
+fn key_of_b3() -> DataKey {
+    let mut bytes = [0; 96];
+    bytes[..64].copy_from_slice(&AEAD_B3.key);
+    DataKey::new(bytes)
+}
+
+/// Its sealed message: vector, blocks and tag.
+fn sealed_of_b3() -> [u8; 192] {
+    let mut sealed = [0; 192];
+    sealed[..16].copy_from_slice(&AEAD_B3.iv);
+    sealed[16..160].copy_from_slice(&AEAD_B3.sealed);
+    sealed[160..].copy_from_slice(&AEAD_B3.tag);
+    sealed
+}
+
+/// Whether the sealed bytes, one of them changed, are refused for their tag.
+fn refused_with_change_at(at: usize) -> bool {
+    let mut sealed = sealed_of_b3();
+    if at < sealed.len() {
+        sealed[at] ^= 1;
+    }
+    let mut out = [7; 192];
+    let answer = open_into(&Tables, &key_of_b3(), &AEAD_B3.aad, &sealed, &mut out);
+    out == [7; 192] && matches!(answer, Err(OpenFault::Tag { .. }))
+}
+
+// RFC 7518, B.3.
+#[test]
+fn the_message_of_rfc_7518_is_sealed_and_opened(rt: HostRuntime) {
+    let key = key_of_b3();
+    let mut sealed = [0; 192];
+    seal_into(
+        &Tables,
+        &key,
+        &AEAD_B3.aad,
+        AEAD_B3.iv,
+        &AEAD_B3.plain,
+        &mut sealed,
+    );
+    assert_eq!(rt; sealed, sealed_of_b3());
+    let mut out = [0; 192];
+    let answer = open_into(&Tables, &key, &AEAD_B3.aad, &sealed, &mut out);
+    assert!(rt; answer == Ok(128));
+    assert!(rt; out.starts_with(&AEAD_B3.plain));
+}
+
+// RFC 7518, B.3, with one byte changed: of the vector, of the blocks, of the tag and of the associated data.
+#[test]
+fn the_message_of_rfc_7518_is_refused_where_a_byte_is_changed(rt: HostRuntime) {
+    assert!(rt; refused_with_change_at(3));
+    assert!(rt; refused_with_change_at(100));
+    assert!(rt; refused_with_change_at(160));
+    assert!(rt; refused_with_change_at(191));
+    let mut aad = AEAD_B3.aad;
+    aad[41] ^= 1;
+    let mut out = [7; 192];
+    let answer = open_into(&Tables, &key_of_b3(), &aad, &sealed_of_b3(), &mut out);
+    assert!(rt; matches!(answer, Err(OpenFault::Tag { .. })));
+}
+
+#[test]
+fn no_tag_is_printed(rt: HostRuntime) -> Result<(), AllocError> {
+    let wrong = OpenFault::Tag {
+        computed: TAG_OF_ZEROS,
+        found: [0; 32],
+    };
+    let told = format!(in rt.alloc(); "{wrong:?}")?;
+    assert!(rt; told.as_str() == "Tag");
+    Ok(())
 }

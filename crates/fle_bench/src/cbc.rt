@@ -11,7 +11,7 @@ ghost use Rattle.fle_bench.specs.Message.{message_bytes};
 use crate::checksum::adler32;
 use crate::input::message;
 use crate::job::{Direction, MOST_BYTES, Way};
-use aes_block::{Schedule, cipher_tables, expand, inv_cipher_tables};
+use aes_block::{Schedule, cipher_tables, expand, inv_cipher_tables, inv_cipher_tables_pair};
 use cbc_mode::{cbc_open_into, cbc_seal_into, padded_len};
 use crypto_hooks::{Block256, BlockBox, BoxHooks, Hooks, Tables};
 use fle_vectors::CBC_AES256;
@@ -38,9 +38,16 @@ pub fn run(
     let unseal = |s: &Schedule, b: [u8; 16]| -> [u8; 16]
         ensures { result ≡ inv_cipher s.entry.now b }
     { inv_cipher_tables(s, b) };
+    let unseal_two = |s: &Schedule, a: [u8; 16], b: [u8; 16]| -> ([u8; 16], [u8; 16])
+        ensures first { result.0 ≡ inv_cipher s.entry.now a }
+        ensures second { result.1 ≡ inv_cipher s.entry.now b }
+    { inv_cipher_tables_pair(s, a, b) };
     match way {
         Way::Tables => through(alloc, &Tables, direction, size, turns),
-        Way::Closures => through(alloc, &Hooks::new(seal, unseal), direction, size, turns),
+        Way::Closures => {
+            let hooks = Hooks::with_pairs(seal, unseal, unseal_two);
+            through(alloc, &hooks, direction, size, turns)
+        }
         Way::Boxes => {
             let boxed_seal: BlockBox = Box::new(alloc, seal)?;
             let boxed_unseal: BlockBox = Box::new(alloc, unseal)?;

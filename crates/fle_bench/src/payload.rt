@@ -7,7 +7,6 @@ ghost use Rattle.fle_bench.specs.Payload.{binary_value, payload_of, vector_of, I
 ghost use Rattle.payload6.specs.Opening.{IsOriginal};
 ghost use Rattle.payload6.specs.Payload.{algorithm_number, IsSealedPayload};
 
-use crate::aead::DATA_KEY;
 use crate::checksum::adler32;
 use crate::input::message;
 use crate::job::MOST_BYTES;
@@ -15,6 +14,7 @@ use bson_tree::types::BINARY;
 use crypto_hooks::Tables;
 use encrypt_schema::Algorithm;
 use fle_aead::DataKey;
+use fle_vectors::DATA_KEY;
 use payload6::{
     DETERMINISTIC, PartsFault, RANDOM, det_iv, open_payload_into, parts, payload_len,
     seal_payload_into,

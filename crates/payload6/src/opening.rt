@@ -11,9 +11,11 @@ use bson_codec::check_value;
 use bson_tree::types;
 use crypto_hooks::Block256;
 use fle_aead::{DataKey, OpenFault, open_into};
+use std::fmt;
 
-/// Why a payload isn't opened, in the order in which it is judged.
-#[derive(Clone, Copy, Debug, PartialEq, Eq)]
+/// Why a payload isn't opened, in the order in which it is judged. Its `Debug` has no tag, since whoever reads the
+/// right one can forge the payload.
+#[derive(Clone, Copy, PartialEq, Eq)]
 pub enum PayloadFault {
     /// The last 32 bytes aren't the tag of the rest.
     Tag {
@@ -27,6 +29,16 @@ pub enum PayloadFault {
     /// Both are right, and the original type is 06, 0A, 7F, FF or no BSON type, or the bytes spell no
     /// value of it that adds at most the levels that are left.
     Plain,
+}
+
+impl fmt::Debug for PayloadFault {
+    fn fmt<W: fmt::Write>(&self, f: &mut fmt::Formatter<W>) -> fmt::Result {
+        f.write_str(match self {
+            PayloadFault::Tag { .. } => "Tag",
+            PayloadFault::Padding => "Padding",
+            PayloadFault::Plain => "Plain",
+        })
+    }
 }
 
 /// Opens a payload of fewer than 2^31 bytes into `out`, which is at least as long as its sealed bytes,

@@ -1,4 +1,5 @@
 use Rattle.fle_aead.proofs.SealedForm.{sealed-determines, sealed-is_sealed_length, sealed-tagged, sealed-iv, sealed-opened}
+use Rattle.fle_aead.proofs.OpenedMessage.{message-sealed}
 use Rattle.fle_aead.proofs.laws.sealing.Goals as goal
 
 pub returns : goal.returns
@@ -8,4 +9,5 @@ returns c = record {
   tagged = sealed-tagged;
   vector = sealed-iv;
   opens = sealed-opened;
+  message = message-sealed;
 }

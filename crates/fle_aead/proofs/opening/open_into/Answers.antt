@@ -3,6 +3,7 @@ use Rattle.std.proofs.lemmas.List.{length-take-le}
 use Rattle.std.proofs.lemmas.List.Elements.{All-from_get_or, All-take}
 use Rattle.cbc_mode.proofs.Padded.{pad-injective}
 use Rattle.fle_aead.proofs.SealedForm.{opened-body, sealed-is_sealed_length, sealed-opened, sealed-tagged, sealed_from, tagged_from, tags_agree_from}
+use Rattle.fle_aead.proofs.OpenedMessage.{message-tagged, message-unpadded, message-untagged}
 use Rattle.fle_aead.proofs.opening.open_into.Goals as goal
 
 pub returns-then-not-is_sealed_len-clause-opens : goal.returns-then-not-is_sealed_len-clause-opens
@@ -66,3 +67,32 @@ pub returns-in-None-clause-blocks : goal.returns-in-None-clause-blocks
 returns-in-None-clause-blocks g c = λ tagged.
     let long : length c.split_at.result.0.now - 16 ≡ length c.args.sealed.now - 48 = omega arith in
     rw long at c.open_body.ensures.opened ∙ sym (opened-body _ _ _ c.split_at.ensures.front)
+
+pub returns-then-not-is_sealed_len-clause-message : goal.returns-then-not-is_sealed_len-clause-message
+returns-then-not-is_sealed_len-clause-message g c = message-untagged _ _ _ (λ t.
+    let asked = c.if-not-is_sealed_len.ensures in
+    let no = asked.1 t.len in absurd cc)
+
+pub returns-then-not-tags_agree-clause-message : goal.returns-then-not-tags_agree-clause-message
+returns-then-not-tags_agree-clause-message g c = message-untagged _ _ _ (λ t.
+    let asked = c.if-not-tags_agree.ensures in
+    let no = asked.1 (tags_agree_from _ _ _ _ _ _ _ c.split_at.ensures.front c.split_at.ensures.back
+    c.tag-computed.ensures c.tag_in-found.ensures t) in absurd cc)
+
+pub returns-in-Some-clause-message : goal.returns-in-Some-clause-message
+returns-in-Some-clause-message g c =
+    let len = c.if-not-is_sealed_len.ensures in
+    let same = c.if-not-tags_agree.ensures in
+    message-tagged _ _ _ _
+    (tagged_from _ _ _ _ _ _ _ (len.0 refl) c.split_at.ensures.front c.split_at.ensures.back
+    c.tag-computed.ensures c.tag_in-found.ensures (same.0 refl))
+    (opened-body _ _ _ c.split_at.ensures.front ∙ c.in-Some.ensures.plain)
+
+pub returns-in-None-clause-message : goal.returns-in-None-clause-message
+returns-in-None-clause-message g c =
+    let len = c.if-not-is_sealed_len.ensures in
+    let same = c.if-not-tags_agree.ensures in
+    message-unpadded _ _ _
+    (tagged_from _ _ _ _ _ _ _ (len.0 refl) c.split_at.ensures.front c.split_at.ensures.back
+    c.tag-computed.ensures c.tag_in-found.ensures (same.0 refl))
+    (λ p is. c.in-None.ensures.wrong p (sym (opened-body _ _ _ c.split_at.ensures.front) ∙ is))

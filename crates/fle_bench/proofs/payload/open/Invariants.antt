@@ -1,5 +1,5 @@
 use Rattle.std.proofs.Common.{◌<◌}
-use Rattle.fle_bench.specs.declared.aead.TheConstants.{DATA_KEY}
+use Rattle.fle_vectors.specs.declared.data_key.TheConstants.{DATA_KEY}
 use Rattle.fle_bench.specs.Payload.{IsOpened}
 use Rattle.fle_bench.proofs.payload.open.Given as goal
 

@@ -1,7 +1,7 @@
 use Rattle.std.proofs.Common.{◌<◌}
 use Rattle.fle_bench.specs.Payload.{vector_of}
 use Rattle.payload6.specs.Payload.{algorithm_number, IsSealedPayload}
-use Rattle.fle_bench.specs.declared.aead.TheConstants.{DATA_KEY}
+use Rattle.fle_vectors.specs.declared.data_key.TheConstants.{DATA_KEY}
 use Rattle.fle_bench.specs.declared.payload.TheConstants.{KEY_ID, VECTOR}
 use Rattle.fle_bench.proofs.payload.seal.Given as goal
 
