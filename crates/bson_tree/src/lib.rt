@@ -17,7 +17,9 @@ mod copy;
 mod names;
 mod place;
 mod size;
+pub mod subtypes;
 mod tree;
+pub mod types;
 
 pub use bytes::Bytes;
 pub use copy::copy_doc;

@@ -7,7 +7,7 @@ use Rattle.command_marker.specs.Reply.{reply, reply_limit, RepliesAs}
 use Rattle.bson_tree.specs.Tree.{Items}
 use Rattle.bson_tree.specs.Spelling.{items_bytes, doc_bytes}
 use Rattle.bson_tree.specs.Filled.{fill_items}
-use Rattle.bson_codec.specs.Raw.{At}
+use Rattle.bson_codec.specs.Borrowed.{At}
 use Rattle.encrypt_schema.specs.declared.marks.Mark.{Mark}
 use Rattle.encrypt_schema.specs.Policies.{policy_at}
 use Rattle.encrypt_schema.specs.Row.{Row}

@@ -7,7 +7,7 @@ use Rattle.std.specs.Int.{to_le_bytes, w32}
 use Rattle.bson_tree.specs.Tree.{Items, node, no_items, item}
 use Rattle.bson_tree.specs.Spelling.{items_bytes, doc_bytes}
 use Rattle.encrypt_schema.specs.declared.marks.Mark.{Mark}
-use Rattle.bson_codec.specs.Raw.{At}
+use Rattle.bson_codec.specs.Borrowed.{At}
 use Rattle.encrypt_schema.specs.Row.{Row}
 use Rattle.encrypt_schema.specs.Chains.{use_of_mark}
 use Rattle.encrypt_schema.proofs.Sites.{marks_of_sites}

@@ -3,7 +3,7 @@ use Rattle.std.proofs.Common.{◌≡◌, ◌<◌, ℕ, ◌+◌, ◌-◌, Bool, t
 use Rattle.std.proofs.lemmas.Bool.{false≢true}
 use Rattle.bson_tree.specs.Tree.{Items, no_items, item}
 use Rattle.bson_tree.specs.Spelling.{value_bytes}
-use Rattle.bson_codec.specs.Raw.{At, Elem}
+use Rattle.bson_codec.specs.Borrowed.{At, Elem}
 use Rattle.bson_codec.specs.Elements.{TakesElement}
 use Rattle.encrypt_schema.specs.declared.reason.Reason.TheVariants.{NotACommand, NotBuilt, BadField, WrongDb}
 use Rattle.encrypt_schema.specs.Offences.{when, least, text_of}

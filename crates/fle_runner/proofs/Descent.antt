@@ -9,7 +9,7 @@ use Rattle.bson_tree.specs.Places.{start_in, start_from}
 use Rattle.bson_codec.proofs.Frames.{framed_length}
 use Rattle.bson_codec.proofs.Offsets.{within_from}
 use Rattle.bson_codec.proofs.Spots.{same}
-use Rattle.bson_codec.specs.Raw.{has_inside, holds}
+use Rattle.bson_codec.specs.Borrowed.{has_inside, holds}
 use Rattle.fle_runner.specs.Descent.{spot_in, spot_from}
 
 -- ---- choices
