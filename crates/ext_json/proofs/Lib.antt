@@ -6,3 +6,6 @@ pub mod Threes
 pub mod Walk
 pub mod Scopes
 pub mod Tested
+pub mod Members
+pub mod Spelled
+pub mod Arrays
