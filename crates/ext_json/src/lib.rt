@@ -21,4 +21,8 @@ pub use infos::infos_from_json;
 pub use text::write_text;
 
 #[cfg(test)]
+mod example_tests;
+#[cfg(test)]
+mod infos_tests;
+#[cfg(test)]
 mod text_tests;

@@ -27,19 +27,19 @@ fn numbers_stand_as_digits(rt: HostRuntime) -> Result<(), Fail> {
     let cases: [(&[u8], &[u8]); 4] = [
         (
             b"\x10\x00\x00\x00\x01a\x00\x00\x00\x00\x00\x00\x00\xF0?\x00",
-            b"{\"a\":{\"$doubleBits\":\"000000000000f03f\"}}",
+            br#"{"a":{"$doubleBits":"000000000000f03f"}}"#,
         ),
         (
             b"\x0C\x00\x00\x00\x10a\x00\x00\x00\x00\x80\x00",
-            b"{\"a\":{\"$numberInt\":\"-2147483648\"}}",
+            br#"{"a":{"$numberInt":"-2147483648"}}"#,
         ),
         (
             b"\x10\x00\x00\x00\x12a\x00\xFF\xFF\xFF\xFF\xFF\xFF\xFF\x7F\x00",
-            b"{\"a\":{\"$numberLong\":\"9223372036854775807\"}}",
+            br#"{"a":{"$numberLong":"9223372036854775807"}}"#,
         ),
         (
             b"\x18\x00\x00\x00\x13a\x00\x00\x01\x02\x03\x04\x05\x06\x07\x08\x09\x0A\x0B\x0C\x0D\x0E\x0F\x00",
-            b"{\"a\":{\"$decimalBits\":\"000102030405060708090a0b0c0d0e0f\"}}",
+            br#"{"a":{"$decimalBits":"000102030405060708090a0b0c0d0e0f"}}"#,
         ),
     ];
     for (bytes, text) in cases {
@@ -54,11 +54,11 @@ fn times_are_longs_and_pairs(rt: HostRuntime) -> Result<(), Fail> {
     let cases: [(&[u8], &[u8]); 2] = [
         (
             b"\x10\x00\x00\x00\x09a\x00\xFF\xFF\xFF\xFF\xFF\xFF\xFF\xFF\x00",
-            b"{\"a\":{\"$date\":{\"$numberLong\":\"-1\"}}}",
+            br#"{"a":{"$date":{"$numberLong":"-1"}}}"#,
         ),
         (
             b"\x10\x00\x00\x00\x11a\x00*\x00\x00\x00\xFF\xFF\xFF\xFF\x00",
-            b"{\"a\":{\"$timestamp\":{\"t\":4294967295,\"i\":42}}}",
+            br#"{"a":{"$timestamp":{"t":4294967295,"i":42}}}"#,
         ),
     ];
     for (bytes, text) in cases {
@@ -73,11 +73,11 @@ fn words_stand_for_values_without_bytes(rt: HostRuntime) -> Result<(), Fail> {
     let cases: [(&[u8], &[u8]); 2] = [
         (
             b"\x10\x00\x00\x00\x08a\x00\x00\x08b\x00\x01\x0Ac\x00\x00",
-            b"{\"a\":false,\"b\":true,\"c\":null}",
+            br#"{"a":false,"b":true,"c":null}"#,
         ),
         (
             b"\x0E\x00\x00\x00\x06a\x00\x7Fb\x00\xFFc\x00\x00",
-            b"{\"a\":{\"$undefined\":true},\"b\":{\"$maxKey\":1},\"c\":{\"$minKey\":1}}",
+            br#"{"a":{"$undefined":true},"b":{"$maxKey":1},"c":{"$minKey":1}}"#,
         ),
     ];
     for (bytes, text) in cases {
@@ -96,15 +96,15 @@ fn texts_are_quoted(rt: HostRuntime) -> Result<(), Fail> {
         ),
         (
             b"\x18\x00\x00\x00\x0Da\x00\x04\x00\x00\x00f()\x00\x0Eb\x00\x01\x00\x00\x00\x00\x00",
-            b"{\"a\":{\"$code\":\"f()\"},\"b\":{\"$symbol\":\"\"}}",
+            br#"{"a":{"$code":"f()"},"b":{"$symbol":""}}"#,
         ),
         (
             b"\x10\x00\x00\x00\x0Ba\x00^\\d\"\x00ix\x00\x00",
-            b"{\"a\":{\"$regularExpression\":{\"pattern\":\"^\\\\d\\\"\",\"options\":\"ix\"}}}",
+            br#"{"a":{"$regularExpression":{"pattern":"^\\d\"","options":"ix"}}}"#,
         ),
         (
             b"\x1E\x00\x00\x00\x0Fa\x00\x16\x00\x00\x00\x02\x00\x00\x00x\x00\x0C\x00\x00\x00\x10n\x00\x07\x00\x00\x00\x00\x00",
-            b"{\"a\":{\"$code\":\"x\",\"$scope\":{\"n\":{\"$numberInt\":\"7\"}}}}",
+            br#"{"a":{"$code":"x","$scope":{"n":{"$numberInt":"7"}}}}"#,
         ),
     ];
     for (bytes, text) in cases {
@@ -119,15 +119,15 @@ fn binaries_are_in_base64(rt: HostRuntime) -> Result<(), Fail> {
     let cases: [(&[u8], &[u8]); 3] = [
         (
             b"\x0D\x00\x00\x00\x05a\x00\x00\x00\x00\x00\x00\x00",
-            b"{\"a\":{\"$binary\":{\"base64\":\"\",\"subType\":\"00\"}}}",
+            br#"{"a":{"$binary":{"base64":"","subType":"00"}}}"#,
         ),
         (
             b"\x10\x00\x00\x00\x05a\x00\x03\x00\x00\x00\x80\xFF\xFE\xFD\x00",
-            b"{\"a\":{\"$binary\":{\"base64\":\"//79\",\"subType\":\"80\"}}}",
+            br#"{"a":{"$binary":{"base64":"//79","subType":"80"}}}"#,
         ),
         (
             b"\x0E\x00\x00\x00\x05a\x00\x01\x00\x00\x00\x06\xFB\x00",
-            b"{\"a\":{\"$binary\":{\"base64\":\"+w==\",\"subType\":\"06\"}}}",
+            br#"{"a":{"$binary":{"base64":"+w==","subType":"06"}}}"#,
         ),
     ];
     for (bytes, text) in cases {
@@ -142,11 +142,11 @@ fn ids_are_in_hexadecimal(rt: HostRuntime) -> Result<(), Fail> {
     let cases: [(&[u8], &[u8]); 2] = [
         (
             b"\x14\x00\x00\x00\x07a\x00V\xE1\xFCr\xE0\xC9\x17\xE9\xC4qAa\x00",
-            b"{\"a\":{\"$oid\":\"56e1fc72e0c917e9c4714161\"}}",
+            br#"{"a":{"$oid":"56e1fc72e0c917e9c4714161"}}"#,
         ),
         (
             b"\x1D\x00\x00\x00\x0Ca\x00\x05\x00\x00\x00db.c\x00V\xE1\xFCr\xE0\xC9\x17\xE9\xC4qAa\x00",
-            b"{\"a\":{\"$dbPointer\":{\"$ref\":\"db.c\",\"$id\":{\"$oid\":\"56e1fc72e0c917e9c4714161\"}}}}",
+            br#"{"a":{"$dbPointer":{"$ref":"db.c","$id":{"$oid":"56e1fc72e0c917e9c4714161"}}}}"#,
         ),
     ];
     for (bytes, text) in cases {
@@ -162,7 +162,7 @@ fn names_stand_in_documents_alone(rt: HostRuntime) -> Result<(), Fail> {
         (b"\x05\x00\x00\x00\x00", b"{}"),
         (
             b"/\x00\x00\x00\x03b\"\x00\x05\x00\x00\x00\x00\x04a\x00\x1A\x00\x00\x00\x0Ax\x00\x04y\x00\x05\x00\x00\x00\x00\x03\x00\x08\x00\x00\x00\x08\x00\x01\x00\x00\x0Ab\"\x00\x00",
-            b"{\"b\\\"\":{},\"a\":[null,[],{\"\":true}],\"b\\\"\":null}",
+            br#"{"b\"":{},"a":[null,[],{"":true}],"b\"":null}"#,
         ),
     ];
     for (bytes, text) in cases {
@@ -177,11 +177,11 @@ fn commands_have_their_text(rt: HostRuntime) -> Result<(), Fail> {
     let cases: [(&[u8], &[u8]); 2] = [
         (
             b"\x1E\x00\x00\x00\x10ping\x00\x01\x00\x00\x00\x02$db\x00\x06\x00\x00\x00admin\x00\x00",
-            b"{\"ping\":{\"$numberInt\":\"1\"},\"$db\":\"admin\"}",
+            br#"{"ping":{"$numberInt":"1"},"$db":"admin"}"#,
         ),
         (
             b"\x1D\x00\x00\x00\x05k\x00\x10\x00\x00\x00\x04\x00\x11\"3DUFw\x88\x99\xAA\xBB\xCC\xDD\xEE\xFF\x00",
-            b"{\"k\":{\"$binary\":{\"base64\":\"ABEiM0RVRneImaq7zN3u/w==\",\"subType\":\"04\"}}}",
+            br#"{"k":{"$binary":{"base64":"ABEiM0RVRneImaq7zN3u/w==","subType":"04"}}}"#,
         ),
     ];
     for (bytes, text) in cases {
@@ -234,6 +234,6 @@ fn a_full_sink_holds_a_front_of_the_text(rt: HostRuntime) -> Result<(), Fail> {
     let document = check_bson(b"\x08\x00\x00\x00\x0Aa\x00\x00")?;
     let mut out = MemSink::new(alloc, 9, 4, Vec::new(alloc))?;
     assert!(rt; write_text(&document, &mut out).is_err());
-    assert_eq!(rt; out.written(), b"{\"a\":null".as_slice());
+    assert_eq!(rt; out.written(), br#"{"a":null"#.as_slice());
     Ok(())
 }
