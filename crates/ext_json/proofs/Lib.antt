@@ -9,3 +9,7 @@ pub mod Tested
 pub mod Members
 pub mod Spelled
 pub mod Arrays
+pub mod QuotedUtf8
+pub mod TextUtf8
+pub mod LaidOut
+pub mod Deepest

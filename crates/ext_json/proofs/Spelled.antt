@@ -163,7 +163,7 @@ name_back : (name : List ℕ) → IsName name → has_no_zero name ≡ true
 name_back [] h = refl
 name_back (b ∷ name) h = and_true (not (b == 0)) (has_no_zero name) (some_byte b h.0) (name_back name h.1)
 
-layout_inside : (D : Items → Type 0) (o : Option ValueLayout) (tag : ℕ) (is : Items) → HasLayout D o (node tag is) → IsInside D is
+pub layout_inside : (D : Items → Type 0) (o : Option ValueLayout) (tag : ℕ) (is : Items) → HasLayout D o (node tag is) → IsInside D is
 layout_inside D None tag is h = absurd h
 layout_inside D (Some values.Document) tag is h = h
 layout_inside D (Some (values.Raw layout)) tag is h = absurd h

@@ -12,19 +12,19 @@ pub record ZeroStep (bs : List ℕ) (n : ℕ) : Type 0 where
 not_zero : (x : ℕ) → (x ≡ 0 → ⊥) → (x == 0) ≡ false
 not_zero x some = elim (eqb_tells x 0) [ inl t ↦ absurd (some t.1) | inr f ↦ f.0 ]
 
-before_more : (x : ℕ) (bs : List ℕ) → (x ≡ 0 → ⊥) → before_zero (x ∷ bs) ≡ x ∷ before_zero bs
+pub before_more : (x : ℕ) (bs : List ℕ) → (x ≡ 0 → ⊥) → before_zero (x ∷ bs) ≡ x ∷ before_zero bs
 unfolding before_zero
 before_more x bs some = rw (not_zero x some) refl
 
-after_more : (x : ℕ) (bs : List ℕ) → (x ≡ 0 → ⊥) → after_zero (x ∷ bs) ≡ after_zero bs
+pub after_more : (x : ℕ) (bs : List ℕ) → (x ≡ 0 → ⊥) → after_zero (x ∷ bs) ≡ after_zero bs
 unfolding after_zero
 after_more x bs some = rw (not_zero x some) refl
 
-before_here : (x : ℕ) (bs : List ℕ) → x ≡ 0 → before_zero (x ∷ bs) ≡ []
+pub before_here : (x : ℕ) (bs : List ℕ) → x ≡ 0 → before_zero (x ∷ bs) ≡ []
 unfolding before_zero
 before_here x bs e = rw e refl
 
-after_here : (x : ℕ) (bs : List ℕ) → x ≡ 0 → after_zero (x ∷ bs) ≡ bs
+pub after_here : (x : ℕ) (bs : List ℕ) → x ≡ 0 → after_zero (x ∷ bs) ≡ bs
 unfolding after_zero
 after_here x bs e = rw e refl
 

@@ -24,6 +24,7 @@ abbrev pub is_bad_leaf : (ℕ → Items → Bool) → ℕ → Option Form → Li
 is_bad_leaf B at None bs = false
 is_bad_leaf B at (Some form) bs = is_bad_raw B at form bs
 
+-- the offset of a bad value
 abbrev pub offset_if : Bool → ℕ → Option ℕ
 offset_if bad at = if bad then Some at else None
 
@@ -36,6 +37,7 @@ value_bad F at (node tag is) = F at is
 abbrev pub element_bad : (ℕ → Items → Option ℕ) → ℕ → List ℕ → Tree → Option ℕ
 element_bad F at name t = if is_utf8 name then value_bad F at t else Some at
 
+-- the first of two places
 abbrev pub or_later : Option ℕ → Option ℕ → Option ℕ
 or_later (Some at) later = Some at
 or_later None later = later

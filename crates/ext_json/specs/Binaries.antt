@@ -17,6 +17,7 @@ members_count (member k d ms) = members_count ms + 1
 abbrev pub Contents : Type 0
 Contents = ℕ × List ℕ
 
+-- the one byte that was decoded
 abbrev pub first_or_zero : List ℕ → ℕ
 first_or_zero [] = 0
 first_or_zero (b ∷ bs) = b

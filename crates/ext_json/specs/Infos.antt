@@ -28,6 +28,7 @@ is_fit size is = is_named is && (nat_le (levels_in is) level_limit && nat_le (si
 abbrev pub member_of : ℕ → Data → Option Items
 member_of size d = option_and_then (λ is. if is_fit size is then Some is else None) (document_of d)
 
+-- goes on with a document, or ends with the fault
 abbrev pub member_then : JsonFault → (Items → Result (List ℕ) JsonFault) → Option Items → Result (List ℕ) JsonFault
 member_then fault next None = Err fault
 member_then fault next (Some is) = next is

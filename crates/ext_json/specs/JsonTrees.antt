@@ -22,10 +22,12 @@ abbrev pub number_tree : Option ℤ → Tree
 number_tree (Some z) = integer_tree z
 number_tree None = leaf 0x06 []
 
+-- BSON 1.1, "boolean": its byte
 abbrev pub bool_byte : Bool → ℕ
 bool_byte true = 1
 bool_byte false = 0
 
+-- BSON 1.1, "binary": the value of a subtype and contents
 abbrev pub binary_tree : Contents → Tree
 binary_tree c = leaf 0x05 (binary_bytes c.0 c.1)
 

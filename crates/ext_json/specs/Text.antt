@@ -59,11 +59,12 @@ unfoldable pub elements_text : (Tree → List ℕ) → Bool → List ℕ → Ite
 elements_text V named before no_items = []
 elements_text V named before (item name t is) = (before ++ (name_text named name ++ V t)) ++ elements_text V named (44 ∷ []) is
 
--- RFC 8259, sections 4 and 5: what a document (true) and an array (false) begin and end with
+-- RFC 8259, sections 4 and 5: what a document (true) and an array (false) begin with
 abbrev pub opening_text : Bool → List ℕ
 opening_text true = 123 ∷ []
 opening_text false = 91 ∷ []
 
+-- and what they end with
 abbrev pub closing_text : Bool → List ℕ
 closing_text true = 125 ∷ []
 closing_text false = 93 ∷ []

@@ -16,6 +16,9 @@ use bson_codec::{RawDoc, RawItem};
 // A document has at most so many levels of nesting, its own included.
 const LEVELS: u32 = 100;
 
+/// The number of the reason for which a document with such a place has no text.
+pub const NOT_TEXT: u8 = 28;
+
 /// The offset of the value of the first place, in reading order, whose name, text or part of a regular expression
 /// isn't UTF-8; `None` exactly where there is none. Names of array elements count too, and what is inside a scope
 /// counts for the value that holds it. Takes no memory.
