@@ -30,6 +30,11 @@ value_is tag bs s =
     let same : value_tree tag bs ≡ s.tree = ap (λ (k : ℕ). value_tree k bs) (sym s.type) ∙ ap (value_tree (tag_of s.tree)) s.parts ∙ value_tree_is s.tree s.laid in
     ap value_bytes same ∙ sym s.parts
 
+-- the value of a type that holds no document is raw
+pub raw_tree : (tag kind : ℕ) (bs parts : List ℕ) → tag ≡ kind → is_inner kind ≡ false → bs ≡ parts → value_tree tag bs ≡ leaf kind parts
+raw_tree tag kind bs parts same raw e =
+    rw (same, e) (ap (λ (b : Bool). cond b (node kind (doc_of parts)) (leaf kind parts)) raw)
+
 -- ---- documents inside
 
 inside_of_value : (layout : ValueLayout) (t : Tree) → is_document layout ≡ true → HasLayout (IsItems (level_limit - 1)) (Some layout) t → SpellsDoc (value_bytes t)

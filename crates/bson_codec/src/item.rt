@@ -34,7 +34,7 @@ impl<'a> Model for RawItem<'a> {
     ghost invariant = { λ e. (e.start + length e.value.now < 2 ^ 31) × SpellsValue e.tag e.value.now };
 }
 
-#[tactic(auto, using(crate::proofs::Items::type_is, crate::proofs::Items::value_is, crate::proofs::Items::value_laid, crate::proofs::Views::spelled_doc))]
+#[tactic(auto, using(crate::proofs::Items::type_is, crate::proofs::Items::value_is, crate::proofs::Items::value_laid, crate::proofs::Items::raw_tree, crate::proofs::Views::spelled_doc))]
 impl<'a> RawItem<'a> {
     /// The type byte.
     pub fn tag(&self) -> u8
@@ -86,7 +86,7 @@ impl<'a> RawItem<'a> {
     /// The bytes of a string, without length and final 00: `None` exactly where the type isn't 02.
     pub fn text(&self) -> Option<&'a [u8]>
         ensures kind { is_some result ≡ (tag_of self.now.tree == 0x02) }
-        ensures text { IfSome result (λ t. value_bytes self.now.tree ≡ string_bytes t.now) }
+        ensures text { IfSome result (λ t. self.now.tree ≡ leaf 0x02 (string_bytes t.now)) }
     {
         if self.tag != types::STRING {
             return None;
@@ -97,7 +97,7 @@ impl<'a> RawItem<'a> {
     /// The subtype and the contents of a binary: `None` exactly where the type isn't 05.
     pub fn binary(&self) -> Option<(u8, &'a [u8])>
         ensures kind { is_some result ≡ (tag_of self.now.tree == 0x05) }
-        ensures contents { IfSome result (λ b. value_bytes self.now.tree ≡ binary_bytes b.0 b.1.now) }
+        ensures contents { IfSome result (λ b. self.now.tree ≡ leaf 0x05 (binary_bytes b.0 b.1.now)) }
     {
         if self.tag != types::BINARY {
             return None;
@@ -109,7 +109,7 @@ impl<'a> RawItem<'a> {
     /// isn't 0F.
     pub fn scope(&self) -> Option<(&'a [u8], RawDoc<'a>)>
         ensures kind { is_some result ≡ (tag_of self.now.tree == 0x0F) }
-        ensures parts { IfSome result (λ s. value_bytes self.now.tree ≡ scope_bytes s.0.now s.1.tree) }
+        ensures parts { IfSome result (λ s. self.now.tree ≡ leaf 0x0F (scope_bytes s.0.now s.1.tree)) }
         ensures scope { IfSome result (λ s. IsDoc s.1.tree) }
         // Before the scope stand the length of all, the length of the text, the text and its 00.
         ensures start { IfSome result (λ s. s.1.start ≡ self.now.start + (length s.0.now + 9)) }

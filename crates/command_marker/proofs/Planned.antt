@@ -19,7 +19,8 @@ use Rattle.encrypt_schema.proofs.Taken.{roles_taken, few_roles}
 use Rattle.command_marker.specs.Marked.{marking_at, marked}
 use Rattle.command_marker.specs.Splices.{spliced, added, put_at}
 use Rattle.command_marker.specs.Written.{AreRuled, IsPlan, SizesAs, growth, growth_by, marked_by, reply_end, reply_head}
-use Rattle.command_marker.proofs.Lengths.{framed_size, marking_size}
+use Rattle.command_marker.proofs.Lengths.{marking_size}
+use Rattle.bson_tree.proofs.Sizes.{framed_size}
 use Rattle.command_marker.proofs.MarkedPlaces.{put_marking, marked_roles}
 use Rattle.command_marker.proofs.Replies.{refused, replied, reply_size}
 use Rattle.command_marker.proofs.Splices.{alike, spliced_items}

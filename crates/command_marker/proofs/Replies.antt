@@ -18,7 +18,7 @@ use Rattle.command_marker.specs.Marked.{marked}
 use Rattle.command_marker.specs.Reply.{flag, one, reply_fields, reply, reply_to, reply_clear_to, reply_limit, RepliesAs}
 use Rattle.command_marker.specs.Written.{SizesAs, reply_end, reply_head}
 use Rattle.command_marker.proofs.Frames.{one_item}
-use Rattle.command_marker.proofs.Lengths.{element_size, framed_size}
+use Rattle.bson_tree.proofs.Sizes.{framed_size, element_size}
 
 -- a reply has 80 bytes more than its command
 pub reply_size : (marked ruled : Bool) (command : Items) → length (reply marked ruled command) ≡ length (doc_bytes command) + 80
