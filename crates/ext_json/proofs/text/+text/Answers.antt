@@ -67,4 +67,4 @@ put_scope-returns g t c =
 pub put_leaf-returns-in-Some : goal.put_leaf-returns-in-Some
 put_leaf-returns-in-Some g t c =
     let tag : tag_of c.args.item.now.tree ≡ 15 = is_fifteen (tag_of c.args.item.now.tree) (sym c.in-Some.ensures.kind) in
-    rw (scope_text (inside_text c.args.levels true) (tag_of c.args.item.now.tree) (value_bytes c.args.item.now.tree) c.in-Some.code.now c.in-Some.scope.tree tag c.in-Some.ensures.parts (omega (arith, c.value-value.ensures.room, ap length c.value-value.ensures.spelling)) c.in-Some.ensures.scope) c.put_scope.ensures
+    rw (scope_text (inside_text c.args.levels true) (tag_of c.args.item.now.tree) (value_bytes c.args.item.now.tree) c.in-Some.code.now c.in-Some.scope.tree tag (ap value_bytes c.in-Some.ensures.parts) (omega (arith, c.value-value.ensures.room, ap length c.value-value.ensures.spelling)) c.in-Some.ensures.scope) c.put_scope.ensures
