@@ -121,7 +121,7 @@ fn subtype_in(text: &str) -> Option<u8>
     }
 }
 
-// A binary. No text that is read is so long that its contents need 2^31 bytes.
+// A binary. Contents of 2^31 bytes or more, which no binary has, are told as want of memory.
 fn value_of(alloc: Global, kind: u8, contents: &[u8]) -> Result<Value, Stop>
     ensures { Converts tree result (Some (binary_tree (kind, contents.now))) }
 {

@@ -129,7 +129,7 @@ fn integer_value(alloc: Global, integer: i64) -> Result<Value, Stop>
     }
 }
 
-// A string. No text that is read is so long that its length needs more than 31 bits.
+// A string. A text whose length needs more than 31 bits, which no string has, is told as want of memory.
 fn string_value(alloc: Global, text: &[u8]) -> Result<Value, Stop>
     ensures { Converts tree result (Some (leaf 0x02 (string_bytes text.now))) }
 {

@@ -163,8 +163,6 @@ fn expect_same(
     documents: usize,
 ) -> Result<(), Fail> {
     let text = text_of(rt, alloc, bson, documents)?;
-    assert!(rt; json.len() < 2000);
-    assert!(rt; text.len() < 2000);
     let infos = infos_from_json(alloc, json)?;
     let again = infos_from_json(alloc, &text)?;
     assert_eq!(rt; infos.len(), bson.len());

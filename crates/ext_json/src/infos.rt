@@ -25,7 +25,6 @@ const LONGEST: usize = 67_108_864;
 /// The bytes of the documents of the array that the text is, one after another: what a file of collection infos in
 /// BSON holds. `Syntax` and `Form` exactly where the text has that fault.
 pub fn infos_from_json(alloc: Global, text: &[u8]) -> Result<Vec<u8>, JsonFault>
-    requires short { length text.now ≤ longest }
     ensures infos { Answers (λ v. v.items) result (json_infos text.now) }
 {
     match Json::from_slice(alloc, text) {

@@ -9,12 +9,10 @@ use std::process::Abort;
 use std::test::Fail;
 
 fn expect_fault(rt: &impl Abort, alloc: Global, text: &[u8], fault: JsonFault) {
-    assert!(rt; text.len() < 300);
     assert_eq!(rt; infos_from_json(alloc, text).err(), Some(fault));
 }
 
 fn expect_infos(rt: &impl Abort, alloc: Global, text: &[u8], bytes: &[u8]) -> Result<(), Fail> {
-    assert!(rt; text.len() < 300);
     let infos = infos_from_json(alloc, text)?;
     assert_eq!(rt; infos.as_slice(), bytes);
     Ok(())
@@ -190,12 +188,10 @@ fn nested(alloc: Global, arrays: usize) -> Result<Vec<u8>, AllocError>
 #[test]
 fn a_hundred_levels_are_read_and_no_more(rt: HostRuntime) -> Result<(), Fail> {
     let text = nested(rt.alloc(), 99)?;
-    assert!(rt; text.len() < 300);
     assert!(rt; infos_from_json(rt.alloc(), &text).is_ok());
     let text = nested(rt.alloc(), 100)?;
     expect_fault(&rt, rt.alloc(), &text, JsonFault::Form { document: 1 });
     let text = nested(rt.alloc(), 126)?;
-    assert!(rt; text.len() < 300);
     expect_fault(&rt, rt.alloc(), &text, JsonFault::Syntax);
     Ok(())
 }
