@@ -1,0 +1,15 @@
+pub mod Writing
+pub mod Zeros
+pub mod Layouts
+pub mod Escapes
+pub mod Threes
+pub mod Walk
+pub mod Scopes
+pub mod Tested
+pub mod Members
+pub mod Spelled
+pub mod Arrays
+pub mod QuotedUtf8
+pub mod TextUtf8
+pub mod LaidOut
+pub mod Deepest

@@ -1,0 +1,11 @@
+use Rattle.ext_json.proofs.Writing.{put_then, put_stops}
+use Rattle.ext_json.proofs.raw_text.put_timestamp.Goals as goal
+
+pub returns-in-Err : goal.returns-in-Err
+returns-in-Err g c = put_stops _ c.in-Err.ensures
+
+pub returns-in-Err-write_whole : goal.returns-in-Err-write_whole
+returns-in-Err-write_whole g c = put_then _ c.in-Ok.ensures (put_stops _ (rw c.middle.ensures at c.in-Err-write_whole.ensures))
+
+pub returns : goal.returns
+returns g c = put_then _ c.in-Ok.ensures (put_then _ (rw c.middle.ensures at c.in-Ok-write_whole.ensures) c.put_unsigned-2.ensures)

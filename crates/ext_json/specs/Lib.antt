@@ -1,0 +1,13 @@
+pub mod Forms
+pub mod Fixed
+pub mod Quoted
+pub mod Parts
+pub mod Text
+pub mod BadText
+pub mod Binaries
+pub mod JsonTrees
+pub mod Bounds
+pub mod Infos
+pub mod Answered
+pub mod WrapperView
+pub mod PutMember
