@@ -35,4 +35,4 @@ items_more (suc levels) is h = elements_more (IsItems levels) (IsItems (suc leve
 
 -- a document inside another one is a document
 pub inside_is_doc : (is : Items) → IsInside (IsItems (level_limit - 1)) is → IsDoc is
-inside_is_doc is h = record { elements = items_more (level_limit - 1) is h.inside; fits = h.fits }
+inside_is_doc is h = record { inside = items_more (level_limit - 1) is h.inside; fits = h.fits }

@@ -7,12 +7,12 @@ use Rattle.bson_tree.specs.Tree.{Items}
 use Rattle.bson_tree.specs.Spelling.{framed, items_bytes, doc_bytes}
 use Rattle.bson_codec.specs.Fault.{fault_if}
 use Rattle.bson_codec.specs.Layout.{IsInside, AreElements, IsItems, IsDoc, level_limit}
-use Rattle.bson_codec.specs.Reading.{Reader, signed_below, number_at, length_at, zero_at, elements_at, framed_at, inside_length_at, nested_at, inside_at, stated_at, total_at, front_document, document}
+use Rattle.bson_codec.specs.Reading.{Reader, signed_below, int32_at, length_at, zero_at, elements_at, framed_at, inside_length_at, nested_at, inside_at, stated_at, total_at, front_document, document}
 use Rattle.bson_codec.proofs.Steps.{ok_is, bind_ok, none_if, chose_ok, neither, refused}
 use Rattle.bson_codec.specs.Bytes.{AreBytes}
 use Rattle.bson_codec.proofs.Pieces.{AreBytes-drop, AreBytes-take, Begins, begins_take, begins_then, begins_is, begins_fits, begins_of, begins_first, begins_second}
 use Rattle.bson_codec.proofs.Lengths.{number_takes, number_again, length_takes, length_again, zero_takes, zero_again}
-use Rattle.bson_codec.proofs.Frames.{framed_length}
+use Rattle.bson_tree.proofs.Sizes.{framed_size}
 use Rattle.bson_codec.proofs.Readers.{Reads, InsideRead}
 use Rattle.bson_codec.proofs.Elements.{elements_take, elements_again}
 
@@ -55,7 +55,7 @@ pub framed_again : (D : Items → Type 0) (f : Reader) (reads : Reads f D) (p : 
 unfolding framed_at
 framed_again D f reads p bs is n laid begins =
     let elements = items_bytes is in
-    let size : length elements + 5 ≡ n = sym (framed_length elements) ∙ begins.size in
+    let size : length elements + 5 ≡ n = sym (framed_size elements) ∙ begins.size in
     let tail : Begins (drop 4 bs) (elements ++ 0 ∷ []) (length (elements ++ 0 ∷ [])) = begins_second bs (to_le_bytes w32 (length elements + 5)) (elements ++ 0 ∷ []) n begins in
     let inside : Begins (drop 4 bs) elements (length elements) = begins_first (drop 4 bs) elements (0 ∷ []) _ tail in
     let last : Begins (drop (length elements) (drop 4 bs)) (0 ∷ []) 1 = begins_second (drop 4 bs) elements (0 ∷ []) _ tail in
@@ -85,7 +85,7 @@ fills_all false n m e h = absurd cc
 length_takes_inside : (levels : ℕ) (fills : Bool) (p : ℕ) (bs : List ℕ) (n : ℕ) → AreBytes bs → inside_length_at levels fills p bs ≡ Ok n → InsideLength levels fills bs n
 unfolding inside_length_at
 length_takes_inside levels fills p bs n fits e =
-    let a = bind_ok (number_at p bs) _ n e in
+    let a = bind_ok (int32_at p bs) _ n e in
     let b = bind_ok (fault_if (eqb levels 0) _ p) _ n a.then in
     let c = bind_ok (length_at 5 0 a.value p bs) _ n b.then in
     let d = bind_ok (fault_if (fills && not (eqb c.value (length bs))) _ p) _ n c.then in
@@ -111,7 +111,7 @@ unfolding inside_length_at
 length_again_inside levels fills p bs n h =
     let some = h.some in
     let small = h.small in
-    let a : number_at p bs ≡ Ok n = number_again p bs n (omega arith) h.head in
+    let a : int32_at p bs ≡ Ok n = number_again p bs n (omega arith) h.head in
     let b : eqb levels 0 ≡ false = ne_eqb levels 0 (λ z. omega (arith, z)) in
     let c : length_at 5 0 n p bs ≡ Ok n = length_again 5 0 n p bs h.least small (omega (arith, h.short)) in
     let d : (fills && not (eqb n (length bs))) ≡ false = fills_not fills n (length bs) h.full in
@@ -139,7 +139,7 @@ frame_size f n p bs x e =
 length_is_full : (levels p : ℕ) (bs : List ℕ) (n : ℕ) → inside_length_at levels true p bs ≡ Ok n → n ≡ length bs
 unfolding inside_length_at
 length_is_full levels p bs n e =
-    let a = bind_ok (number_at p bs) _ n e in
+    let a = bind_ok (int32_at p bs) _ n e in
     let b = bind_ok (fault_if (eqb levels 0) _ p) _ n a.then in
     let c = bind_ok (length_at 5 0 a.value p bs) _ n b.then in
     let d = bind_ok (fault_if (not (eqb c.value (length bs))) _ p) _ n c.then in
@@ -156,7 +156,7 @@ nested_again : (D : Items → Type 0) (f : Reader) (reads : Reads f D) (levels :
 unfolding nested_at
 nested_again D f reads levels fills p bs is n some inside begins full =
     let elements = items_bytes is in
-    let size : length elements + 5 ≡ n = sym (framed_length elements) ∙ begins.size in
+    let size : length elements + 5 ≡ n = sym (framed_size elements) ∙ begins.size in
     let head : Begins bs (to_le_bytes w32 (length elements + 5)) 4 = begins_first bs (to_le_bytes w32 (length elements + 5)) (elements ++ 0 ∷ []) n begins in
     let stated : Begins bs (to_le_bytes w32 n) 4 = subst (λ (m : ℕ). Begins bs (to_le_bytes w32 m) 4) size head in
     let a : inside_length_at levels fills p bs ≡ Ok n =
@@ -169,7 +169,7 @@ none_takes : (f : Reader) (fills : Bool) (p : ℕ) (bs : List ℕ) (x : Items ×
 unfolding nested_at inside_length_at
 none_takes f fills p bs x e =
     let a = bind_ok (inside_length_at 0 fills p bs) _ x e in
-    let b = bind_ok (number_at p bs) _ a.value a.first in
+    let b = bind_ok (int32_at p bs) _ a.value a.first in
     refused _ a.value b.then
 
 -- documents of so many levels are read, and no others
@@ -198,7 +198,7 @@ record TotalRead (bs : List ℕ) (n : ℕ) : Type 0 where
 total_takes : (bs : List ℕ) (n : ℕ) → AreBytes bs → total_at bs ≡ Ok n → TotalRead bs n
 unfolding total_at
 total_takes bs n fits e =
-    let a = bind_ok (number_at 0 bs) _ n e in
+    let a = bind_ok (int32_at 0 bs) _ n e in
     let b = bind_ok (stated_at a.value) _ n a.then in
     let g = chose_ok (signed_below a.value 5) _ a.value b.value b.first in
     let signs = neither (ltb a.value 5) (leb (2 ^ 31) a.value) g.0 in
@@ -214,7 +214,7 @@ total_takes bs n fits e =
 total_again : (bs : List ℕ) (n : ℕ) → 5 ≤ n → n < 2 ^ 31 → n ≤ length bs → Begins bs (to_le_bytes w32 n) 4 → total_at bs ≡ Ok n
 unfolding total_at
 total_again bs n least small short head =
-    let a : number_at 0 bs ≡ Ok n = number_again 0 bs n (omega arith) head in
+    let a : int32_at 0 bs ≡ Ok n = number_again 0 bs n (omega arith) head in
     let b : ltb n 5 ≡ false = le-ltb _ _ least in
     let c : leb (2 ^ 31) n ≡ false = lt-leb _ _ small in
     let d : ltb (length bs) n ≡ false = le-ltb _ _ short in
@@ -232,7 +232,7 @@ front_takes bs x fits e =
     let total = total_takes bs a.value fits a.first in
     let read = framed_takes (IsItems (level_limit - 1)) (inside_at (level_limit - 1)) (inside_reads (level_limit - 1)) a.value 0 bs x fits total.least total.short total.head a.then in
     record {
-      doc = record { elements = read.elements; fits = omega (arith, read.parts.size, read.size, total.small) };
+      doc = record { inside = read.elements; fits = omega (arith, read.parts.size, read.size, total.small) };
       parts = read.parts;
     }
 
@@ -240,13 +240,13 @@ pub front_again : (bs : List ℕ) (is : Items) (n : ℕ) → IsDoc is → Begins
 unfolding front_document
 front_again bs is n doc begins =
     let elements = items_bytes is in
-    let size : length elements + 5 ≡ n = sym (framed_length elements) ∙ begins.size in
+    let size : length elements + 5 ≡ n = sym (framed_size elements) ∙ begins.size in
     let head : Begins bs (to_le_bytes w32 (length elements + 5)) 4 = begins_first bs (to_le_bytes w32 (length elements + 5)) (elements ++ 0 ∷ []) n begins in
     let stated : Begins bs (to_le_bytes w32 n) 4 = subst (λ (m : ℕ). Begins bs (to_le_bytes w32 m) 4) size head in
     let small : n < 2 ^ 31 = omega (arith, doc.fits, begins.size) in
     let a : total_at bs ≡ Ok n = total_again bs n (omega (arith, size)) small (begins_fits bs _ n begins) stated in
     let b : framed_at (inside_at (level_limit - 1)) n 0 bs ≡ Ok (is, n) =
-    framed_again (IsItems (level_limit - 1)) (inside_at (level_limit - 1)) (inside_reads (level_limit - 1)) 0 bs is n doc.elements begins in
+    framed_again (IsItems (level_limit - 1)) (inside_at (level_limit - 1)) (inside_reads (level_limit - 1)) 0 bs is n doc.inside begins in
     rw (a, b) refl
 
 -- the bytes are the spelling of a document that the grammar has
@@ -283,7 +283,7 @@ document_again bs is doc e =
     let elements = items_bytes is in
     let n : ℕ = length (doc_bytes is) in
     let begins : Begins bs (doc_bytes is) n = subst (λ (x : List ℕ). Begins x (doc_bytes is) n) (append-nil (doc_bytes is) ∙ sym e) (begins_of (doc_bytes is) []) in
-    let size : length elements + 5 ≡ n = sym (framed_length elements) in
+    let size : length elements + 5 ≡ n = sym (framed_size elements) in
     let head : Begins bs (to_le_bytes w32 (length elements + 5)) 4 = begins_first bs (to_le_bytes w32 (length elements + 5)) (elements ++ 0 ∷ []) n begins in
     let stated : Begins bs (to_le_bytes w32 n) 4 = subst (λ (m : ℕ). Begins bs (to_le_bytes w32 m) 4) size head in
     let all : length bs ≡ n = ap length e in

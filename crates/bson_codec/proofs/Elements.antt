@@ -10,7 +10,7 @@ use Rattle.bson_codec.specs.declared.table.ValueLayout.TheVariants as values
 use Rattle.bson_codec.specs.Fault.{◌>>=◌}
 use Rattle.bson_codec.specs.Table.{layout_of}
 use Rattle.bson_codec.specs.Layout.{IsName, HasLayout, IsValue, AreElements}
-use Rattle.bson_codec.specs.Reading.{Reader, First, name_at, layout_at, raw_at, value_at, first_at, rounds_at, elements_at}
+use Rattle.bson_codec.specs.Reading.{Reader, First, cstring_at, type_at, raw_at, value_at, first_at, rounds_at, elements_at}
 use Rattle.bson_codec.proofs.Steps.{made, ok_is, bind_ok}
 use Rattle.bson_codec.specs.Bytes.{AreBytes}
 use Rattle.bson_codec.proofs.Pieces.{AreBytes-drop, AreBytes-rest, Begins, begins_take, begins_then, begins_is, begins_fits, begins_of, begins_first, begins_second}
@@ -79,8 +79,8 @@ pub first_takes : (D : Items → Type 0) (f : Reader) (reads : Reads f D) (p : �
 unfolding first_at
 first_takes D f reads p [] x fits e = absurd cc
 first_takes D f reads p (tag ∷ bs) x fits e =
-    let a = bind_ok (layout_at p tag) _ x e in
-    let b = bind_ok (name_at (p + 1) bs) _ x a.then in
+    let a = bind_ok (type_at p tag) _ x e in
+    let b = bind_ok (cstring_at (p + 1) bs) _ x a.then in
     let c = bind_ok (value_at f tag a.value (p + (b.value + 2)) (drop (b.value + 1) bs)) _ x b.then in
     let n = b.value in
     let rest = AreBytes-rest tag bs fits in
@@ -154,8 +154,8 @@ first_again D f reads p (tag ∷ bs) name t w h laid begins =
     let layout = typed D (layout_of (tag_of t)) t laid in
     let laid' : HasLayout D (Some layout.layout) t = subst (λ (o : Option ValueLayout). HasLayout D o t) layout.is laid in
     let row : layout_of tag ≡ Some layout.layout = ap layout_of both.0 ∙ layout.is in
-    let a : layout_at p tag ≡ Ok layout.layout = layout_again p tag layout.layout row in
-    let b : name_at (p + 1) bs ≡ Ok (length name) = name_again (p + 1) bs name _ h front in
+    let a : type_at p tag ≡ Ok layout.layout = layout_again p tag layout.layout row in
+    let b : cstring_at (p + 1) bs ≡ Ok (length name) = name_again (p + 1) bs name _ h front in
     let c : value_at f tag layout.layout (p + (length name + 2)) (drop (length name + 1) bs) ≡ Ok (t, length v) =
     subst (λ (k : ℕ). value_at f k layout.layout (p + (length name + 2)) (drop (length name + 1) bs) ≡ Ok (t, length v)) (sym both.0)
     (laid_again D f reads layout.layout (p + (length name + 2)) (drop (length name + 1) bs) t (length v) laid' value) in

@@ -13,13 +13,13 @@ use Rattle.bson_codec.specs.declared.table.RawLayout.TheVariants as raws
 use Rattle.bson_codec.specs.Fault.{◌>>=◌}
 use Rattle.bson_codec.specs.Table.{layouts, layout_in, layout_of}
 use Rattle.bson_codec.specs.Layout.{IsName, HasLayout, IsValue, IsItems, level_limit, string_bytes}
-use Rattle.bson_codec.specs.Reading.{number_at, name_at, fixed_at, layout_at, inside_at}
-use Rattle.bson_codec.specs.Raw.{or_none, doc_of, elements_of, is_inner, value_tree, SpellsElements}
+use Rattle.bson_codec.specs.Reading.{int32_at, cstring_at, bytes_at, type_at, inside_at}
+use Rattle.bson_codec.specs.Borrowed.{or_none, doc_of, elements_of, is_inner, value_tree, SpellsElements}
 use Rattle.bson_codec.specs.Elements.{stated_width, front_at, IsParted}
 use Rattle.bson_codec.proofs.Steps.{made, ok_is, refused}
 use Rattle.bson_codec.proofs.Pieces.{Begins, begins_fits, begins_of, begins_first}
 use Rattle.bson_codec.proofs.Lengths.{number_again}
-use Rattle.bson_codec.proofs.Frames.{framed_length}
+use Rattle.bson_tree.proofs.Sizes.{framed_size}
 use Rattle.bson_codec.proofs.Names.{name_again, layout_again}
 use Rattle.bson_codec.proofs.Raws.{fixed_again, regex_again}
 use Rattle.bson_codec.proofs.Elements.{elements_again, typed}
@@ -99,14 +99,14 @@ one_byte : (bytes : List ℕ) (n : ℕ) → (bytes ≡ 0 ∷ []) ⊎ (bytes ≡ 
 one_byte bytes n (inl e) size = sym (ap length e) ∙ size
 one_byte bytes n (inr e) size = sym (ap length e) ∙ size
 
-stated_string : (bs text : List ℕ) (n : ℕ) → length text + 1 < 2 ^ 31 → Begins bs (string_bytes text) n → number_at 0 bs ≡ Ok (length text + 1)
+stated_string : (bs text : List ℕ) (n : ℕ) → length text + 1 < 2 ^ 31 → Begins bs (string_bytes text) n → int32_at 0 bs ≡ Ok (length text + 1)
 stated_string bs text n small begins =
     number_again 0 bs (length text + 1) (omega arith) (begins_first bs (to_le_bytes w32 (length text + 1)) (text ++ 0 ∷ []) n begins)
 
 stated_again : (layout : ValueLayout) (bs : List ℕ) (t : Tree) (n : ℕ) → HasLayout (IsItems (level_limit - 1)) (Some layout) t → Begins bs (value_bytes t) n → stated_width layout bs ≡ Ok n
 stated_again values.Document bs (leaf tag bytes) n laid begins = absurd laid
 stated_again values.Document bs (node tag is) n laid begins =
-    let size : length (items_bytes is) + 5 ≡ n = sym (framed_length (items_bytes is)) ∙ begins.size in
+    let size : length (items_bytes is) + 5 ≡ n = sym (framed_size (items_bytes is)) ∙ begins.size in
     let head = begins_first bs (to_le_bytes w32 (length (items_bytes is) + 5)) (items_bytes is ++ 0 ∷ []) n begins in
     number_again 0 bs (length (items_bytes is) + 5) (omega (arith, laid.fits, begins.size, size)) head ∙ ap (λ (m : ℕ). made m) size
 stated_again (values.Raw layout) bs (node tag is) n laid begins = absurd laid
@@ -120,7 +120,7 @@ stated_again (values.Raw raws.Binary) bs (leaf tag bytes) n laid begins =
     let begins' = subst (λ (x : List ℕ). Begins bs x n) laid.parts begins in
     let head = begins_first bs (to_le_bytes w32 (length laid.contents)) (laid.subtype ∷ laid.contents) n begins' in
     let small : length laid.contents < 2 ^ 32 = omega (arith, laid.fits) in
-    let stated : number_at 0 bs ≡ Ok (length laid.contents) = number_again 0 bs (length laid.contents) small head in
+    let stated : int32_at 0 bs ≡ Ok (length laid.contents) = number_again 0 bs (length laid.contents) small head in
     let sum : length laid.contents + 5 ≡ n = omega (arith, begins'.size) in
     ap (λ (r : Result ℕ BsonFault). r >>= λ m. Ok (m + 5)) stated ∙ ap (λ (m : ℕ). made m) sum
 stated_again (values.Raw raws.Regex) bs (leaf tag bytes) n laid begins =
@@ -161,11 +161,11 @@ front_again (tag ∷ bs) name rest t h laid e =
     let layout = typed (IsItems (level_limit - 1)) (layout_of (tag_of t)) t laid in
     let laid' : HasLayout (IsItems (level_limit - 1)) (Some layout.layout) t = subst (λ (o : Option ValueLayout). HasLayout (IsItems (level_limit - 1)) o t) layout.is laid in
     let row : layout_of tag ≡ Some layout.layout = ap layout_of type ∙ layout.is in
-    let a : layout_at 0 tag ≡ Ok layout.layout = layout_again 0 tag layout.layout row in
-    let b : name_at 0 bs ≡ Ok (length name) = name_again 0 bs name _ h named in
+    let a : type_at 0 tag ≡ Ok layout.layout = layout_again 0 tag layout.layout row in
+    let b : cstring_at 0 bs ≡ Ok (length name) = name_again 0 bs name _ h named in
     let c : stated_width layout.layout (drop (length name + 1) bs) ≡ Ok (length v) = stated_again layout.layout (drop (length name + 1) bs) t (length v) laid' value in
-    let d : fixed_at (length v) 0 (drop (length name + 1) bs) ≡ Ok (length v) = fixed_again (length v) 0 (drop (length name + 1) bs) (begins_fits _ v _ value) in
-    rw (a, b) (ap (λ (r : Result ℕ BsonFault). r >>= λ m. fixed_at m 0 (drop (length name + 1) bs) >>= λ w. Ok (record { tag = tag; name = length name; width = w })) c
+    let d : bytes_at (length v) 0 (drop (length name + 1) bs) ≡ Ok (length v) = fixed_again (length v) 0 (drop (length name + 1) bs) (begins_fits _ v _ value) in
+    rw (a, b) (ap (λ (r : Result ℕ BsonFault). r >>= λ m. bytes_at m 0 (drop (length name + 1) bs) >>= λ w. Ok (record { tag = tag; name = length name; width = w })) c
     ∙ ap (λ (r : Result ℕ BsonFault). r >>= λ w. Ok (record { tag = tag; name = length name; width = w })) d
     ∙ ap (λ (k : ℕ). made (record { tag = k; name = length name; width = length v })) type)
 

@@ -1,14 +1,18 @@
 -- What an element's parts say of its tree.
-use Rattle.std.proofs.Common.{◌≡◌, ℕ, ◌-◌, ◌≤◌, Bool, true, false, cond, List, [], ◌∷◌, ◌++◌, length, get_or, take, drop, Option, Some, refl, sym, ap, subst, ◌∙◌, arith}
+use Rattle.std.proofs.Common.{◌≡◌, ℕ, ◌-◌, ◌+◌, ◌<◌, ◌^◌, Ok, ◌≤◌, Bool, true, false, cond, List, [], ◌∷◌, ◌++◌, length, get_or, take, drop, Option, Some, refl, sym, ap, subst, ◌∙◌, arith}
 use Rattle.bson_tree.specs.Tree.{Tree, Items, leaf, node, tag_of}
-use Rattle.std.proofs.lemmas.List.{take_at, length-append}
+use Rattle.std.proofs.lemmas.List.{take_at, drop_at, length-append}
 use Rattle.bson_tree.specs.Spelling.{value_bytes, items_bytes, doc_bytes}
 use Rattle.bson_codec.specs.declared.table.ValueLayout.{ValueLayout}
 use Rattle.bson_codec.specs.declared.table.ValueLayout.TheVariants as values
 use Rattle.bson_codec.specs.declared.table.RawLayout.TheVariants as raws
 use Rattle.bson_codec.specs.Table.{layout_of}
-use Rattle.bson_codec.specs.Raw.{doc_of, elements_of, is_inner, value_tree, SpellsDoc, SpellsElements, SpellsValue}
-use Rattle.bson_codec.specs.Layout.{IsItems, HasLayout, IsString, IsBinary, string_bytes, binary_bytes, level_limit}
+use Rattle.bson_codec.specs.Borrowed.{doc_of, elements_of, is_inner, value_tree, SpellsDoc, SpellsElements, SpellsValue}
+use Rattle.bson_codec.specs.Layout.{IsDoc, IsItems, IsValue, IsScope, HasLayout, IsString, IsBinary, string_bytes, binary_bytes, scope_bytes, level_limit}
+use Rattle.bson_codec.specs.Reading.{string_at}
+use Rattle.bson_codec.proofs.Pieces.{Begins, begins_of}
+use Rattle.bson_codec.proofs.Steps.{ok_is}
+use Rattle.bson_codec.proofs.Raws.{string_again}
 use Rattle.bson_codec.proofs.Elements.{typed}
 use Rattle.bson_codec.proofs.Views.{doc_of_spelling}
 use Rattle.bson_codec.proofs.Deeper.{inside_is_doc}
@@ -25,6 +29,11 @@ pub value_is : (tag : ℕ) (bs : List ℕ) → SpellsValue tag bs → value_byte
 value_is tag bs s =
     let same : value_tree tag bs ≡ s.tree = ap (λ (k : ℕ). value_tree k bs) (sym s.type) ∙ ap (value_tree (tag_of s.tree)) s.parts ∙ value_tree_is s.tree s.laid in
     ap value_bytes same ∙ sym s.parts
+
+-- the value of a type that holds no document is raw
+pub raw_tree : (tag kind : ℕ) (bs parts : List ℕ) → tag ≡ kind → is_inner kind ≡ false → bs ≡ parts → value_tree tag bs ≡ leaf kind parts
+raw_tree tag kind bs parts same raw e =
+    rw (same, e) (ap (λ (b : Bool). cond b (node kind (doc_of parts)) (leaf kind parts)) raw)
 
 -- ---- documents inside
 
@@ -49,10 +58,10 @@ doc_elements bs is e =
     ap (take (length bs - 1 - 4)) tail ∙ take_at elements (0 ∷ []) (length bs - 1 - 4) size
 
 pub doc_spells : (bs : List ℕ) → SpellsDoc bs → SpellsElements (take (length bs - 1 - 4) (drop 4 bs))
-doc_spells bs s = record { tree = s.tree; laid = s.doc.elements; parts = doc_elements bs s.tree s.parts }
+doc_spells bs s = record { tree = s.tree; laid = s.doc.inside; parts = doc_elements bs s.tree s.parts }
 
 pub items_are : (bs : List ℕ) → SpellsDoc bs → elements_of (take (length bs - 1 - 4) (drop 4 bs)) ≡ doc_of bs
-items_are bs s = elements_of_spelling _ s.tree s.doc.elements (doc_elements bs s.tree s.parts) ∙ sym (doc_of_spelling bs s.tree s.doc s.parts)
+items_are bs s = elements_of_spelling _ s.tree s.doc.inside (doc_elements bs s.tree s.parts) ∙ sym (doc_of_spelling bs s.tree s.doc s.parts)
 
 -- ---- strings and binaries
 
@@ -83,11 +92,11 @@ binary_spelled bs s =
     subst IsBinary (sym s.parts) (binary_leaf s.tree laid)
 
 -- the parts of a string's bytes
-pub text_is : (bs : List ℕ) → IsString bs → bs ≡ string_bytes (take (length (drop 4 bs) - 1) (drop 4 bs))
+pub text_is : (bs : List ℕ) → IsString bs → bs ≡ string_bytes (take (length bs - 5) (drop 4 bs))
 text_is bs s =
     let tail : drop 4 bs ≡ s.text ++ 0 ∷ [] = ap (drop 4) s.parts in
-    let size : length s.text ≡ length (drop 4 bs) - 1 = omega (arith, ap length tail, length-append s.text (0 ∷ [])) in
-    let text : take (length (drop 4 bs) - 1) (drop 4 bs) ≡ s.text = ap (take (length (drop 4 bs) - 1)) tail ∙ take_at s.text (0 ∷ []) (length (drop 4 bs) - 1) size in
+    let size : length s.text ≡ length bs - 5 = omega (arith, ap length s.parts, length-append s.text (0 ∷ [])) in
+    let text : take (length bs - 5) (drop 4 bs) ≡ s.text = ap (take (length bs - 5)) tail ∙ take_at s.text (0 ∷ []) (length bs - 5) size in
     s.parts ∙ ap string_bytes (sym text)
 
 pub string_long : (bs : List ℕ) → IsString bs → 5 ≤ length bs
@@ -101,3 +110,95 @@ contents_are bs s =
 
 pub binary_long : (bs : List ℕ) → IsBinary bs → 5 ≤ length bs
 binary_long bs s = omega (arith, ap length s.parts)
+
+-- ---- layouts, and code with its scope
+
+pub value_laid : (tag : ℕ) (bs : List ℕ) → SpellsValue tag bs → IsValue (IsItems (level_limit - 1)) (value_tree tag bs)
+value_laid tag bs s =
+    let same : value_tree tag bs ≡ s.tree = ap (λ (k : ℕ). value_tree k bs) (sym s.type) ∙ ap (value_tree (tag_of s.tree)) s.parts ∙ value_tree_is s.tree s.laid in
+    subst (IsValue (IsItems (level_limit - 1))) (sym same) s.laid
+
+scope_leaf : (t : Tree) → HasLayout (IsItems (level_limit - 1)) (Some (values.Raw raws.Scope)) t → IsScope (IsItems (level_limit - 1)) (value_bytes t)
+scope_leaf (leaf tag bytes) laid = laid
+scope_leaf (node tag is) laid = absurd laid
+
+row_fifteen : layout_of 15 ≡ Some (values.Raw raws.Scope)
+unfolding layout_of
+row_fifteen = refl
+
+pub scope_spelled : (bs : List ℕ) → SpellsValue 15 bs → IsScope (IsItems (level_limit - 1)) bs
+scope_spelled bs s =
+    let laid = subst (λ (o : Option ValueLayout). HasLayout (IsItems (level_limit - 1)) o s.tree) (ap layout_of s.type ∙ row_fifteen) s.laid in
+    subst (IsScope (IsItems (level_limit - 1))) (sym s.parts) (scope_leaf s.tree laid)
+
+-- the parts of a scope's bytes
+pub record ScopeKnown (bs : List ℕ) : Type 0 where
+  pub code : List ℕ
+  pub scope : Items
+  pub long : 4 ≤ length bs
+  pub inside : drop 4 bs ≡ string_bytes code ++ doc_bytes scope
+  pub width : length (string_bytes code) ≡ length code + 5
+  pub read : string_at 0 (drop 4 bs) ≡ Ok (length code + 5)
+  pub text : take (length code) (drop 4 (take (length code + 5) (drop 4 bs))) ≡ code
+  pub rest : drop (length code + 5) (drop 4 bs) ≡ doc_bytes scope
+  pub doc : IsDoc scope
+  pub parts : bs ≡ scope_bytes code scope
+  pub size : length bs ≡ length code + 9 + length (doc_bytes scope)
+  pub small : length bs < 2 ^ 31
+
+pub scope_known : (bs : List ℕ) → SpellsValue 15 bs → ScopeKnown bs
+scope_known bs s =
+    let k = scope_spelled bs s in
+    let code = k.code in
+    let doc = doc_bytes k.scope in
+    let width : length (string_bytes code) ≡ length code + 5 = omega (arith, length-append code (0 ∷ [])) in
+    let inside : drop 4 bs ≡ string_bytes code ++ doc = ap (drop 4) k.parts in
+    let sum : length (string_bytes code ++ doc) ≡ length (string_bytes code) + length doc = length-append (string_bytes code) doc in
+    let size : length bs ≡ length code + 9 + length doc = omega (arith, ap length k.parts, sum, width) in
+    let small : length code + 5 < 2 ^ 31 = omega (arith, k.fits, ap length k.parts, size) in
+    let begins : Begins (string_bytes code ++ doc) (string_bytes code) (length (string_bytes code)) = begins_of (string_bytes code) doc in
+    let begins' : Begins (string_bytes code ++ doc) (string_bytes code) (length code + 5) = subst (λ (m : ℕ). Begins (string_bytes code ++ doc) (string_bytes code) m) width begins in
+    let read : string_at 0 (string_bytes code ++ doc) ≡ Ok (length code + 5) = string_again 0 (string_bytes code ++ doc) code (length code + 5) (omega (arith, small)) begins' in
+    let front : take (length code + 5) (drop 4 bs) ≡ string_bytes code = ap (take (length code + 5)) inside ∙ take_at (string_bytes code) doc (length code + 5) width in
+    let ended : drop 4 (string_bytes code) ≡ code ++ 0 ∷ [] = refl in
+    record {
+      code = code;
+      scope = k.scope;
+      long = omega (arith, size);
+      inside = inside;
+      width = width;
+      read = ap (string_at 0) inside ∙ read;
+      text = ap (λ (x : List ℕ). take (length code) (drop 4 x)) front ∙ take_at code (0 ∷ []) (length code) refl;
+      rest = ap (drop (length code + 5)) inside ∙ drop_at (string_bytes code) doc (length code + 5) width;
+      doc = inside_is_doc k.scope (record { inside = k.inside; fits = omega (arith, k.fits, ap length k.parts, size) });
+      parts = k.parts;
+      size = size;
+      small = omega (arith, k.fits, ap length k.parts);
+    }
+
+-- what was read of a scope's bytes is its parts
+pub record ScopeCut (bs : List ℕ) (n : ℕ) : Type 0 where
+  pub long : 5 ≤ length (take n (drop 4 bs))
+  pub spells : SpellsDoc (drop n (drop 4 bs))
+  pub parts : bs ≡ scope_bytes (take (length (take n (drop 4 bs)) - 5) (drop 4 (take n (drop 4 bs)))) (doc_of (drop n (drop 4 bs)))
+
+scope_cut_at : (bs : List ℕ) (k : ScopeKnown bs) → ScopeCut bs (length k.code + 5)
+scope_cut_at bs k =
+    let n : ℕ = length k.code + 5 in
+    let rest : drop n (drop 4 bs) ≡ doc_bytes k.scope = k.rest in
+    let front : take n (drop 4 bs) ≡ string_bytes k.code = ap (take n) k.inside ∙ take_at (string_bytes k.code) (doc_bytes k.scope) n k.width in
+    let wide : length (take n (drop 4 bs)) ≡ n = ap length front ∙ k.width in
+    let less : length (take n (drop 4 bs)) - 5 ≡ length k.code = omega (arith, wide) in
+    let doc : doc_of (drop n (drop 4 bs)) ≡ k.scope = doc_of_spelling (drop n (drop 4 bs)) k.scope k.doc rest in
+    let text : take (length (take n (drop 4 bs)) - 5) (drop 4 (take n (drop 4 bs))) ≡ k.code = ap (λ (m : ℕ). take m (drop 4 (take n (drop 4 bs)))) less ∙ k.text in
+    record {
+      long = omega (arith, wide);
+      spells = record { tree = k.scope; doc = k.doc; parts = rest };
+      parts = k.parts ∙ (ap (λ (x : List ℕ). scope_bytes x k.scope) (sym text) ∙ ap (λ (x : Items). scope_bytes (take (length (take n (drop 4 bs)) - 5) (drop 4 (take n (drop 4 bs)))) x) (sym doc));
+    }
+
+pub scope_cut : (bs : List ℕ) (n : ℕ) → SpellsValue 15 bs → string_at 0 (drop 4 bs) ≡ Ok n → ScopeCut bs n
+scope_cut bs n s is =
+    let k = scope_known bs s in
+    let same : length k.code + 5 ≡ n = ok_is (length k.code + 5) n (sym k.read ∙ is) in
+    subst (ScopeCut bs) same (scope_cut_at bs k)

@@ -4,21 +4,21 @@ use Rattle.std.specs.Int.{w32, from_le_bytes, to_le_bytes}
 use Rattle.std.proofs.lemmas.Bool.{ltb-false, le-ltb, leb-false, lt-leb, not-false, eqb-true, eq-eqb}
 use Rattle.std.proofs.lemmas.List.{length-take-le, get_or-drop}
 use Rattle.std.proofs.lemmas.Nat.{le_bytes_4, from_le_bytes-to_le_bytes_4}
-use Rattle.bson_codec.specs.Reading.{signed_below, number_at, length_at, zero_at}
+use Rattle.bson_codec.specs.Reading.{signed_below, int32_at, length_at, zero_at}
 use Rattle.bson_codec.proofs.Steps.{made, none_if, chose_ok, neither}
 use Rattle.bson_codec.specs.Bytes.{AreBytes}
 use Rattle.bson_codec.proofs.Pieces.{AreBytes-take, Begins, begins_take, begins_is, begins_fits, begins_byte}
 
-pub number_takes : (p : ℕ) (bs : List ℕ) (n : ℕ) → AreBytes bs → number_at p bs ≡ Ok n → Begins bs (to_le_bytes w32 n) 4
-unfolding number_at
+pub number_takes : (p : ℕ) (bs : List ℕ) (n : ℕ) → AreBytes bs → int32_at p bs ≡ Ok n → Begins bs (to_le_bytes w32 n) 4
+unfolding int32_at
 number_takes p bs n fits e =
     let g = chose_ok (ltb (length bs) 4) _ (from_le_bytes w32 (take 4 bs)) n e in
     let long : 4 ≤ length bs = ltb-false _ _ g.0 in
     let head : to_le_bytes w32 n ≡ take 4 bs = le_bytes_4 (take 4 bs) n (length-take-le 4 bs long) (AreBytes-take 4 bs fits) (sym g.1) in
     subst (λ (x : List ℕ). Begins bs x 4) (sym head) (begins_take 4 bs long)
 
-pub number_again : (p : ℕ) (bs : List ℕ) (n : ℕ) → n < 2 ^ 32 → Begins bs (to_le_bytes w32 n) 4 → number_at p bs ≡ Ok n
-unfolding number_at
+pub number_again : (p : ℕ) (bs : List ℕ) (n : ℕ) → n < 2 ^ 32 → Begins bs (to_le_bytes w32 n) 4 → int32_at p bs ≡ Ok n
+unfolding int32_at
 number_again p bs n lt b =
     let fits : 4 ≤ length bs = begins_fits bs _ 4 b in
     let long : ltb (length bs) 4 ≡ false = le-ltb _ _ fits in

@@ -5,7 +5,7 @@ use Rattle.bson_tree.specs.Tree.{Items}
 use Rattle.bson_codec.specs.declared.fault.BsonFault.{BsonFault}
 use Rattle.bson_codec.specs.declared.fault.BsonKind.TheVariants as kinds
 use Rattle.bson_codec.specs.Fault.{◌>>=◌, fault_if}
-use Rattle.bson_codec.specs.Reading.{Reader, nested_at, inside_at, inside_length_at, number_at, length_at, framed_at}
+use Rattle.bson_codec.specs.Reading.{Reader, nested_at, inside_at, inside_length_at, int32_at, length_at, framed_at}
 
 -- with no level left it is refused whatever would read what is inside
 deep : (r : Result ℕ BsonFault) (p : ℕ) (k : ℕ → Result ℕ BsonFault) (f g : ℕ → Result (Items × ℕ) BsonFault)
@@ -16,7 +16,7 @@ deep (Err e) p k f g = refl
 none_left : (f g : Reader) (fills : Bool) (p : ℕ) (bs : List ℕ) → nested_at f 0 fills p bs ≡ nested_at g 0 fills p bs
 unfolding nested_at inside_length_at
 none_left f g fills p bs =
-    deep (number_at p bs) p (λ stated. length_at 5 0 stated p bs >>= λ n. fault_if (fills && not (n == length bs)) kinds.Length p >>= λ _. Ok n) (λ n. framed_at f n p bs) (λ n. framed_at g n p bs)
+    deep (int32_at p bs) p (λ stated. length_at 5 0 stated p bs >>= λ n. fault_if (fills && not (n == length bs)) kinds.Length p >>= λ _. Ok n) (λ n. framed_at f n p bs) (λ n. framed_at g n p bs)
 
 pub inside_is : (levels : ℕ) (fills : Bool) (p : ℕ) (bs : List ℕ) → inside_at levels fills p bs ≡ nested_at (inside_at (levels - 1)) levels fills p bs
 unfolding inside_at

@@ -5,7 +5,7 @@ use Rattle.bson_codec.specs.declared.fault.BsonFault.{BsonFault}
 use Rattle.bson_codec.specs.declared.table.ValueLayout.{ValueLayout}
 use Rattle.bson_codec.specs.Table.{layout_of}
 use Rattle.bson_codec.specs.Layout.{IsName}
-use Rattle.bson_codec.specs.Reading.{before_zero, name_by, name_at, layout_by, layout_at}
+use Rattle.bson_codec.specs.Reading.{before_zero, name_by, cstring_at, layout_by, type_at}
 use Rattle.bson_codec.proofs.Steps.{ok_is}
 use Rattle.bson_codec.proofs.Pieces.{Begins}
 
@@ -53,8 +53,8 @@ name_by_ok : (end : ℕ) (o : Option ℕ) (n : ℕ) → name_by end o ≡ Ok n �
 name_by_ok end None n e = absurd cc
 name_by_ok end (Some m) n e = ap some (ok_is m n e)
 
-pub name_takes : (p : ℕ) (bs : List ℕ) (n : ℕ) → name_at p bs ≡ Ok n → NameRead bs n
-unfolding name_at
+pub name_takes : (p : ℕ) (bs : List ℕ) (n : ℕ) → cstring_at p bs ≡ Ok n → NameRead bs n
+unfolding cstring_at
 name_takes p bs n e = before_zero_takes bs n (name_by_ok (p + length bs) (before_zero bs) n e)
 
 before_zero_again : (name rest : List ℕ) → IsName name → before_zero (name ++ 0 ∷ rest) ≡ Some (length name)
@@ -66,8 +66,8 @@ before_zero_again (b ∷ name) rest h =
     let one : some (length name + 1) ≡ some (suc (length name)) = ap some (add-one (length name)) in
     rw nonzero (step ∙ one)
 
-pub name_again : (p : ℕ) (bs name : List ℕ) (n : ℕ) → IsName name → Begins bs (name ++ 0 ∷ []) n → name_at p bs ≡ Ok (length name)
-unfolding name_at
+pub name_again : (p : ℕ) (bs name : List ℕ) (n : ℕ) → IsName name → Begins bs (name ++ 0 ∷ []) n → cstring_at p bs ≡ Ok (length name)
+unfolding cstring_at
 name_again p bs name n h begins =
     let whole : bs ≡ name ++ 0 ∷ drop n bs = begins.parts ∙ append_assoc name (0 ∷ []) (drop n bs) in
     let found : before_zero bs ≡ Some (length name) = ap before_zero whole ∙ before_zero_again name (drop n bs) h in
@@ -83,8 +83,8 @@ layout_by_ok : (p : ℕ) (o : Option ValueLayout) (layout : ValueLayout) → lay
 layout_by_ok p None layout e = absurd cc
 layout_by_ok p (Some found) layout e = ap (λ (l : ValueLayout). Some l) (ok_is found layout e)
 
-pub layout_takes : (p tag : ℕ) (layout : ValueLayout) → layout_at p tag ≡ Ok layout → layout_of tag ≡ Some layout
-unfolding layout_at
+pub layout_takes : (p tag : ℕ) (layout : ValueLayout) → type_at p tag ≡ Ok layout → layout_of tag ≡ Some layout
+unfolding type_at
 layout_takes p tag layout e = layout_by_ok p (layout_of tag) layout (passed_if (eqb tag 0) _ (layout_by p (layout_of tag)) layout e)
 
 -- 00 is no type
@@ -92,8 +92,8 @@ zero_is_none : (layout : ValueLayout) → layout_of 0 ≡ Some layout → ⊥
 unfolding layout_of
 zero_is_none layout e = cc
 
-pub layout_again : (p tag : ℕ) (layout : ValueLayout) → layout_of tag ≡ Some layout → layout_at p tag ≡ Ok layout
-unfolding layout_at
+pub layout_again : (p tag : ℕ) (layout : ValueLayout) → layout_of tag ≡ Some layout → type_at p tag ≡ Ok layout
+unfolding type_at
 layout_again p tag layout e =
     let nonzero : eqb tag 0 ≡ false = ne_eqb tag 0 (λ z. zero_is_none layout (subst (λ (k : ℕ). layout_of k ≡ Some layout) z e)) in
     rw nonzero (ap (layout_by p) e)

@@ -3,7 +3,7 @@ use Rattle.std.proofs.Common.{◌≡◌, ℕ, zero, suc, ◌+◌, ◌≤◌, Lis
 use Rattle.bson_tree.specs.Tree.{Tree, Items, leaf, node, no_items, item}
 use Rattle.bson_tree.specs.Spelling.{value_bytes, items_bytes}
 use Rattle.bson_tree.specs.Places.{start_in, start_from, start_of}
-use Rattle.bson_codec.proofs.Frames.{framed_length, element_length}
+use Rattle.bson_tree.proofs.Sizes.{framed_size, element_size}
 
 some_is : (m n : ℕ) → Some m ≡ Some n → m ≡ n
 some_is m n e = cc
@@ -25,16 +25,16 @@ mutual
   within_in (i ∷ place) at (leaf tag bytes) offset e = absurd cc
   within_in (i ∷ place) at (node tag is) offset e =
       let inside = within_from i place (at + 4) is offset e in
-      record { from = omega (arith, inside.from); to = omega (arith, inside.to, framed_length (items_bytes is)) }
+      record { from = omega (arith, inside.from); to = omega (arith, inside.to, framed_size (items_bytes is)) }
 
   pub within_from : (i : ℕ) (place : List ℕ) (at : ℕ) (is : Items) (offset : ℕ) → start_from i place at is ≡ Some offset → Among at (length (items_bytes is)) offset
   within_from i place at no_items offset e = absurd cc
   within_from zero place at (item name t is) offset e =
       let inside = within_in place (at + (2 + length name)) t offset e in
-      record { from = omega (arith, inside.from); to = omega (arith, inside.to, element_length name t is) }
+      record { from = omega (arith, inside.from); to = omega (arith, inside.to, element_size name t is) }
   within_from (suc i) place at (item name t is) offset e =
       let behind = within_from i place (at + (2 + length name) + length (value_bytes t)) is offset e in
-      record { from = omega (arith, behind.from); to = omega (arith, behind.to, element_length name t is) }
+      record { from = omega (arith, behind.from); to = omega (arith, behind.to, element_size name t is) }
 
 -- a place with its first step one further
 abbrev bump : List ℕ → List ℕ

@@ -10,13 +10,13 @@ use Rattle.bson_codec.specs.declared.table.RawLayout.{RawLayout}
 use Rattle.bson_codec.specs.declared.table.RawLayout.TheVariants as raws
 use Rattle.bson_codec.specs.Fault.{fault_if, ◌>>=◌}
 use Rattle.bson_codec.specs.Layout.{IsName, IsInside, IsRaw, string_bytes, binary_bytes, scope_bytes}
-use Rattle.bson_codec.specs.Reading.{Reader, number_at, length_at, zero_at, fixed_at, bool_at, string_at, binary_at, name_at, regex_at, pointer_at, scope_at, width_of, raw_at}
+use Rattle.bson_codec.specs.Reading.{Reader, int32_at, length_at, zero_at, bytes_at, bool_at, string_at, binary_at, cstring_at, regex_at, pointer_at, scope_at, width_of, raw_at}
 use Rattle.bson_codec.proofs.Steps.{made, ok_is, bind_ok, none_if, chose_ok, refused}
 use Rattle.bson_codec.specs.Bytes.{AreBytes}
 use Rattle.bson_codec.proofs.Pieces.{AreBytes-drop, AreBytes-take, Begins, begins_of, begins_all, begins_take, begins_then, begins_is, begins_fits, begins_byte, begins_first, begins_second}
 use Rattle.bson_codec.proofs.Lengths.{number_takes, number_again, length_takes, length_again, zero_takes, zero_again}
 use Rattle.bson_codec.proofs.Names.{name_takes, name_again}
-use Rattle.bson_codec.proofs.Frames.{framed_length}
+use Rattle.bson_tree.proofs.Sizes.{framed_size}
 use Rattle.bson_codec.proofs.Readers.{Reads}
 
 -- a raw value of this layout, of n bytes
@@ -26,14 +26,14 @@ pub record RawRead (D : Items → Type 0) (layout : RawLayout) (bs : List ℕ) (
 
 -- ---- fixed widths
 
-pub fixed_takes : (width p : ℕ) (bs : List ℕ) (n : ℕ) → fixed_at width p bs ≡ Ok n → (width ≡ n) × (width ≤ length bs)
-unfolding fixed_at
+pub fixed_takes : (width p : ℕ) (bs : List ℕ) (n : ℕ) → bytes_at width p bs ≡ Ok n → (width ≡ n) × (width ≤ length bs)
+unfolding bytes_at
 fixed_takes width p bs n e =
     let g = chose_ok (ltb (length bs) width) _ width n e in
     (g.1, ltb-false _ _ g.0)
 
-pub fixed_again : (width p : ℕ) (bs : List ℕ) → width ≤ length bs → fixed_at width p bs ≡ Ok width
-unfolding fixed_at
+pub fixed_again : (width p : ℕ) (bs : List ℕ) → width ≤ length bs → bytes_at width p bs ≡ Ok width
+unfolding bytes_at
 fixed_again width p bs fits =
     let long : ltb (length bs) width ≡ false = le-ltb _ _ fits in
     rw long refl
@@ -48,7 +48,7 @@ one_of (suc (suc b)) h = absurd (omega arith)
 pub bool_takes : (D : Items → Type 0) (p : ℕ) (bs : List ℕ) (n : ℕ) → bool_at p bs ≡ Ok n → RawRead D raws.Bool bs n
 unfolding bool_at
 bool_takes D p bs n e =
-    let a = bind_ok (fixed_at 1 p bs) _ n e in
+    let a = bind_ok (bytes_at 1 p bs) _ n e in
     let w = fixed_takes 1 p bs a.value a.first in
     let b = bind_ok (fault_if (ltb 1 (get_or bs 0 0)) _ p) _ n a.then in
     let low : get_or bs 0 0 ≤ 1 = ltb-false _ _ (none_if _ _ _ _ b.first) in
@@ -85,7 +85,7 @@ string_parts bs k head fits end =
 pub string_takes : (D : Items → Type 0) (p : ℕ) (bs : List ℕ) (n : ℕ) → AreBytes bs → string_at p bs ≡ Ok n → RawRead D raws.Text bs n
 unfolding string_at
 string_takes D p bs n fits e =
-    let a = bind_ok (number_at p bs) _ n e in
+    let a = bind_ok (int32_at p bs) _ n e in
     let b = bind_ok (length_at 1 4 a.value p bs) _ n a.then in
     let j = length_takes 1 4 a.value p bs b.value b.first in
     let c = bind_ok (zero_at (b.value + 3) p bs) _ n b.then in
@@ -114,7 +114,7 @@ string_again p bs text n small begins =
     let last : Begins (drop (length text) (drop 4 bs)) (0 ∷ []) 1 = begins_second (drop 4 bs) text (0 ∷ []) _ tail in
     let place : drop (length text) (drop 4 bs) ≡ drop (length text + 1 + 3) bs = drop-drop (length text) 4 bs ∙ ap (λ (m : ℕ). drop m bs) (omega arith) in
     let end : Begins (drop (length text + 1 + 3) bs) (0 ∷ []) 1 = subst (λ (x : List ℕ). Begins x (0 ∷ []) 1) place last in
-    let a : number_at p bs ≡ Ok (length text + 1) = number_again p bs (length text + 1) (omega arith) head in
+    let a : int32_at p bs ≡ Ok (length text + 1) = number_again p bs (length text + 1) (omega arith) head in
     let b : length_at 1 4 (length text + 1) p bs ≡ Ok (length text + 1) = length_again 1 4 (length text + 1) p bs (omega arith) small (omega (arith, size, fits)) in
     let c : zero_at (length text + 1 + 3) p bs ≡ Ok tt = zero_again (length text + 1 + 3) p bs end in
     let d : length text + 1 + 4 ≡ n = omega (arith, size) in
@@ -125,7 +125,7 @@ string_again p bs text n small begins =
 pub binary_takes : (D : Items → Type 0) (p : ℕ) (bs : List ℕ) (n : ℕ) → AreBytes bs → binary_at p bs ≡ Ok n → RawRead D raws.Binary bs n
 unfolding binary_at
 binary_takes D p bs n fits e =
-    let a = bind_ok (number_at p bs) _ n e in
+    let a = bind_ok (int32_at p bs) _ n e in
     let b = bind_ok (length_at 0 5 a.value p bs) _ n a.then in
     let j = length_takes 0 5 a.value p bs b.value b.first in
     let k : ℕ = a.value in
@@ -154,7 +154,7 @@ binary_again p bs subtype contents n small begins =
     let size : 4 + (1 + length contents) ≡ n = omega (arith, begins.size) in
     let fits : n ≤ length bs = begins_fits bs _ n begins in
     let head : Begins bs (to_le_bytes w32 (length contents)) 4 = begins_first bs (to_le_bytes w32 (length contents)) (subtype ∷ contents) n begins in
-    let a : number_at p bs ≡ Ok (length contents) = number_again p bs (length contents) (omega arith) head in
+    let a : int32_at p bs ≡ Ok (length contents) = number_again p bs (length contents) (omega arith) head in
     let b : length_at 0 5 (length contents) p bs ≡ Ok (length contents) = length_again 0 5 (length contents) p bs (omega arith) small (omega (arith, size, fits)) in
     let d : length contents + 5 ≡ n = omega (arith, size) in
     rw (a, b) (ap (λ (m : ℕ). made m) d)
@@ -164,8 +164,8 @@ binary_again p bs subtype contents n small begins =
 pub regex_takes : (D : Items → Type 0) (p : ℕ) (bs : List ℕ) (n : ℕ) → regex_at p bs ≡ Ok n → RawRead D raws.Regex bs n
 unfolding regex_at
 regex_takes D p bs n e =
-    let a = bind_ok (name_at p bs) _ n e in
-    let b = bind_ok (name_at (p + (a.value + 1)) (drop (a.value + 1) bs)) _ n a.then in
+    let a = bind_ok (cstring_at p bs) _ n e in
+    let b = bind_ok (cstring_at (p + (a.value + 1)) (drop (a.value + 1) bs)) _ n a.then in
     let rest = drop (a.value + 1) bs in
     let first = name_takes p bs a.value a.first in
     let second = name_takes (p + (a.value + 1)) rest b.value b.first in
@@ -184,8 +184,8 @@ regex_again p bs pattern options n named named' begins =
     let ended : length (pattern ++ 0 ∷ []) ≡ length pattern + 1 = length-append pattern (0 ∷ []) in
     let second : Begins (drop (length pattern + 1) bs) (options ++ 0 ∷ []) (length (options ++ 0 ∷ [])) =
     subst (λ (k : ℕ). Begins (drop k bs) (options ++ 0 ∷ []) (length (options ++ 0 ∷ []))) ended (begins_second bs (pattern ++ 0 ∷ []) (options ++ 0 ∷ []) n begins) in
-    let a : name_at p bs ≡ Ok (length pattern) = name_again p bs pattern _ named first in
-    let b : name_at (p + (length pattern + 1)) (drop (length pattern + 1) bs) ≡ Ok (length options) =
+    let a : cstring_at p bs ≡ Ok (length pattern) = name_again p bs pattern _ named first in
+    let b : cstring_at (p + (length pattern + 1)) (drop (length pattern + 1) bs) ≡ Ok (length options) =
     name_again (p + (length pattern + 1)) (drop (length pattern + 1) bs) options _ named' second in
     let d : length pattern + 1 + (length options + 1) ≡ n =
     omega (arith, begins.size, length-append (pattern ++ 0 ∷ []) (options ++ 0 ∷ []), length-append pattern (0 ∷ []), length-append options (0 ∷ [])) in
@@ -197,7 +197,7 @@ pub pointer_takes : (D : Items → Type 0) (p : ℕ) (bs : List ℕ) (n : ℕ) �
 unfolding pointer_at
 pointer_takes D p bs n fits e =
     let a = bind_ok (string_at p bs) _ n e in
-    let b = bind_ok (fixed_at 12 (p + a.value) (drop a.value bs)) _ n a.then in
+    let b = bind_ok (bytes_at 12 (p + a.value) (drop a.value bs)) _ n a.then in
     let text = string_takes D p bs a.value fits a.first in
     let w = fixed_takes 12 (p + a.value) (drop a.value bs) b.value b.first in
     let id = take 12 (drop a.value bs) in
@@ -218,9 +218,9 @@ pointer_again p bs text id n small size begins =
     let first : Begins bs (string_bytes text) w = begins_first bs (string_bytes text) id n begins in
     let second : Begins (drop w bs) id (length id) = begins_second bs (string_bytes text) id n begins in
     let a : string_at p bs ≡ Ok w = string_again p bs text w small first in
-    let b : fixed_at 12 (p + w) (drop w bs) ≡ Ok 12 = fixed_again 12 (p + w) (drop w bs) (omega (arith, begins_fits (drop w bs) id (length id) second, size)) in
+    let b : bytes_at 12 (p + w) (drop w bs) ≡ Ok 12 = fixed_again 12 (p + w) (drop w bs) (omega (arith, begins_fits (drop w bs) id (length id) second, size)) in
     let d : w + 12 ≡ n = omega (arith, begins.size, length-append (string_bytes text) id, size) in
-    ap (λ (r : Result ℕ BsonFault). r >>= λ m. fixed_at 12 (p + m) (drop m bs) >>= λ k. Ok (m + k)) a
+    ap (λ (r : Result ℕ BsonFault). r >>= λ m. bytes_at 12 (p + m) (drop m bs) >>= λ k. Ok (m + k)) a
     ∙ ap (λ (r : Result ℕ BsonFault). r >>= λ k. Ok (w + k)) b
     ∙ ap (λ (m : ℕ). made m) d
 
@@ -239,7 +239,7 @@ known (Err d) w e = absurd (refused d w e)
 pub scope_takes : (D : Items → Type 0) (f : Reader) (reads : Reads f D) (p : ℕ) (bs : List ℕ) (n : ℕ) → AreBytes bs → scope_at f p bs ≡ Ok n → RawRead D raws.Scope bs n
 unfolding scope_at
 scope_takes D f reads p bs n fits e =
-    let a = bind_ok (number_at p bs) _ n e in
+    let a = bind_ok (int32_at p bs) _ n e in
     let b = bind_ok (length_at 14 0 a.value p bs) _ n a.then in
     let j = length_takes 14 0 a.value p bs b.value b.first in
     let inner : List ℕ = take (b.value - 4) (drop 4 bs) in
@@ -292,11 +292,11 @@ scope_again D f reads p bs code scope n holds small begins =
     let small' : n < 2 ^ 31 = omega (arith, small, begins.size) in
     let sum : length spelled ≡ w + length (doc_bytes scope) = length-append (string_bytes code) (doc_bytes scope) in
     let code_size : w ≡ length code + 5 = omega (arith, length-append code (0 ∷ [])) in
-    let scope_size : length (doc_bytes scope) ≡ length (items_bytes scope) + 5 = framed_length (items_bytes scope) in
+    let scope_size : length (doc_bytes scope) ≡ length (items_bytes scope) + 5 = framed_size (items_bytes scope) in
     let count : length spelled ≡ n - 4 = omega (arith, total) in
     let inner : take (n - 4) (drop 4 bs) ≡ spelled = ap (λ (k : ℕ). take k (drop 4 bs)) (sym count) ∙ begins_is (drop 4 bs) spelled (length spelled) tail in
     let rest : drop w spelled ≡ doc_bytes scope = drop_at (string_bytes code) (doc_bytes scope) w refl in
-    let a : number_at p bs ≡ Ok n = number_again p bs n (omega arith) stated in
+    let a : int32_at p bs ≡ Ok n = number_again p bs n (omega arith) stated in
     let b : length_at 14 0 n p bs ≡ Ok n = length_again 14 0 n p bs (omega (arith, total, sum, code_size, scope_size)) small' (omega (arith, fits)) in
     let c : string_at (p + 4) spelled ≡ Ok w = string_again (p + 4) spelled code w (omega (arith, code_size, sum, total)) (begins_of (string_bytes code) (doc_bytes scope)) in
     let inside : IsInside D scope = record { inside = holds; fits = omega (arith, sum, total) } in

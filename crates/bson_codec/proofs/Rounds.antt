@@ -5,7 +5,7 @@ use Rattle.bson_codec.specs.declared.fault.BsonFault.{BsonFault}
 use Rattle.bson_codec.specs.declared.fault.CodecFault.{CodecFault}
 use Rattle.bson_codec.specs.declared.fault.CodecFault.TheVariants as errors
 use Rattle.bson_codec.specs.Fault.{◌>>=◌, Fails}
-use Rattle.bson_codec.specs.Reading.{Reader, First, layout_at, name_at, value_at, first_at, rounds_at, elements_at, first_width, fault_of}
+use Rattle.bson_codec.specs.Reading.{Reader, First, type_at, cstring_at, value_at, first_at, rounds_at, elements_at, first_width, fault_of}
 use Rattle.bson_codec.proofs.Steps.{bind_ok, bind_same, ok_is, refused}
 
 -- the elements that were read before, and those of a reading
@@ -17,8 +17,8 @@ pub first_wide : (f : Reader) (p : ℕ) (bs : List ℕ) (x : First) → first_at
 unfolding first_at
 first_wide f p [] x e = absurd cc
 first_wide f p (tag ∷ bs) x e =
-    let a = bind_ok (layout_at p tag) _ x e in
-    let b = bind_ok (name_at (p + 1) bs) _ x a.then in
+    let a = bind_ok (type_at p tag) _ x e in
+    let b = bind_ok (cstring_at (p + 1) bs) _ x a.then in
     let c = bind_ok (value_at f tag a.value (p + (b.value + 2)) (drop (b.value + 1) bs)) _ x b.then in
     let made : First = record { name = take b.value bs; tree = c.value.0; width = b.value + 2 + c.value.1 } in
     let width : b.value + 2 + c.value.1 ≡ x.width = ap (λ (y : First). y.width) (ok_is made x c.then) in

@@ -11,13 +11,13 @@ use Rattle.bson_codec.specs.Bytes.{AreBytes}
 use Rattle.bson_codec.specs.Table.{layout_of}
 use Rattle.bson_codec.specs.Layout.{HasLayout, IsItems}
 use Rattle.bson_codec.specs.Reading.{value_at, inside_at, width_of}
-use Rattle.bson_codec.specs.Raw.{SpellsWithin, SpellsDoc, doc_of}
+use Rattle.bson_codec.specs.Borrowed.{SpellsWithin, SpellsDoc, doc_of}
 use Rattle.bson_codec.proofs.Steps.{made, ok_is, refused}
 use Rattle.bson_codec.proofs.Pieces.{Begins, begins_all}
 use Rattle.bson_codec.proofs.Elements.{value_takes, laid_again}
 use Rattle.bson_codec.proofs.Documents.{inside_reads}
 use Rattle.bson_codec.proofs.Views.{doc_of_spelling}
-use Rattle.bson_codec.proofs.Frames.{framed_length, element_length}
+use Rattle.bson_tree.proofs.Sizes.{framed_size, element_size}
 
 -- a byte that is no type has no value
 pub no_type : (levels tag : ℕ) (bs : List ℕ) → layout_of tag ≡ None → SpellsWithin levels tag bs → ⊥
@@ -69,10 +69,10 @@ module _ (levels tag : ℕ) (layout : ValueLayout) (bs : List ℕ) (row : layout
 
 count_le : (is : Items) → count is ≤ length (items_bytes is)
 count_le no_items = omega arith
-count_le (item name t is) = omega (arith, count_le is, element_length name t is)
+count_le (item name t is) = omega (arith, count_le is, element_size name t is)
 
 pub few_items : (bs : List ℕ) → SpellsDoc bs → count (doc_of bs) ≤ length bs
 few_items bs s =
     let same : doc_of bs ≡ s.tree = doc_of_spelling bs s.tree s.doc s.parts in
     let number : count (doc_of bs) ≡ count s.tree = ap count same in
-    omega (arith, number, count_le s.tree, ap length s.parts, framed_length (items_bytes s.tree))
+    omega (arith, number, count_le s.tree, ap length s.parts, framed_size (items_bytes s.tree))

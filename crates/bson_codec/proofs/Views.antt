@@ -6,7 +6,7 @@ use Rattle.bson_codec.specs.declared.fault.BsonFault.{BsonFault}
 use Rattle.bson_codec.specs.Bytes.{AreBytes}
 use Rattle.bson_codec.specs.Layout.{IsDoc}
 use Rattle.bson_codec.specs.Reading.{document, front_document, fault_of, width_of}
-use Rattle.bson_codec.specs.Raw.{or_none, doc_of, SpellsDoc}
+use Rattle.bson_codec.specs.Borrowed.{or_none, doc_of, SpellsDoc}
 use Rattle.bson_codec.proofs.Steps.{made, ok_is, refused}
 use Rattle.bson_codec.proofs.Pieces.{begins_is}
 use Rattle.bson_codec.proofs.Documents.{document_takes, document_again, front_takes}

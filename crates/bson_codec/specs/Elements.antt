@@ -10,28 +10,28 @@ use Rattle.bson_codec.specs.declared.table.ValueLayout.{ValueLayout}
 use Rattle.bson_codec.specs.declared.table.ValueLayout.TheVariants as values
 use Rattle.bson_codec.specs.declared.table.RawLayout.TheVariants as raws
 use Rattle.bson_codec.specs.Fault.{fault, ◌>>=◌}
-use Rattle.bson_codec.specs.Raw.{At, Elem, elements_of, value_tree, SpellsElements, SpellsValue}
-use Rattle.bson_codec.specs.Reading.{number_at, name_at, fixed_at, regex_at, layout_at}
+use Rattle.bson_codec.specs.Borrowed.{At, Elem, elements_of, value_tree, SpellsElements, SpellsValue}
+use Rattle.bson_codec.specs.Reading.{int32_at, cstring_at, bytes_at, regex_at, type_at}
 
 -- how many bytes a value of this layout states to have
 abbrev pub stated_width : ValueLayout → List ℕ → Result ℕ BsonFault
-stated_width values.Document bs = number_at 0 bs
+stated_width values.Document bs = int32_at 0 bs
 stated_width (values.Raw (raws.Fixed width)) bs = Ok width
 stated_width (values.Raw raws.Bool) bs = Ok 1
-stated_width (values.Raw raws.Text) bs = number_at 0 bs >>= λ n. Ok (n + 4)
-stated_width (values.Raw raws.Binary) bs = number_at 0 bs >>= λ n. Ok (n + 5)
+stated_width (values.Raw raws.Text) bs = int32_at 0 bs >>= λ n. Ok (n + 4)
+stated_width (values.Raw raws.Binary) bs = int32_at 0 bs >>= λ n. Ok (n + 5)
 stated_width (values.Raw raws.Regex) bs = regex_at 0 bs
-stated_width (values.Raw raws.Pointer) bs = number_at 0 bs >>= λ n. Ok (n + 16)
-stated_width (values.Raw raws.Scope) bs = number_at 0 bs
+stated_width (values.Raw raws.Pointer) bs = int32_at 0 bs >>= λ n. Ok (n + 16)
+stated_width (values.Raw raws.Scope) bs = int32_at 0 bs
 
 -- the type, the length of the name and the number of bytes of the value of the element at the front
 unfoldable pub front_at : List ℕ → Result Front BsonFault
 front_at [] = fault kinds.Short 0
 front_at (tag ∷ bs) = do
-  layout ← layout_at 0 tag
-  n ← name_at 0 bs
+  layout ← type_at 0 tag
+  n ← cstring_at 0 bs
   stated ← stated_width layout (drop (n + 1) bs)
-  width ← fixed_at stated 0 (drop (n + 1) bs)
+  width ← bytes_at stated 0 (drop (n + 1) bs)
   Ok (record { tag = tag; name = n; width = width })
 
 -- bytes that spell elements begin with an element, and these are its parts and what follows it

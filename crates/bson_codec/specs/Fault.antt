@@ -35,7 +35,15 @@ abbrev pub Fails : {Y : Type 0} → CodecFault → Result Y BsonFault → Type 0
 Fails errors.Memory read = Unit {0}
 Fails (errors.Bson f) read = read ≡ Err f
 
--- what a function returned, seen by `view`, is what reading gives, unless memory ran out
+-- what a function returned, seen by `view`, is what reading gives, where `F` says what its errors tell of reading
+abbrev pub GivesBy : {E X Y : Type 0} → (E → Result Y BsonFault → Type 0) → (X → Y) → Result X E → Result Y BsonFault → Type 0
+GivesBy F view (Ok x) read = read ≡ Ok (view x)
+GivesBy F view (Err e) read = F e read
+
+-- the same, unless memory ran out
 abbrev pub Gives : {X Y : Type 0} → (X → Y) → Result X CodecFault → Result Y BsonFault → Type 0
-Gives view (Ok x) read = read ≡ Ok (view x)
-Gives view (Err e) read = Fails e read
+Gives view result read = GivesBy Fails view result read
+
+-- the same of a function that takes no memory
+abbrev pub Seen : {X Y : Type 0} → (X → Y) → Result X BsonFault → Result Y BsonFault → Type 0
+Seen view result read = GivesBy (λ f read. read ≡ Err f) view result read

@@ -74,7 +74,7 @@ IsRaw D raws.Regex bytes = IsRegex bytes
 IsRaw D raws.Pointer bytes = IsPointer bytes
 IsRaw D raws.Scope bytes = IsScope D bytes
 
--- a document inside, with a length that a signed number of 32 bits holds
+-- a document of such elements, with a length that a signed number of 32 bits holds
 pub record IsInside (D : Items → Type 0) (is : Items) : Type 0 where
   pub inside : D is
   pub fits : length (doc_bytes is) < 2 ^ 31
@@ -105,10 +105,9 @@ IsItems (suc levels) is = AreElements (IsItems levels) is
 abbrev pub level_limit : ℕ
 level_limit = 100
 
--- the elements of a document that has a spelling
-pub record IsDoc (is : Items) : Type 0 where
-  pub elements : IsItems level_limit is
-  pub fits : length (doc_bytes is) < 2 ^ 31
+-- a document that has a spelling
+abbrev pub IsDoc : Items → Type 0
+IsDoc is = IsInside (IsItems level_limit) is
 
 -- the longest document that is read or written here
 abbrev pub longest : ℕ

@@ -4,5 +4,5 @@ pub mod Table
 pub mod Layout
 pub mod Reading
 pub mod Measure
-pub mod Raw
+pub mod Borrowed
 pub mod Elements

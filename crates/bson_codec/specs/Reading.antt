@@ -20,8 +20,8 @@ abbrev pub signed_below : ℕ → ℕ → Bool
 signed_below n least = nat_lt n least || nat_le (2 ^ 31) n
 
 -- the four bytes of a length: Short at the end where they aren't there
-unfoldable pub number_at : ℕ → List ℕ → Result ℕ BsonFault
-number_at p bs = if nat_lt (length bs) 4 then fault kinds.Short (p + length bs) else Ok (from_le_bytes w32 (take 4 bs))
+unfoldable pub int32_at : ℕ → List ℕ → Result ℕ BsonFault
+int32_at p bs = if nat_lt (length bs) 4 then fault kinds.Short (p + length bs) else Ok (from_le_bytes w32 (take 4 bs))
 
 -- a length at p that is at least `least`, with `more` bytes beside what it counts: else Length at p
 unfoldable pub length_at : ℕ → ℕ → ℕ → ℕ → List ℕ → Result ℕ BsonFault
@@ -41,26 +41,26 @@ name_by end None = fault kinds.NoEnd end
 name_by end (Some n) = Ok n
 
 -- the length of a name: NoEnd at the end where no 00 follows it
-unfoldable pub name_at : ℕ → List ℕ → Result ℕ BsonFault
-name_at p bs = name_by (p + length bs) (before_zero bs)
+unfoldable pub cstring_at : ℕ → List ℕ → Result ℕ BsonFault
+cstring_at p bs = name_by (p + length bs) (before_zero bs)
 
 -- ---- raw values, each with its number of bytes
 
 -- so many bytes: Short at the end where they aren't there
-unfoldable pub fixed_at : ℕ → ℕ → List ℕ → Result ℕ BsonFault
-fixed_at width p bs = if nat_lt (length bs) width then fault kinds.Short (p + length bs) else Ok width
+unfoldable pub bytes_at : ℕ → ℕ → List ℕ → Result ℕ BsonFault
+bytes_at width p bs = if nat_lt (length bs) width then fault kinds.Short (p + length bs) else Ok width
 
 -- one byte, 00 or 01: else Bool there
 unfoldable pub bool_at : ℕ → List ℕ → Result ℕ BsonFault
 bool_at p bs = do
-  n ← fixed_at 1 p bs
+  n ← bytes_at 1 p bs
   _ ← fault_if (nat_lt 1 (get_or bs 0 0)) kinds.Bool p
   Ok n
 
 -- a length that counts the final 00, the bytes, 00
 unfoldable pub string_at : ℕ → List ℕ → Result ℕ BsonFault
 string_at p bs = do
-  stated ← number_at p bs
+  stated ← int32_at p bs
   n ← length_at 1 4 stated p bs
   _ ← zero_at (n + 3) p bs
   Ok (n + 4)
@@ -68,22 +68,22 @@ string_at p bs = do
 -- a length, a subtype, and so many bytes
 unfoldable pub binary_at : ℕ → List ℕ → Result ℕ BsonFault
 binary_at p bs = do
-  stated ← number_at p bs
+  stated ← int32_at p bs
   n ← length_at 0 5 stated p bs
   Ok (n + 5)
 
 -- two names: a pattern and its options
 unfoldable pub regex_at : ℕ → List ℕ → Result ℕ BsonFault
 regex_at p bs = do
-  n ← name_at p bs
-  m ← name_at (p + (n + 1)) (drop (n + 1) bs)
+  n ← cstring_at p bs
+  m ← cstring_at (p + (n + 1)) (drop (n + 1) bs)
   Ok (n + 1 + (m + 1))
 
 -- a text and 12 bytes
 unfoldable pub pointer_at : ℕ → List ℕ → Result ℕ BsonFault
 pointer_at p bs = do
   n ← string_at p bs
-  m ← fixed_at 12 (p + n) (drop n bs)
+  m ← bytes_at 12 (p + n) (drop n bs)
   Ok (n + m)
 
 -- what reads a document inside, which may have to fill the bytes: its elements and its number of bytes
@@ -97,7 +97,7 @@ width_of read = read >>= λ x. Ok x.1
 -- a length of all, a text, and a document that fills the rest; the two are judged within that length
 unfoldable pub scope_at : Reader → ℕ → List ℕ → Result ℕ BsonFault
 scope_at f p bs = do
-  stated ← number_at p bs
+  stated ← int32_at p bs
   n ← length_at 14 0 stated p bs
   m ← string_at (p + 4) (take (n - 4) (drop 4 bs))
   _ ← width_of (f true (p + (m + 4)) (drop m (take (n - 4) (drop 4 bs))))
@@ -105,7 +105,7 @@ scope_at f p bs = do
 
 -- a raw value of this layout
 abbrev pub raw_at : Reader → RawLayout → ℕ → List ℕ → Result ℕ BsonFault
-raw_at f (raws.Fixed width) p bs = fixed_at width p bs
+raw_at f (raws.Fixed width) p bs = bytes_at width p bs
 raw_at f raws.Bool p bs = bool_at p bs
 raw_at f raws.Text p bs = string_at p bs
 raw_at f raws.Binary p bs = binary_at p bs
@@ -120,8 +120,8 @@ layout_by p None = fault kinds.Tag p
 layout_by p (Some layout) = Ok layout
 
 -- the layout behind the type byte at p: Extra behind a 00, Tag where the byte is no type
-unfoldable pub layout_at : ℕ → ℕ → Result ValueLayout BsonFault
-layout_at p tag = if tag == 0 then fault kinds.Extra (p + 1) else layout_by p (layout_of tag)
+unfoldable pub type_at : ℕ → ℕ → Result ValueLayout BsonFault
+type_at p tag = if tag == 0 then fault kinds.Extra (p + 1) else layout_by p (layout_of tag)
 
 -- a value of this type and layout, and its number of bytes
 abbrev pub value_by : Reader → ℕ → ValueLayout → ℕ → List ℕ → Result (Tree × ℕ) BsonFault
@@ -141,8 +141,8 @@ pub record First : Type 0 where
 unfoldable pub first_at : Reader → ℕ → List ℕ → Result First BsonFault
 first_at f p [] = fault kinds.Short p
 first_at f p (tag ∷ bs) = do
-  layout ← layout_at p tag
-  n ← name_at (p + 1) bs
+  layout ← type_at p tag
+  n ← cstring_at (p + 1) bs
   value ← value_at f tag layout (p + (n + 2)) (drop (n + 1) bs)
   Ok (record { name = take n bs; tree = value.0; width = n + 2 + value.1 })
 
@@ -180,7 +180,7 @@ framed_at f n p bs = do
 -- add none, and Length at p where it has to fill the bytes and doesn't
 unfoldable pub inside_length_at : ℕ → Bool → ℕ → List ℕ → Result ℕ BsonFault
 inside_length_at levels fills p bs = do
-  stated ← number_at p bs
+  stated ← int32_at p bs
   _ ← fault_if (levels == 0) kinds.Deep p
   n ← length_at 5 0 stated p bs
   _ ← fault_if (fills && not (n == length bs)) kinds.Length p
@@ -205,7 +205,7 @@ stated_at n = if signed_below n 5 then fault kinds.Length 0 else Ok n
 -- Short at the end where there are fewer bytes
 unfoldable pub total_at : List ℕ → Result ℕ BsonFault
 total_at bs = do
-  stated ← number_at 0 bs
+  stated ← int32_at 0 bs
   n ← stated_at stated
   _ ← fault_if (nat_lt (length bs) n) kinds.Short (length bs)
   Ok n

@@ -1,11 +1,11 @@
 //! Documents over bytes that were checked, which are borrowed and not copied.
 
-ghost use Rattle.std.specs.Prelude.{◌≡◌, ◌+◌, ◌<◌, ◌≤◌, ◌++◌, ℕ, List, length, Ok, IfOk};
+ghost use Rattle.std.specs.Prelude.{◌≡◌, ◌+◌, ◌<◌, ◌≤◌, ◌^◌, ◌++◌, ℕ, List, length, Ok, IfOk};
 ghost use Rattle.bson_tree.specs.Spelling.{doc_bytes};
 ghost use Rattle.bson_tree.specs.Tree.{Items};
 ghost use Rattle.bson_codec.specs.Layout.{IsDoc, longest};
 ghost use Rattle.bson_codec.specs.Reading.{document, front_document, fault_of, width_of};
-ghost use Rattle.bson_codec.specs.Raw.{Seen};
+ghost use Rattle.bson_codec.specs.Fault.{Seen};
 
 use crate::checking::check_framed;
 use crate::decoding::total_of;
@@ -23,7 +23,7 @@ pub struct RawDoc<'a> {
 
 impl<'a> Model for RawDoc<'a> {
     ghost use Rattle.std.specs.Prelude.{◌<◌, ◌+◌, ◌^◌, length};
-    ghost use Rattle.bson_codec.specs.Raw.{At, coded_at, doc_of, SpellsDoc};
+    ghost use Rattle.bson_codec.specs.Borrowed.{At, coded_at, doc_of, SpellsDoc};
 
     ghost Value = { At };
 
@@ -59,6 +59,8 @@ pub fn first_doc<'a>(bytes: &'a [u8]) -> Result<(RawDoc<'a>, &'a [u8]), BsonFaul
     requires { length bytes.now ≤ longest }
     // What is read has a spelling, and the bytes are it and the rest.
     ensures found { IfOk result (λ x. IsDoc x.0.tree × (bytes.now ≡ doc_bytes x.0.tree ++ x.1.now) × (x.0.start ≡ 0)) }
+    // What has a spelling is read from it, whatever follows.
+    ensures only { (is : Items) (rest : List ℕ) → IsDoc is → bytes.now ≡ doc_bytes is ++ rest → Seen {Y = Items × ℕ} (λ x. (x.0.tree, length (doc_bytes x.0.tree))) result (Ok (is, length (doc_bytes is))) }
     // Which document and how many bytes, or which fault.
     ensures exact { Seen (λ x. (x.0.tree, length (doc_bytes x.0.tree))) result (front_document bytes.now) }
 {
@@ -107,6 +109,9 @@ impl<'a> RawDoc<'a> {
     /// The bytes of the document.
     pub fn bytes(&self) -> &'a [u8]
         ensures spelling { result.now ≡ doc_bytes self.now.tree }
+        // The tree has a spelling, with at most 100 levels of nesting.
+        ensures document { IsDoc self.now.tree }
+        ensures room { self.now.start + length result.now < 2 ^ 31 }
     {
         self.bytes
     }

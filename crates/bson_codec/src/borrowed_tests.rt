@@ -1,5 +1,7 @@
 use crate::tests::INSERT;
+use crate::writing::{append, close, open, put_name};
 use crate::{BsonFault, BsonKind, check_bson, check_value, first_doc};
+use bson_tree::types;
 use std::test::Fail;
 
 #[test]
@@ -106,5 +108,38 @@ fn a_scope_is_no_child(rt: HostRuntime) -> Result<(), Fail> {
     let item = check_bson(bytes)?.items().next().ok_or("no element")?;
     assert_eq!(rt; item.tag(), 0x0F);
     assert!(rt; item.child().is_none());
+    Ok(())
+}
+
+// BSON 1.1, "code_w_s": code `a` with the scope {x: true}, under the name `c`.
+#[test]
+fn a_scope_has_a_text_and_a_document(rt: HostRuntime) -> Result<(), Fail> {
+    let scope = b"\x09\x00\x00\x00\x08x\x00\x01\x00";
+    let bytes =
+        b"\x1B\x00\x00\x00\x0Fc\x00\x13\x00\x00\x00\x02\x00\x00\x00a\x00\x09\x00\x00\x00\x08x\x00\x01\x00\x00";
+    let document = check_bson(bytes)?;
+    let code = document.items().next().ok_or("no element")?;
+    let (text, inner) = code.scope().ok_or("no scope")?;
+    assert_eq!(rt; text, b"a".as_slice());
+    assert_eq!(rt; inner.bytes(), scope.as_slice());
+    let flag = inner.items().next().ok_or("no flag")?;
+    assert!(rt; flag.scope().is_none());
+    assert_eq!(rt; flag.start(), 24);
+    assert_eq!(rt; bytes[flag.start()], 1);
+    Ok(())
+}
+
+// bsonspec.org, examples: {"hello": "world"}.
+#[test]
+fn a_document_is_written_in_pieces(rt: HostRuntime) -> Result<(), Fail> {
+    let mut out = Vec::from_slice(rt.alloc(), b"front")?;
+    open(&mut out)?;
+    put_name(&mut out, types::STRING, b"hello")?;
+    append(&mut out, b"\x06\x00\x00\x00world\x00")?;
+    close(&mut out, 5)?;
+    assert_eq!(rt;
+        out.as_slice(),
+        b"front\x16\x00\x00\x00\x02hello\x00\x06\x00\x00\x00world\x00\x00".as_slice()
+    );
     Ok(())
 }

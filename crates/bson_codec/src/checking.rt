@@ -2,7 +2,7 @@
 
 ghost use Rattle.std.specs.Prelude.{◌≡◌, ◌+◌, ◌<◌, ◌≤◌, ◌^◌, length, IfOk, MatchBool};
 ghost use Rattle.bson_codec.specs.Reading.{raw_at, scope_at, value_at, first_at, elements_at, framed_at, inside_at, width_of, first_width, fault_of};
-ghost use Rattle.bson_codec.specs.Raw.{SpellsWithin};
+ghost use Rattle.bson_codec.specs.Borrowed.{SpellsWithin};
 
 use crate::fault::{BsonFault, BsonKind};
 use crate::raw::{
@@ -11,10 +11,9 @@ use crate::raw::{
 };
 use crate::table::{RawLayout, ValueLayout, layout_of};
 
-/// Whether the bytes spell a value of this type that adds at most `levels` levels of nesting (BSON 1.1).
-/// Fewer than 2^31 bytes.
+/// Whether the bytes, of any number, spell a value of this type that adds at most `levels` levels of nesting
+/// (BSON 1.1).
 pub fn check_value(tag: u8, bytes: &[u8], levels: u32) -> bool
-    requires { length bytes.now < 2 ^ 31 }
     ensures spelled { MatchBool result (SpellsWithin levels tag bytes.now) (SpellsWithin levels tag bytes.now → ⊥) }
 {
     match layout_of(tag) {
@@ -34,7 +33,7 @@ pub fn raw_length(
     bytes: &[u8],
     at: usize,
 ) -> Result<usize, BsonFault>
-    requires { at + length bytes.now < 2 ^ 32 }
+    requires { at + length bytes.now < 2 ^ 63 }
     ensures read { result ≡ raw_at (inside_at levels) layout at bytes.now }
     ensures fits { IfOk result (λ n. n ≤ length bytes.now) }
 {
@@ -52,7 +51,7 @@ pub fn raw_length(
 #[cycle(check)]
 #[tactic(auto, unfolding(crate::specs::Reading::scope_at))]
 fn scope_length(levels: u32, bytes: &[u8], at: usize) -> Result<usize, BsonFault>
-    requires { at + length bytes.now < 2 ^ 32 }
+    requires { at + length bytes.now < 2 ^ 63 }
     ensures read { result ≡ scope_at (inside_at levels) at bytes.now }
     ensures fits { IfOk result (λ n. n ≤ length bytes.now) }
 {
@@ -75,7 +74,7 @@ pub fn check_laid(
     bytes: &[u8],
     at: usize,
 ) -> Result<usize, BsonFault>
-    requires { at + length bytes.now < 2 ^ 32 }
+    requires { at + length bytes.now < 2 ^ 63 }
     ensures read { result ≡ width_of (value_at (inside_at levels) tag layout at bytes.now) }
     ensures fits { IfOk result (λ n. n ≤ length bytes.now) }
 {
@@ -90,7 +89,7 @@ pub fn check_laid(
 #[cycle(check)]
 #[tactic(auto, using(crate::proofs::Widths::element_width), unfolding(crate::specs::Reading::first_at))]
 fn check_first(levels: u32, bytes: &[u8], at: usize) -> Result<usize, BsonFault>
-    requires { at + length bytes.now < 2 ^ 32 }
+    requires { at + length bytes.now < 2 ^ 63 }
     ensures read { result ≡ first_width (first_at (inside_at levels) at bytes.now) }
     ensures fits { IfOk result (λ n. (n ≤ length bytes.now) × (0 < n)) }
 {
@@ -112,7 +111,7 @@ fn check_first(levels: u32, bytes: &[u8], at: usize) -> Result<usize, BsonFault>
 // That the elements from the front to the end have no fault.
 #[cycle(check)]
 fn check_elements(levels: u32, bytes: &[u8], at: usize) -> Result<(), BsonFault>
-    requires { at + length bytes.now < 2 ^ 32 }
+    requires { at + length bytes.now < 2 ^ 63 }
     ensures read { result ≡ fault_of (elements_at (inside_at levels) at bytes.now) }
 {
     let mut rest = bytes;
@@ -132,7 +131,7 @@ fn check_elements(levels: u32, bytes: &[u8], at: usize) -> Result<(), BsonFault>
 pub fn check_framed(levels: u32, n: usize, bytes: &[u8], at: usize) -> Result<usize, BsonFault>
     requires least { 5 ≤ n }
     requires inside { n ≤ length bytes.now }
-    requires room { at + length bytes.now < 2 ^ 32 }
+    requires room { at + length bytes.now < 2 ^ 63 }
     ensures read { result ≡ width_of (framed_at (inside_at levels) n at bytes.now) }
     ensures fits { IfOk result (λ m. m ≡ n) }
 {
@@ -146,7 +145,7 @@ pub fn check_framed(levels: u32, n: usize, bytes: &[u8], at: usize) -> Result<us
 #[cycle(check)]
 #[tactic(auto, using(crate::proofs::Levels::inside_is), unfolding(crate::specs::Reading::nested_at))]
 fn check_inside(levels: u32, fills: bool, bytes: &[u8], at: usize) -> Result<usize, BsonFault>
-    requires { at + length bytes.now < 2 ^ 32 }
+    requires { at + length bytes.now < 2 ^ 63 }
     ensures read { result ≡ width_of (inside_at levels fills at bytes.now) }
     ensures fits { IfOk result (λ n. n ≤ length bytes.now) }
 {

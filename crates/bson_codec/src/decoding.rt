@@ -7,7 +7,7 @@ ghost use Rattle.bson_tree.specs.View.{tree};
 ghost use Rattle.std.specs.Int.{from_le_bytes, w32};
 ghost use Rattle.bson_codec.specs.Fault.{Gives};
 ghost use Rattle.bson_codec.specs.Layout.{IsDoc, longest};
-ghost use Rattle.bson_codec.specs.Reading.{layout_at, value_at, first_at, elements_at, framed_at, inside_at, stated_at, total_at, document, front_document};
+ghost use Rattle.bson_codec.specs.Reading.{type_at, value_at, first_at, elements_at, framed_at, inside_at, stated_at, total_at, document, front_document};
 
 use crate::checking::raw_length;
 use crate::fault::{BsonFault, BsonKind, CodecFault};
@@ -28,7 +28,7 @@ fn value_of(
     bytes: &[u8],
     at: usize,
 ) -> Result<(Value, usize), CodecFault>
-    requires { at + length bytes.now < 2 ^ 32 }
+    requires { at + length bytes.now < 2 ^ 63 }
     ensures read { Gives (λ x. (tree x.0, x.1)) result (value_at (inside_at levels) tag layout at bytes.now) }
     ensures fits { IfOk result (λ x. x.1 ≤ length bytes.now) }
 {
@@ -55,7 +55,7 @@ fn first_of(
     bytes: &[u8],
     at: usize,
 ) -> Result<(Bytes, Value, usize), CodecFault>
-    requires { at + length bytes.now < 2 ^ 32 }
+    requires { at + length bytes.now < 2 ^ 63 }
     ensures read { Gives (λ x. record { name = x.0; tree = tree x.1; width = x.2 }) result (first_at (inside_at levels) at bytes.now) }
     ensures fits { IfOk result (λ x. (x.2 ≤ length bytes.now) × (0 < x.2)) }
 {
@@ -78,7 +78,7 @@ fn first_of(
 // The elements from the front to the end.
 #[cycle(read)]
 fn elements_of(alloc: Global, levels: u32, bytes: &[u8], at: usize) -> Result<Kids, CodecFault>
-    requires { at + length bytes.now < 2 ^ 32 }
+    requires { at + length bytes.now < 2 ^ 63 }
     ensures read { Gives (λ kids. kids) result (elements_at (inside_at levels) at bytes.now) }
 {
     let mut kids = Kids::new(alloc);
@@ -109,7 +109,7 @@ fn framed_of(
 ) -> Result<(Kids, usize), CodecFault>
     requires least { 5 ≤ n }
     requires inside { n ≤ length bytes.now }
-    requires room { at + length bytes.now < 2 ^ 32 }
+    requires room { at + length bytes.now < 2 ^ 63 }
     ensures read { Gives (λ x. (x.0, x.1)) result (framed_at (inside_at levels) n at bytes.now) }
     ensures fits { IfOk result (λ x. x.1 ≡ n) }
 {
@@ -127,7 +127,7 @@ fn inside_of(
     bytes: &[u8],
     at: usize,
 ) -> Result<(Kids, usize), CodecFault>
-    requires { at + length bytes.now < 2 ^ 32 }
+    requires { at + length bytes.now < 2 ^ 63 }
     ensures read { Gives (λ x. (x.0, x.1)) result (inside_at levels false at bytes.now) }
     ensures fits { IfOk result (λ x. x.1 ≤ length bytes.now) }
 {
@@ -187,7 +187,7 @@ pub fn stated_length(head: [u8; 4]) -> Result<u32, BsonFault>
 }
 
 /// The length of the document at the front.
-#[tactic(auto, unfolding(crate::specs::Reading::total_at, crate::specs::Reading::number_at))]
+#[tactic(auto, unfolding(crate::specs::Reading::total_at, crate::specs::Reading::int32_at))]
 pub fn total_of(bytes: &[u8]) -> Result<usize, BsonFault>
     requires { length bytes.now ≤ longest }
     ensures read { result ≡ total_at bytes.now }

@@ -3,7 +3,7 @@
 ghost use Rattle.std.specs.Prelude.{◌≡◌, ◌+◌, ◌<◌, ◌≤◌, ◌^◌, length, IfOk, MatchOption};
 ghost use Rattle.bson_tree.specs.Tree.{no_items};
 ghost use Rattle.bson_codec.specs.Elements.{stated_width as width_stated, front_at, IsParted};
-ghost use Rattle.bson_codec.specs.Raw.{elements_of, SpellsElements};
+ghost use Rattle.bson_codec.specs.Borrowed.{elements_of, SpellsElements};
 
 use crate::fault::{BsonFault, BsonKind};
 use crate::raw::{fixed_length, layout_behind, name_length, number_of, regex_length};

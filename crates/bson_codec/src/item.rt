@@ -1,12 +1,14 @@
 //! Elements of checked documents, which borrow the bytes.
 
-ghost use Rattle.std.specs.Prelude.{◌≡◌, ◌+◌, ◌<◌, ◌^◌, ◌==◌, length, is_some, IfSome, MatchOption};
+ghost use Rattle.std.specs.Prelude.{◌≡◌, ◌-◌, ◌+◌, ◌<◌, ◌^◌, ◌==◌, ◌≤◌, length, take, drop, is_some, IfSome, MatchOption};
 ghost use Rattle.bson_tree.specs.Spelling.{value_bytes};
 ghost use Rattle.bson_tree.specs.Tree.{leaf, node, no_items, tag_of, kids_of};
-ghost use Rattle.bson_codec.specs.Layout.{string_bytes, binary_bytes};
-ghost use Rattle.bson_codec.specs.Raw.{holds, is_inner, SpellsValue};
+ghost use Rattle.bson_codec.specs.Layout.{string_bytes, binary_bytes, scope_bytes, IsDoc, IsValue, IsItems, level_limit};
+ghost use Rattle.bson_codec.specs.Borrowed.{doc_of, holds, is_inner, SpellsDoc, SpellsValue};
 
 use crate::borrowed::RawDoc;
+use crate::raw::string_length;
+use bson_tree::types;
 use std::marker::Model;
 
 /// An element of a checked document: its name, its value, and the offset of the value's first byte in the
@@ -21,7 +23,7 @@ pub struct RawItem<'a> {
 
 impl<'a> Model for RawItem<'a> {
     ghost use Rattle.std.specs.Prelude.{◌<◌, ◌+◌, ◌^◌, length};
-    ghost use Rattle.bson_codec.specs.Raw.{Elem, coded_elem, value_tree, SpellsValue};
+    ghost use Rattle.bson_codec.specs.Borrowed.{Elem, coded_elem, value_tree, SpellsValue};
 
     ghost Value = { Elem };
 
@@ -32,7 +34,7 @@ impl<'a> Model for RawItem<'a> {
     ghost invariant = { λ e. (e.start + length e.value.now < 2 ^ 31) × SpellsValue e.tag e.value.now };
 }
 
-#[tactic(auto, using(crate::proofs::Items::type_is, crate::proofs::Items::value_is))]
+#[tactic(auto, using(crate::proofs::Items::type_is, crate::proofs::Items::value_is, crate::proofs::Items::value_laid, crate::proofs::Items::raw_tree, crate::proofs::Views::spelled_doc))]
 impl<'a> RawItem<'a> {
     /// The type byte.
     pub fn tag(&self) -> u8
@@ -59,6 +61,8 @@ impl<'a> RawItem<'a> {
     pub fn value(&self) -> &'a [u8]
         ensures spelling { result.now ≡ value_bytes self.now.tree }
         ensures room { self.now.start + length result.now < 2 ^ 31 }
+        // The bytes have the layout of the type.
+        ensures laid { IsValue (IsItems (level_limit - 1)) self.now.tree }
     {
         self.value
     }
@@ -82,9 +86,9 @@ impl<'a> RawItem<'a> {
     /// The bytes of a string, without length and final 00: `None` exactly where the type isn't 02.
     pub fn text(&self) -> Option<&'a [u8]>
         ensures kind { is_some result ≡ (tag_of self.now.tree == 0x02) }
-        ensures text { IfSome result (λ t. value_bytes self.now.tree ≡ string_bytes t.now) }
+        ensures text { IfSome result (λ t. self.now.tree ≡ leaf 0x02 (string_bytes t.now)) }
     {
-        if self.tag != 0x02 {
+        if self.tag != types::STRING {
             return None;
         }
         Some(text_of(self.value))
@@ -93,12 +97,32 @@ impl<'a> RawItem<'a> {
     /// The subtype and the contents of a binary: `None` exactly where the type isn't 05.
     pub fn binary(&self) -> Option<(u8, &'a [u8])>
         ensures kind { is_some result ≡ (tag_of self.now.tree == 0x05) }
-        ensures contents { IfSome result (λ b. value_bytes self.now.tree ≡ binary_bytes b.0 b.1.now) }
+        ensures contents { IfSome result (λ b. self.now.tree ≡ leaf 0x05 (binary_bytes b.0 b.1.now)) }
     {
-        if self.tag != 0x05 {
+        if self.tag != types::BINARY {
             return None;
         }
         Some(contents_of(self.value))
+    }
+
+    /// The text and the scope of code with a scope, the scope at its own offset: `None` exactly where the type
+    /// isn't 0F.
+    pub fn scope(&self) -> Option<(&'a [u8], RawDoc<'a>)>
+        ensures kind { is_some result ≡ (tag_of self.now.tree == 0x0F) }
+        ensures parts { IfSome result (λ s. self.now.tree ≡ leaf 0x0F (scope_bytes s.0.now s.1.tree)) }
+        ensures scope { IfSome result (λ s. IsDoc s.1.tree) }
+        // Before the scope stand the length of all, the length of the text, the text and its 00.
+        ensures start { IfSome result (λ s. s.1.start ≡ self.now.start + (length s.0.now + 9)) }
+    {
+        if self.tag != types::CODE_WITH_SCOPE {
+            return None;
+        }
+        let (text, scope) = scope_of(self.value);
+        let document = RawDoc {
+            bytes: scope,
+            start: self.start + (text.len() + 9),
+        };
+        Some((text, document))
     }
 }
 
@@ -115,7 +139,7 @@ pub(crate) fn holds_offset(item: &RawItem<'_>, at: usize) -> bool
 fn has_document(tag: u8) -> bool
     ensures inner { result ≡ is_inner tag }
 {
-    tag == 0x03 || tag == 0x04
+    tag == types::DOCUMENT || tag == types::ARRAY
 }
 
 // The text of a string's bytes.
@@ -123,9 +147,7 @@ fn text_of<'a>(value: &'a [u8]) -> &'a [u8]
     requires { SpellsValue 0x02 value.now }
     ensures text { value.now ≡ string_bytes result.now }
 {
-    let (_, ended) = value.split_at(4);
-    let (text, _) = ended.split_at(ended.len() - 1);
-    text
+    string_text(value)
 }
 
 // The subtype and the contents of a binary's bytes.
@@ -136,4 +158,30 @@ fn contents_of<'a>(value: &'a [u8]) -> (u8, &'a [u8])
     let (_, typed) = value.split_at(4);
     let (_, contents) = typed.split_at(1);
     (typed[0], contents)
+}
+
+// The text and the bytes of the scope of the bytes of code with a scope.
+fn scope_of<'a>(value: &'a [u8]) -> (&'a [u8], &'a [u8])
+    requires { SpellsValue 0x0F value.now }
+    ensures scope { SpellsDoc result.1.now }
+    ensures parts { value.now ≡ scope_bytes result.0.now (doc_of result.1.now) }
+    ensures size { length value.now ≡ length result.0.now + 9 + length result.1.now }
+{
+    let (_, inside) = value.split_at(4);
+    let Ok(n) = string_length(inside, 0) else {
+        unreachable!();
+    };
+    let (code, scope) = inside.split_at(n);
+    (string_text(code), scope)
+}
+
+// The text of a string's bytes, by their number alone.
+fn string_text<'a>(bytes: &'a [u8]) -> &'a [u8]
+    requires { 5 ≤ length bytes.now }
+    ensures text { result.now ≡ take (length bytes.now - 5) (drop 4 bytes.now) }
+    ensures size { length result.now + 5 ≡ length bytes.now }
+{
+    let (_, ended) = bytes.split_at(4);
+    let (text, _) = ended.split_at(bytes.len() - 5);
+    text
 }

@@ -2,7 +2,7 @@
 
 ghost use Rattle.std.specs.Prelude.{◌≡◌, ◌+◌, ◌<◌, ◌^◌, option_map};
 ghost use Rattle.bson_tree.specs.Tree.{count};
-ghost use Rattle.bson_codec.specs.Raw.{holding};
+ghost use Rattle.bson_codec.specs.Borrowed.{holding};
 
 use crate::borrowed::RawDoc;
 use crate::front::parts_of;
@@ -18,7 +18,7 @@ pub struct RawIter<'a> {
 
 impl<'a> Model for RawIter<'a> {
     ghost use Rattle.std.specs.Prelude.{◌<◌, ◌+◌, ◌^◌, length};
-    ghost use Rattle.bson_codec.specs.Raw.{At, coded_at, elements_of, SpellsElements};
+    ghost use Rattle.bson_codec.specs.Borrowed.{At, coded_at, elements_of, SpellsElements};
 
     ghost Value = { At };
 

@@ -26,6 +26,7 @@ pub mod laws;
 mod measuring;
 mod raw;
 mod table;
+pub mod writing;
 
 pub use borrowed::{RawDoc, check_bson, first_doc};
 pub use checking::check_value;

@@ -36,7 +36,6 @@ fn is_name(bytes: &[u8]) -> bool
 
 // Whether the bytes have this layout, where documents inside may add so many levels.
 fn is_raw(levels: u32, layout: RawLayout, bytes: &[u8]) -> bool
-    requires { length bytes.now < 2 ^ 31 }
     ensures laid { MatchBool result (IsRaw (IsItems levels) layout bytes.now) (IsRaw (IsItems levels) layout bytes.now → ⊥) }
 {
     match raw_length(levels, layout, bytes, 0) {

@@ -2,7 +2,7 @@
 //! and ends before the last byte of the document that it stands in.
 
 ghost use Rattle.std.specs.Prelude.{◌≡◌, ◌+◌, ◌<◌, ◌≤◌, ◌^◌, length, IfOk, IfSome};
-ghost use Rattle.bson_codec.specs.Reading.{signed_below, number_at, length_at, zero_at, before_zero, name_at, fixed_at, bool_at, string_at, binary_at, regex_at, pointer_at, layout_at, inside_length_at};
+ghost use Rattle.bson_codec.specs.Reading.{signed_below, int32_at, length_at, zero_at, before_zero, cstring_at, bytes_at, bool_at, string_at, binary_at, regex_at, pointer_at, type_at, inside_length_at};
 
 use crate::fault::{BsonFault, BsonKind};
 use crate::table::{ValueLayout, layout_of};
@@ -15,10 +15,10 @@ pub fn is_signed_below(n: u32, least: u32) -> bool
 }
 
 /// The four bytes of a length.
-#[tactic(auto, unfolding(crate::specs::Reading::number_at))]
+#[tactic(auto, unfolding(crate::specs::Reading::int32_at))]
 pub fn number_of(bytes: &[u8], at: usize) -> Result<u32, BsonFault>
-    requires { at + length bytes.now < 2 ^ 32 }
-    ensures read { result ≡ number_at at bytes.now }
+    requires { at + length bytes.now < 2 ^ 63 }
+    ensures read { result ≡ int32_at at bytes.now }
     ensures room { IfOk result (λ n. 4 ≤ length bytes.now) }
 {
     if bytes.len() < 4 {
@@ -58,7 +58,7 @@ pub fn length_of(
 #[tactic(auto, unfolding(crate::specs::Reading::zero_at))]
 pub fn zero_of(i: usize, bytes: &[u8], at: usize) -> Result<(), BsonFault>
     requires inside { i < length bytes.now }
-    requires room { at + length bytes.now < 2 ^ 32 }
+    requires room { at + length bytes.now < 2 ^ 63 }
     ensures read { result ≡ zero_at i at bytes.now }
 {
     if bytes[i] != 0 {
@@ -84,10 +84,10 @@ pub fn zero_position(bytes: &[u8]) -> Option<usize>
 }
 
 /// The length of a name that 00 follows.
-#[tactic(auto, unfolding(crate::specs::Reading::name_at))]
+#[tactic(auto, unfolding(crate::specs::Reading::cstring_at))]
 pub fn name_length(bytes: &[u8], at: usize) -> Result<usize, BsonFault>
-    requires { at + length bytes.now < 2 ^ 32 }
-    ensures read { result ≡ name_at at bytes.now }
+    requires { at + length bytes.now < 2 ^ 63 }
+    ensures read { result ≡ cstring_at at bytes.now }
     ensures fits { IfOk result (λ n. n < length bytes.now) }
 {
     match zero_position(bytes) {
@@ -99,10 +99,10 @@ pub fn name_length(bytes: &[u8], at: usize) -> Result<usize, BsonFault>
     }
 }
 
-#[tactic(auto, unfolding(crate::specs::Reading::fixed_at))]
+#[tactic(auto, unfolding(crate::specs::Reading::bytes_at))]
 pub fn fixed_length(width: usize, bytes: &[u8], at: usize) -> Result<usize, BsonFault>
-    requires { at + length bytes.now < 2 ^ 32 }
-    ensures read { result ≡ fixed_at width at bytes.now }
+    requires { at + length bytes.now < 2 ^ 63 }
+    ensures read { result ≡ bytes_at width at bytes.now }
     ensures fits { IfOk result (λ n. (n ≤ length bytes.now) × (n ≡ width)) }
 {
     if bytes.len() < width {
@@ -116,7 +116,7 @@ pub fn fixed_length(width: usize, bytes: &[u8], at: usize) -> Result<usize, Bson
 
 #[tactic(auto, unfolding(crate::specs::Reading::bool_at))]
 pub fn bool_length(bytes: &[u8], at: usize) -> Result<usize, BsonFault>
-    requires { at + length bytes.now < 2 ^ 32 }
+    requires { at + length bytes.now < 2 ^ 63 }
     ensures read { result ≡ bool_at at bytes.now }
     ensures fits { IfOk result (λ n. n ≤ length bytes.now) }
 {
@@ -132,7 +132,7 @@ pub fn bool_length(bytes: &[u8], at: usize) -> Result<usize, BsonFault>
 
 #[tactic(auto, unfolding(crate::specs::Reading::string_at))]
 pub fn string_length(bytes: &[u8], at: usize) -> Result<usize, BsonFault>
-    requires { at + length bytes.now < 2 ^ 32 }
+    requires { at + length bytes.now < 2 ^ 63 }
     ensures read { result ≡ string_at at bytes.now }
     ensures fits { IfOk result (λ n. n ≤ length bytes.now) }
 {
@@ -144,7 +144,7 @@ pub fn string_length(bytes: &[u8], at: usize) -> Result<usize, BsonFault>
 
 #[tactic(auto, unfolding(crate::specs::Reading::binary_at))]
 pub fn binary_length(bytes: &[u8], at: usize) -> Result<usize, BsonFault>
-    requires { at + length bytes.now < 2 ^ 32 }
+    requires { at + length bytes.now < 2 ^ 63 }
     ensures read { result ≡ binary_at at bytes.now }
     ensures fits { IfOk result (λ n. n ≤ length bytes.now) }
 {
@@ -155,7 +155,7 @@ pub fn binary_length(bytes: &[u8], at: usize) -> Result<usize, BsonFault>
 
 #[tactic(auto, unfolding(crate::specs::Reading::regex_at))]
 pub fn regex_length(bytes: &[u8], at: usize) -> Result<usize, BsonFault>
-    requires { at + length bytes.now < 2 ^ 32 }
+    requires { at + length bytes.now < 2 ^ 63 }
     ensures read { result ≡ regex_at at bytes.now }
     ensures fits { IfOk result (λ n. n ≤ length bytes.now) }
 {
@@ -167,7 +167,7 @@ pub fn regex_length(bytes: &[u8], at: usize) -> Result<usize, BsonFault>
 
 #[tactic(auto, unfolding(crate::specs::Reading::pointer_at))]
 pub fn pointer_length(bytes: &[u8], at: usize) -> Result<usize, BsonFault>
-    requires { at + length bytes.now < 2 ^ 32 }
+    requires { at + length bytes.now < 2 ^ 63 }
     ensures read { result ≡ pointer_at at bytes.now }
     ensures fits { IfOk result (λ n. n ≤ length bytes.now) }
 {
@@ -178,10 +178,10 @@ pub fn pointer_length(bytes: &[u8], at: usize) -> Result<usize, BsonFault>
 }
 
 /// The layout behind the type byte at `at`.
-#[tactic(auto, unfolding(crate::specs::Reading::layout_at))]
+#[tactic(auto, unfolding(crate::specs::Reading::type_at))]
 pub fn layout_behind(tag: u8, at: usize) -> Result<ValueLayout, BsonFault>
-    requires { at < 2 ^ 32 }
-    ensures read { result ≡ layout_at at tag }
+    requires { at < 2 ^ 63 }
+    ensures read { result ≡ type_at at tag }
 {
     if tag == 0 {
         return Err(BsonFault {
@@ -202,7 +202,7 @@ pub fn layout_behind(tag: u8, at: usize) -> Result<ValueLayout, BsonFault>
 /// bytes where `fills`.
 #[tactic(auto, unfolding(crate::specs::Reading::inside_length_at))]
 pub fn inside_length(levels: u32, fills: bool, bytes: &[u8], at: usize) -> Result<usize, BsonFault>
-    requires { at + length bytes.now < 2 ^ 32 }
+    requires { at + length bytes.now < 2 ^ 63 }
     ensures read { result ≡ inside_length_at levels fills at bytes.now }
     ensures fits { IfOk result (λ n. (5 ≤ n) × (n ≤ length bytes.now) × (0 < levels)) }
 {

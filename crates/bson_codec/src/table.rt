@@ -3,6 +3,8 @@
 ghost use Rattle.std.specs.Prelude.{◌≡◌};
 ghost use Rattle.bson_codec.specs.Table.{layout_of as layout_of_type};
 
+use bson_tree::types;
+
 /// What stands behind a type byte and a name.
 #[derive(Clone, Copy, Debug, PartialEq, Eq)]
 pub enum ValueLayout {
@@ -37,18 +39,22 @@ pub fn layout_of(tag: u8) -> Option<ValueLayout>
     ensures row { result ≡ layout_of_type tag }
 {
     match tag {
-        0x01 | 0x09 | 0x11 | 0x12 => Some(ValueLayout::Raw(RawLayout::Fixed(8))),
-        0x02 | 0x0D | 0x0E => Some(ValueLayout::Raw(RawLayout::Text)),
-        0x03 | 0x04 => Some(ValueLayout::Document),
-        0x05 => Some(ValueLayout::Raw(RawLayout::Binary)),
-        0x06 | 0x0A | 0x7F | 0xFF => Some(ValueLayout::Raw(RawLayout::Fixed(0))),
-        0x07 => Some(ValueLayout::Raw(RawLayout::Fixed(12))),
-        0x08 => Some(ValueLayout::Raw(RawLayout::Bool)),
-        0x0B => Some(ValueLayout::Raw(RawLayout::Regex)),
-        0x0C => Some(ValueLayout::Raw(RawLayout::Pointer)),
-        0x0F => Some(ValueLayout::Raw(RawLayout::Scope)),
-        0x10 => Some(ValueLayout::Raw(RawLayout::Fixed(4))),
-        0x13 => Some(ValueLayout::Raw(RawLayout::Fixed(16))),
+        types::DOUBLE | types::DATE | types::TIMESTAMP | types::LONG => Some(ValueLayout::Raw(
+            RawLayout::Fixed(8),
+        )),
+        types::STRING | types::CODE | types::SYMBOL => Some(ValueLayout::Raw(RawLayout::Text)),
+        types::DOCUMENT | types::ARRAY => Some(ValueLayout::Document),
+        types::BINARY => Some(ValueLayout::Raw(RawLayout::Binary)),
+        types::UNDEFINED | types::NULL | types::MAX_KEY | types::MIN_KEY => Some(ValueLayout::Raw(
+            RawLayout::Fixed(0),
+        )),
+        types::OBJECT_ID => Some(ValueLayout::Raw(RawLayout::Fixed(12))),
+        types::BOOL => Some(ValueLayout::Raw(RawLayout::Bool)),
+        types::REGEX => Some(ValueLayout::Raw(RawLayout::Regex)),
+        types::DB_POINTER => Some(ValueLayout::Raw(RawLayout::Pointer)),
+        types::CODE_WITH_SCOPE => Some(ValueLayout::Raw(RawLayout::Scope)),
+        types::INT => Some(ValueLayout::Raw(RawLayout::Fixed(4))),
+        types::DECIMAL => Some(ValueLayout::Raw(RawLayout::Fixed(16))),
         _ => None,
     }
 }

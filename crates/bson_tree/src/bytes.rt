@@ -39,6 +39,13 @@ impl Bytes {
         Bytes { bytes }
     }
 
+    /// The bytes as a `Vec`, which takes no memory.
+    pub fn into_vec(self) -> Vec<u8>
+        ensures same { result.items ≡ self }
+    {
+        self.bytes
+    }
+
     /// The bytes.
     pub fn as_slice(&self) -> &[u8]
         ensures same { result.now ≡ self.now }

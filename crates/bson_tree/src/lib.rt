@@ -14,12 +14,16 @@
 
 mod bytes;
 mod copy;
+mod names;
 mod place;
 mod size;
+pub mod subtypes;
 mod tree;
+pub mod types;
 
 pub use bytes::Bytes;
 pub use copy::copy_doc;
+pub use names::Names;
 pub use place::{Place, value_at};
 pub use size::byte_size;
 pub use tree::{Body, Doc, Kids, Value};

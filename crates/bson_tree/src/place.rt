@@ -36,6 +36,20 @@ impl Place {
         }
     }
 
+    /// The place with the child numbers of a `Vec`, which takes no memory.
+    pub fn from_vec(steps: Vec<u32>) -> Place
+        ensures same { result ≡ steps.items }
+    {
+        Place { steps }
+    }
+
+    /// The child numbers as a `Vec`, which takes no memory.
+    pub fn into_vec(self) -> Vec<u32>
+        ensures same { result.items ≡ self }
+    {
+        self.steps
+    }
+
     /// The child numbers.
     pub fn as_slice(&self) -> &[u32]
         ensures same { result.now ≡ self.now }

@@ -2,7 +2,7 @@ ghost use Rattle.std.specs.Prelude.{◌≡◌, IfOk, OnOk};
 ghost use Rattle.bson_tree.specs.Tree.{leaf, node as node_tree, item, join, no_items};
 ghost use Rattle.bson_tree.specs.View.{tree};
 
-use crate::{Body, Bytes, Doc, Kids, Place, Value, byte_size, copy_doc, value_at};
+use crate::{Body, Bytes, Doc, Kids, Names, Place, Value, byte_size, copy_doc, value_at};
 use fle_outside::Memory;
 use std::alloc::Global;
 use std::test::Fail;
@@ -96,6 +96,30 @@ fn names_and_values_stand_in_order(rt: HostRuntime) -> Result<(), Fail> {
 fn bytes_of_a_vector_are_kept(rt: HostRuntime) -> Result<(), Fail> {
     let bytes = Bytes::from_vec(Vec::from_slice(rt.alloc(), b"hr")?);
     assert_eq!(rt; bytes.as_slice(), b"hr".as_slice());
+    assert_eq!(rt; bytes.into_vec().as_slice(), b"hr".as_slice());
+    let place = Place::from_vec(Vec::from_slice(rt.alloc(), &[1u32, 0])?);
+    assert_eq!(rt; place.as_slice(), [1u32, 0].as_slice());
+    assert_eq!(rt; place.into_vec().as_slice(), [1u32, 0].as_slice());
+    Ok(())
+}
+
+#[test]
+fn names_stand_in_the_order_of_pushing(rt: HostRuntime) -> Result<(), Fail> {
+    let mut names = Names::new(rt.alloc());
+    for text in [b"ssn".as_slice(), b"mail".as_slice()] {
+        if names.push(Bytes::from_slice(rt.alloc(), text)?).is_err() {
+            return Err(Fail::from(Memory));
+        }
+    }
+    assert_eq!(rt; names.len(), 2);
+    assert_eq!(rt;
+        names.name(1).map(|name| name.as_slice()),
+        Some(b"mail".as_slice())
+    );
+    assert!(rt; names.name(2).is_none());
+    let again = Names::from_vec(names.into_vec());
+    assert_eq!(rt; again.as_slice().len(), 2);
+    assert_eq!(rt; again.as_slice()[0].as_slice(), b"ssn".as_slice());
     Ok(())
 }
 

@@ -2,7 +2,7 @@
 use Rattle.std.proofs.Common.{◌≡◌, ◌∙◌, ℕ, ◌+◌, ◌<◌, List, ◌++◌, length, Some, arith, ap, sym, length-append}
 use Rattle.bson_tree.specs.Tree.{Tree, no_items, item}
 use Rattle.bson_tree.specs.Spelling.{value_bytes, items_bytes}
-use Rattle.bson_codec.specs.Raw.{At, Elem}
+use Rattle.bson_codec.specs.Borrowed.{At, Elem}
 use Rattle.bson_codec.specs.Elements.{TakesElement}
 use Rattle.encrypt_schema.specs.declared.marks.Mark.{Mark}
 use Rattle.command_marker.specs.Splices.{left_in, left, spliced_in, spliced}

@@ -2,7 +2,7 @@
 use Rattle.std.proofs.Common.{◌≡◌, ◌∙◌, ℕ, ◌+◌, Bool, true, false, cond, if◌then◌else◌, ◌&&◌, ◌||◌, not, List, [], ◌∷◌, ◌++◌, length, Ok, arith, codes, Option, Some, None, Result, refl, sym, ap}
 use Rattle.std.proofs.lemmas.Bool.{false≢true}
 use Rattle.bson_tree.specs.Tree.{Items, no_items, item}
-use Rattle.bson_codec.specs.Raw.{At}
+use Rattle.bson_codec.specs.Borrowed.{At}
 use Rattle.encrypt_schema.specs.declared.marks.Mark.{Mark}
 use Rattle.encrypt_schema.specs.declared.marks.MarkFault.{MarkFault}
 use Rattle.encrypt_schema.specs.declared.reason.Reason.{Reason}

@@ -1,26 +1,8 @@
--- A document whose length is put in last.
-use Rattle.std.proofs.Common.{◌≡◌, ◌∙◌, ℕ, ◌+◌, List, [], ◌∷◌, ◌++◌, length, take, drop, refl, sym, ap, append_assoc}
-use Rattle.std.proofs.lemmas.List.{take_at, drop_at, drop-drop}
-use Rattle.std.specs.Int.{to_le_bytes, w32}
+-- Elements one behind the other.
+use Rattle.std.proofs.Common.{◌≡◌, ℕ, List, ◌++◌, append_assoc}
 use Rattle.bson_tree.specs.Tree.{Tree, Items, no_items, item}
-use Rattle.bson_tree.specs.Spelling.{framed, items_bytes}
+use Rattle.bson_tree.specs.Spelling.{items_bytes}
 
 -- one element, and those behind it
 pub one_item : (name : List ℕ) (t : Tree) (is : Items) → items_bytes (item name t is) ≡ items_bytes (item name t no_items) ++ items_bytes is
 one_item name t is = simp append_assoc
-
--- a document's elements behind four bytes, and 00: once its length is put in, it is framed
-pub framed_at : (front elements items : List ℕ) (at size : ℕ)
-    → length front ≡ at → items ≡ front ++ (0 ∷ (0 ∷ (0 ∷ (0 ∷ (elements ++ 0 ∷ []))))) → size ≡ length elements + 5
-    → take at items ++ (to_le_bytes w32 size ++ drop (at + 4) items) ≡ front ++ framed elements
-framed_at front elements items at size here is sized =
-    let body : List ℕ = 0 ∷ (0 ∷ (0 ∷ (0 ∷ (elements ++ 0 ∷ [])))) in
-    let before : take at items ≡ front = ap (take at) is ∙ take_at front body at here in
-    let inside : drop (at + 4) items ≡ elements ++ 0 ∷ [] =
-    sym (drop-drop 4 at items) ∙ ap (drop 4) (ap (drop at) is ∙ drop_at front body at here) in
-    rw (before, inside, sized) refl
-
--- where no bytes are behind a document's elements but 00
-pub with_end : (old items front elements : List ℕ) → items ≡ old ++ 0 ∷ [] → old ≡ front ++ (0 ∷ (0 ∷ (0 ∷ (0 ∷ elements))))
-    → items ≡ front ++ (0 ∷ (0 ∷ (0 ∷ (0 ∷ (elements ++ 0 ∷ [])))))
-with_end old items front elements last is = rw (last, is) (append_assoc front (0 ∷ (0 ∷ (0 ∷ (0 ∷ elements)))) (0 ∷ []))

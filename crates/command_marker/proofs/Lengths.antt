@@ -1,23 +1,14 @@
 -- The lengths of spellings.
-use Rattle.std.proofs.Common.{◌≡◌, ℕ, ◌+◌, List, [], ◌∷◌, ◌++◌, length, arith, length-append}
+use Rattle.std.proofs.Common.{◌≡◌, ℕ, ◌+◌, List, [], ◌∷◌, length, arith}
 use Rattle.std.specs.Prelude.{codes}
-use Rattle.bson_tree.specs.Tree.{Tree, Items, leaf, no_items, item}
-use Rattle.bson_tree.specs.Spelling.{framed, value_bytes, items_bytes}
+use Rattle.bson_tree.specs.Tree.{Tree, leaf, no_items, item}
+use Rattle.bson_tree.proofs.Sizes.{framed_size, element_size}
+use Rattle.bson_tree.specs.Spelling.{value_bytes, items_bytes}
 use Rattle.encrypt_schema.specs.declared.policy.Policy.{Policy}
 use Rattle.payload6.specs.Payload.{algorithm_number}
 use Rattle.payload6.specs.Marking.{key_id, binary, marking_fields, marking}
 use Rattle.command_marker.specs.Marking.{marked_value}
 use Rattle.command_marker.specs.Written.{growth}
-
--- a document has 5 bytes more than its elements
-pub framed_size : (elements : List ℕ) → length (framed elements) ≡ length elements + 5
-framed_size elements = omega (arith, length-append elements (0 ∷ []))
-
--- an element has its type byte, its name, 00 and its value
-pub element_size : (name : List ℕ) (t : Tree) (is : Items)
-    → length (items_bytes (item name t is)) ≡ length name + 2 + length (value_bytes t) + length (items_bytes is)
-element_size name t is =
-    omega (arith, length-append name (0 ∷ (value_bytes t ++ items_bytes is)), length-append (value_bytes t) (items_bytes is))
 
 -- a binary has its length in four bytes, its subtype, and its contents
 binary_size : (subtype : ℕ) (contents : List ℕ) → length (value_bytes (binary subtype contents)) ≡ length contents + 5

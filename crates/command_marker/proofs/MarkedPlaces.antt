@@ -17,7 +17,8 @@ use Rattle.encrypt_schema.proofs.Worlds.{shown_in, shown}
 use Rattle.encrypt_schema.proofs.Apart.{own_marks, roles_shown}
 use Rattle.encrypt_schema.proofs.Taken.{marks_item, takes_among, takes_value}
 use Rattle.encrypt_schema.proofs.Plans.{AreBehind, earlier, behind}
-use Rattle.encrypt_schema.proofs.Widths.{framed_length, items_length}
+use Rattle.encrypt_schema.proofs.Widths.{items_length}
+use Rattle.bson_tree.proofs.Sizes.{framed_size}
 use Rattle.command_marker.specs.Marking.{marked_value}
 use Rattle.command_marker.specs.Marked.{marking_at, marked}
 use Rattle.command_marker.specs.MarkedPlaces.{rule_of, marking_of}
@@ -141,7 +142,7 @@ mutual
       let u = station rows s (entry name (node tag is)) in
       let p = at + (2 + length name) in
       let low : AreBehind (p + 4 + length (items_bytes is)) rest =
-      earlier (p + 4 + length (items_bytes is)) (p + length (framed (items_bytes is))) rest (omega (arith, framed_length (items_bytes is))) b in
+      earlier (p + 4 + length (items_bytes is)) (p + length (framed (items_bytes is))) rest (omega (arith, framed_size (items_bytes is))) b in
       filled_node rows u (visit s elder at name (node tag is)) tag is (marks rows (shown_in rows u p (node tag is))) rest
       (λ h. subst (λ (ms : List Mark). AreBehind p (ms ++ rest)) (sym (shown_node rows u p tag is h))
       (earlier p (p + 4) (marks rows (shown rows u (p + 4) [] is) ++ rest) (omega arith) (behind (takes_among rows u (p + 4) [] is rest) low)))

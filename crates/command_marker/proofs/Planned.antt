@@ -7,7 +7,7 @@ use Rattle.command_marker.specs.Reply.{reply, reply_limit, RepliesAs}
 use Rattle.bson_tree.specs.Tree.{Items}
 use Rattle.bson_tree.specs.Spelling.{items_bytes, doc_bytes}
 use Rattle.bson_tree.specs.Filled.{fill_items}
-use Rattle.bson_codec.specs.Raw.{At}
+use Rattle.bson_codec.specs.Borrowed.{At}
 use Rattle.encrypt_schema.specs.declared.marks.Mark.{Mark}
 use Rattle.encrypt_schema.specs.Policies.{policy_at}
 use Rattle.encrypt_schema.specs.Row.{Row}
@@ -19,7 +19,8 @@ use Rattle.encrypt_schema.proofs.Taken.{roles_taken, few_roles}
 use Rattle.command_marker.specs.Marked.{marking_at, marked}
 use Rattle.command_marker.specs.Splices.{spliced, added, put_at}
 use Rattle.command_marker.specs.Written.{AreRuled, IsPlan, SizesAs, growth, growth_by, marked_by, reply_end, reply_head}
-use Rattle.command_marker.proofs.Lengths.{framed_size, marking_size}
+use Rattle.command_marker.proofs.Lengths.{marking_size}
+use Rattle.bson_tree.proofs.Sizes.{framed_size}
 use Rattle.command_marker.proofs.MarkedPlaces.{put_marking, marked_roles}
 use Rattle.command_marker.proofs.Replies.{refused, replied, reply_size}
 use Rattle.command_marker.proofs.Splices.{alike, spliced_items}

@@ -7,7 +7,7 @@ use Rattle.std.specs.Int.{to_le_bytes, w32}
 use Rattle.bson_tree.specs.Tree.{Items, node, no_items, item}
 use Rattle.bson_tree.specs.Spelling.{items_bytes, doc_bytes}
 use Rattle.encrypt_schema.specs.declared.marks.Mark.{Mark}
-use Rattle.bson_codec.specs.Raw.{At}
+use Rattle.bson_codec.specs.Borrowed.{At}
 use Rattle.encrypt_schema.specs.Row.{Row}
 use Rattle.encrypt_schema.specs.Chains.{use_of_mark}
 use Rattle.encrypt_schema.proofs.Sites.{marks_of_sites}
@@ -18,7 +18,7 @@ use Rattle.command_marker.specs.Marked.{marked}
 use Rattle.command_marker.specs.Reply.{flag, one, reply_fields, reply, reply_to, reply_clear_to, reply_limit, RepliesAs}
 use Rattle.command_marker.specs.Written.{SizesAs, reply_end, reply_head}
 use Rattle.command_marker.proofs.Frames.{one_item}
-use Rattle.command_marker.proofs.Lengths.{element_size, framed_size}
+use Rattle.bson_tree.proofs.Sizes.{framed_size, element_size}
 
 -- a reply has 80 bytes more than its command
 pub reply_size : (marked ruled : Bool) (command : Items) → length (reply marked ruled command) ≡ length (doc_bytes command) + 80

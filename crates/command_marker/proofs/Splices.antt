@@ -6,7 +6,8 @@ use Rattle.bson_tree.specs.Tree.{Tree, leaf, node, Items, no_items, item}
 use Rattle.bson_tree.specs.Spelling.{framed, value_bytes, items_bytes}
 use Rattle.bson_tree.specs.Filled.{fill_tree, fill_items}
 use Rattle.encrypt_schema.specs.declared.marks.Mark.{Mark}
-use Rattle.encrypt_schema.proofs.Widths.{framed_length, items_length}
+use Rattle.encrypt_schema.proofs.Widths.{items_length}
+use Rattle.bson_tree.proofs.Sizes.{framed_size}
 use Rattle.command_marker.specs.Splices.{begins, is_before, left_in, left, spliced_in, spliced, added, put_at}
 use Rattle.encrypt_schema.proofs.Plans.{TakesIn, own, raw, inside, Takes, done, next, AreBehind, IsNextBehind, earlier, behind, untouched}
 
@@ -35,7 +36,7 @@ module _ (f : ℕ → Tree → Option Tree) (to : ℕ) (empty : (q : ℕ) (u : T
     same_in at (leaf tag bytes) h = ap (λ (o : Option Tree). unwrap_or o (leaf tag bytes)) (empty at (leaf tag bytes) (omega (arith, h)))
     same_in at (node tag is) h =
         ap (λ (o : Option Tree). unwrap_or o (node tag (fill_items f (at + 4) is))) (empty at (node tag is) (omega (arith, h)))
-        ∙ ap (node tag) (same (at + 4) is (omega (arith, h, framed_length (items_bytes is))))
+        ∙ ap (node tag) (same (at + 4) is (omega (arith, h, framed_size (items_bytes is))))
 
     pub same : (at : ℕ) (is : Items) → at + length (items_bytes is) ≤ to → fill_items f at is ≡ is
     same at no_items h = refl
@@ -61,7 +62,7 @@ module _ (put : Mark → Tree → Tree) where
         let off : (m.start == q) ≡ false = ne_eqb m.start q (λ same. omega (arith, same, s, h)) in
         rw off refl
     passed_in (raw at tag bytes ms) q u h = refl
-    passed_in (inside at tag is ms rest d) q u h = passed d q u (omega (arith, h, framed_length (items_bytes is)))
+    passed_in (inside at tag is ms rest d) q u h = passed d q u (omega (arith, h, framed_size (items_bytes is)))
 
     -- behind the elements the marks that they took put in nothing
     passed : {at : ℕ} {is : Items} {ms rest : List Mark} → Takes at is ms rest → (q : ℕ) (u : Tree)
@@ -115,7 +116,7 @@ module _ (put : Mark → Tree → Tree) where
         record {
           made = rw (off, on, absent) (ap (node tag) s.made);
           rests = rw (off, on) s.rests;
-          size = rw (off, on) (omega (arith, s.size, framed_length (items_bytes is), framed_length (items_bytes (spliced put (at + 4) ms is))));
+          size = rw (off, on) (omega (arith, s.size, framed_size (items_bytes is), framed_size (items_bytes (spliced put (at + 4) ms is))));
         }
 
     -- a value behind which the next mark stands
@@ -137,7 +138,7 @@ module _ (put : Mark → Tree → Tree) where
     of_node at tag is ms rest true e d b c s =
         of_open at tag is ms rest (not_begun at ms c) e (none_put ms at (node tag is) c) s
     of_node at tag is ms rest false e d b c s =
-        let end : at + length (framed (items_bytes is)) ≡ at + 4 + length (items_bytes is) + 1 = omega (arith, framed_length (items_bytes is)) in
+        let end : at + length (framed (items_bytes is)) ≡ at + 4 + length (items_bytes is) + 1 = omega (arith, framed_size (items_bytes is)) in
         let first = not_before (at + 4 + length (items_bytes is)) ms (subst (λ (n : ℕ). is_before n ms ≡ false) end e) in
         let all : ms ≡ rest = untouched d first in
         of_shut at tag is ms rest (not_begun at ms c) e all
@@ -170,7 +171,7 @@ module _ (put : Mark → Tree → Tree) where
       spliced_value (raw at tag bytes ms) b = of_raw at tag bytes ms (earlier at (at + length bytes) ms (omega arith) b)
       spliced_value (inside at tag is ms rest d) b =
           let low : AreBehind (at + 4 + length (items_bytes is)) rest =
-          earlier (at + 4 + length (items_bytes is)) (at + length (framed (items_bytes is))) rest (omega (arith, framed_length (items_bytes is))) b in
+          earlier (at + 4 + length (items_bytes is)) (at + length (framed (items_bytes is))) rest (omega (arith, framed_size (items_bytes is))) b in
           of_node at tag is ms rest (is_before (at + length (framed (items_bytes is))) ms) refl d b
           (earlier at (at + 4) ms (omega arith) (behind d low))
           (spliced_items d low)

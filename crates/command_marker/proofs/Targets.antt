@@ -1,15 +1,18 @@
 -- Refusals of a command's fields.
-use Rattle.std.proofs.Common.{◌≡◌, ◌<◌, ℕ, ◌+◌, ◌-◌, Bool, true, false, cond, ◌||◌, ◌&&◌, not, List, [], ◌∷◌, ◌++◌, length, take, drop, Option, Some, None, Err, refl, sym, ap, ◌∙◌, arith}
+use Rattle.std.proofs.Common.{◌≡◌, ◌==◌, ℕ, ◌+◌, Bool, true, false, cond, ◌||◌, ◌&&◌, not, List, [], ◌∷◌, ◌++◌, length, Option, Some, None, Err, refl, sym, ap, ◌∙◌}
 use Rattle.std.proofs.lemmas.Bool.{false≢true}
-use Rattle.bson_tree.specs.Tree.{Items, no_items, item}
+use Rattle.bson_tree.specs.Tree.{Tree, Items, leaf, no_items, item, tag_of}
 use Rattle.bson_tree.specs.Spelling.{value_bytes}
-use Rattle.bson_codec.specs.Raw.{At, Elem}
+use Rattle.bson_codec.specs.Borrowed.{At, Elem}
 use Rattle.bson_codec.specs.Elements.{TakesElement}
 use Rattle.encrypt_schema.specs.declared.reason.Reason.TheVariants.{NotACommand, NotBuilt, BadField, WrongDb}
 use Rattle.encrypt_schema.specs.Offences.{when, least, text_of}
-use Rattle.encrypt_schema.specs.Targets.{CommandField, command_fields, is_string, first_reasons, later_reasons, later_refusal, is_db, named_by, is_view, view_refusal, target, target_of}
+use Rattle.encrypt_schema.specs.Targets.{CommandField, command_fields, is_empty, is_string, first_reasons, later_reasons, later_refusal, is_db, named_by, is_view, view_refusal, target, target_of}
 use Rattle.encrypt_schema.specs.Collection.{collection_of}
-use Rattle.encrypt_schema.specs.Visits.{entry, Refusal, refused_at, or_else}
+use Rattle.encrypt_schema.specs.Names.{named}
+use Rattle.encrypt_schema.proofs.Texts.{text_is}
+use Rattle.bson_codec.specs.Layout.{string_bytes}
+use Rattle.encrypt_schema.specs.Visits.{entry, raw_of, Refusal, refused_at, or_else}
 use Rattle.command_marker.specs.Commands.{is_unbuilt, target_refusal, AimsAt, Refuses}
 use Rattle.encrypt_schema.specs.declared.marks.MarkFault.{MarkFault}
 use Rattle.encrypt_schema.specs.declared.marks.MarkFault.TheVariants as faults
@@ -26,11 +29,23 @@ least_later false true false = refl
 least_later false false true = refl
 least_later false false false = refl
 
--- fewer than five bytes hold no text
-pub short_text : (raw : List ℕ) → length raw < 5 → [] ≡ text_of raw
-short_text raw short =
-    let n : 0 ≡ length raw - 5 = omega (arith, short) in
-    ap (λ (k : ℕ). take k (drop 4 raw)) n
+-- the text of a string, and what is asked of it
+pub text_found : (t : Tree) (text : List ℕ) → t ≡ leaf 2 (string_bytes text) → text ≡ text_of (raw_of t)
+text_found t text e = rw e (sym (text_is text))
+
+pub empty_found : (t : Tree) (text : List ℕ) → t ≡ leaf 2 (string_bytes text)
+    → is_empty text ≡ (not (tag_of t == 2) || is_empty (text_of (raw_of t)))
+empty_found t text e = rw e (ap is_empty (sym (text_is text)))
+
+pub empty_none : (t : Tree) → (tag_of t == 2) ≡ false → true ≡ (not (tag_of t == 2) || is_empty (text_of (raw_of t)))
+empty_none t e = ap (λ (b : Bool). not b || is_empty (text_of (raw_of t))) (sym e)
+
+pub other_found : (t : Tree) (text word : List ℕ) → t ≡ leaf 2 (string_bytes text)
+    → not (named text word) ≡ ((tag_of t == 2) && not (named (text_of (raw_of t)) word))
+other_found t text word e = rw e (ap (λ (x : List ℕ). not (named x word)) (sym (text_is text)))
+
+pub other_none : (t : Tree) (word : List ℕ) → (tag_of t == 2) ≡ false → false ≡ ((tag_of t == 2) && not (named (text_of (raw_of t)) word))
+other_none t word e = ap (λ (b : Bool). b && not (named (text_of (raw_of t)) word)) (sym e)
 
 -- the fields that are left are the first one and the others
 pub left_fields : (left rest : At) (e : Elem) → TakesElement left (Some e) rest
@@ -97,6 +112,15 @@ insert_left true false passed form p q = absurd (false≢true (sym p))
 insert_left false false true form p q = absurd (false≢true (sym p))
 insert_left false false false true p q = absurd cc
 insert_left false false false false p q = absurd cc
+
+-- and its first field is a string
+pub string_left : (marked insert passed string empty : Bool) → ((marked && not insert) || passed) ≡ false
+    → None ≡ least (when (not (marked || passed)) NotACommand ++ when (marked && (not string || empty)) BadField) → string ≡ true
+string_left marked insert passed true empty p q = refl
+string_left true true passed false empty p q = absurd cc
+string_left true false passed false empty p q = absurd (false≢true (sym p))
+string_left false insert true false empty p q = absurd (false≢true (sym p))
+string_left false insert false false empty p q = absurd cc
 
 -- a refusal of the later fields is the command's
 pub aims_err : (db : List ℕ) (c : At) (refusal : Option Refusal) (fault : MarkFault) → target_refusal db c.start c.tree ≡ refusal → Refuses refusal (Err fault) → AimsAt db c (Err fault)

@@ -1,7 +1,7 @@
 -- What becomes of an element of a command whose next mark is known
 use Rattle.std.specs.Prelude.{◌≡◌, ℕ, ◌+◌, ◌<◌, List, length, drop}
 use Rattle.bson_tree.specs.Tree.{node, tag_of}
-use Rattle.bson_codec.specs.Raw.{Elem}
+use Rattle.bson_codec.specs.Borrowed.{Elem}
 use Rattle.encrypt_schema.specs.declared.marks.Mark.{Mark}
 use Rattle.encrypt_schema.specs.Row.{Row}
 use Rattle.command_marker.specs.declared.splicing.Step.{Step}

@@ -11,8 +11,8 @@ ghost use Rattle.command_marker.specs.Commands.{IsCovered, is_command};
 ghost use Rattle.std.specs.Prelude.{codes, true};
 
 use crate::names::is_documents;
-use crate::values::{ARRAY, DOCUMENT};
 use bson_codec::{RawDoc, RawItem};
+use bson_tree::types;
 use encrypt_schema::{
     MarkFault, Marks, Place, Reason, Rows, Table, has_name, mark_elements, stands_before,
 };
@@ -23,7 +23,7 @@ fn step_insert(item: &RawItem<'_>) -> Place
     ensures station { (rows : List Row) → station_by rows result ≡ station rows Insert (entry item.now.name item.now.tree) }
     ensures covered { (rows : List Row) → IsCovered rows result }
 {
-    if is_documents(item.name()) && item.tag() == ARRAY {
+    if is_documents(item.name()) && item.tag() == types::ARRAY {
         Place::Inserts
     } else {
         Place::Passed
@@ -39,7 +39,7 @@ fn offence_insert(document: &RawDoc<'_>, k: usize, item: &RawItem<'_>) -> Option
     if !is_documents(name) {
         return None;
     }
-    if item.tag() != ARRAY || stands_before(document, k, name) {
+    if item.tag() != types::ARRAY || stands_before(document, k, name) {
         return Some(Reason::BadField);
     }
     None
@@ -50,7 +50,7 @@ fn step_inserts(rows: &Rows, item: &RawItem<'_>) -> Place
     ensures station { station_by rows.now result ≡ station rows.now Inserts (entry item.now.name item.now.tree) }
     ensures covered { IsCovered rows.now result }
 {
-    if item.tag() == DOCUMENT {
+    if item.tag() == types::DOCUMENT {
         Place::Document(rows.root())
     } else {
         Place::Passed
@@ -62,7 +62,7 @@ fn step_inserts(rows: &Rows, item: &RawItem<'_>) -> Place
 fn offence_inserts(item: &RawItem<'_>) -> Option<Reason>
     ensures offence { (rows : List Row) (elder : List (List ℕ)) → result ≡ offence rows Inserts elder (entry item.now.name item.now.tree) }
 {
-    if item.tag() == DOCUMENT {
+    if item.tag() == types::DOCUMENT {
         None
     } else {
         Some(Reason::BadField)

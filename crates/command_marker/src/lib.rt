@@ -3,7 +3,6 @@
 
 mod contents;
 mod destination;
-mod frame;
 pub mod laws;
 mod marked;
 mod names;
@@ -12,7 +11,6 @@ mod sizes;
 mod splicing;
 mod stop;
 mod targeting;
-mod values;
 
 pub use destination::Target;
 pub use marked::{Marked, mark_command};

@@ -27,7 +27,7 @@ impl<'a> Model for Marked<'a> {
 
     ghost use Rattle.std.specs.Prelude.{List, refl};
     ghost use Rattle.std.specs.Coded.{code_by, coded×};
-    ghost use Rattle.bson_codec.specs.Raw.{At, coded_at};
+    ghost use Rattle.bson_codec.specs.Borrowed.{At, coded_at};
     ghost use Rattle.encrypt_schema.specs.Row.{Row};
     ghost use Rattle.encrypt_schema.specs.contracts.rows.Rows as rules;
 

@@ -7,13 +7,13 @@ ghost use Rattle.command_marker.specs.Marked.{marked as marked_command};
 ghost use Rattle.command_marker.specs.Reply.{RepliesAs, flag, one, reply as reply_bytes, reply_clear_to, reply_to};
 ghost use Rattle.command_marker.specs.Written.{IsPlan, reply_end, reply_head};
 
-use crate::frame::{append, put_name};
 use crate::marked::Marked;
 use crate::sizes::{clear_size, marked_size};
 use crate::splicing::put_document;
 use crate::stop::ReplyFault;
-use crate::values::{BOOL, DOCUMENT, DOUBLE};
 use bson_codec::RawDoc;
+use bson_codec::writing::{append, put_name};
+use bson_tree::types;
 use encrypt_schema::{Marks, Rows};
 use fle_outside::Memory;
 use std::alloc::Global;
@@ -146,7 +146,7 @@ fn bit(set: bool) -> u8
 fn put_flag(out: &mut Vec<u8>, name: &[u8], set: bool) -> Result<(), Memory>
     ensures flag { OnOk result (out.new.items ≡ out.old.items ++ items_bytes (item name.now (flag set) no_items)) }
 {
-    put_name(out, BOOL, name)?;
+    put_name(out, types::BOOL, name)?;
     append(out, &[bit(set)])?;
     Ok(())
 }
@@ -169,14 +169,14 @@ fn put_ruled_flag(out: &mut Vec<u8>, set: bool) -> Result<(), Memory>
 fn put_result_name(out: &mut Vec<u8>) -> Result<(), Memory>
     ensures named { OnOk result (out.new.items ≡ out.old.items ++ (3 ∷ (codes "result" ++ 0 ∷ []))) }
 {
-    put_name(out, DOCUMENT, b"result")
+    put_name(out, types::DOCUMENT, b"result")
 }
 
 /// Appends `ok`.
 fn put_ok(out: &mut Vec<u8>) -> Result<(), Memory>
     ensures ok { OnOk result (out.new.items ≡ out.old.items ++ items_bytes (item (codes "ok") one no_items)) }
 {
-    put_name(out, DOUBLE, b"ok")?;
+    put_name(out, types::DOUBLE, b"ok")?;
     append(out, &ONE)?;
     Ok(())
 }

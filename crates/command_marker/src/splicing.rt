@@ -11,15 +11,12 @@ ghost use Rattle.command_marker.specs.Splices.{left, left_in, spliced, spliced_i
 ghost use Rattle.command_marker.specs.Steps.{StepsAs};
 ghost use Rattle.command_marker.specs.Written.{AreRuled, growth, marked_by};
 
-use crate::frame::{append, close, open, put_name};
-use crate::values::BINARY;
+use bson_codec::writing::{append, close, open, put_name};
 use bson_codec::{RawDoc, RawItem};
+use bson_tree::{subtypes, types};
 use encrypt_schema::{KeyRef, Mark, Marks, Policy, Rows};
 use fle_outside::Memory;
 use payload6::put_marking;
-
-/// The subtype of a marking in a binary.
-const PAYLOAD: u8 = 6;
 
 /// How many bytes a marking, as it stands in a command, has more than its value and its key's id.
 const AROUND_MARKING: usize = 30;
@@ -113,9 +110,9 @@ fn put_marked(out: &mut Vec<u8>, policy: &Policy, item: &RawItem<'_>) -> Result<
     ensures element { OnOk result (out.new.items ≡ out.old.items ++ items_bytes (element item.now.name (marked_value policy.now item.now.tree) no_items)) }
 {
     let size = item.value().len() + growth_of(policy) - BINARY_HEAD;
-    put_name(out, BINARY, item.name())?;
+    put_name(out, types::BINARY, item.name())?;
     append(out, &(size as u32).to_le_bytes())?;
-    append(out, &[PAYLOAD])?;
+    append(out, &[subtypes::ENCRYPTED])?;
     put_marking(out, item, policy)?;
     Ok(())
 }

@@ -1,15 +1,16 @@
 //! Which command it is, on which collection.
 
-ghost use Rattle.std.specs.Prelude.{◌≡◌, false};
+ghost use Rattle.std.specs.Prelude.{◌≡◌, ◌||◌, ◌&&◌, not, true, false};
+ghost use Rattle.encrypt_schema.specs.Names.{named};
 ghost use Rattle.encrypt_schema.specs.Offences.{least, text_of};
-ghost use Rattle.encrypt_schema.specs.Targets.{command_fields, first_reasons, is_empty, later_reasons, later_refusal};
+ghost use Rattle.encrypt_schema.specs.Targets.{command_fields, first_reasons, is_empty, is_string, later_reasons, later_refusal};
 ghost use Rattle.encrypt_schema.specs.Visits.{entry, raw_of};
 ghost use Rattle.command_marker.specs.Commands.{AimsAt, Refuses};
 
 use crate::destination::Target;
 use crate::names::{is_db, is_marked, is_passed, is_unbuilt};
-use crate::values::STRING;
 use bson_codec::{RawDoc, RawItem, RawIter};
+use bson_tree::types;
 use encrypt_schema::{MarkFault, Reason, is_named};
 
 /// Where a command on this database goes; else the first of its fields that is refused, by themselves:
@@ -43,7 +44,7 @@ pub fn target<'a>(db: &[u8], command: &RawDoc<'a>) -> Result<Target<'a>, MarkFau
         });
     }
     match check_fields(db, name, fields) {
-        Ok(()) => Ok(Target::Collection(text_in(raw(&first)))),
+        Ok(()) => Ok(Target::Collection(name_in(&first))),
         Err(fault) => Err(fault),
     }
 }
@@ -57,7 +58,7 @@ fn first_reason(field: &RawItem<'_>) -> Option<Reason>
     if !(marked || is_passed(name)) {
         return Some(Reason::NotACommand);
     }
-    if marked && (field.tag() != STRING || is_empty(text_in(raw(field)))) {
+    if marked && names_nothing(field) {
         return Some(Reason::BadField);
     }
     None
@@ -87,37 +88,48 @@ fn later_reason(db: &[u8], command: &[u8], seen: bool, field: &RawItem<'_>) -> O
     ensures { result ≡ least (later_reasons db.now command.now seen (entry field.now.name field.now.tree)) }
 {
     let name = field.name();
-    let string = field.tag() == STRING;
+    let string = field.tag() == types::STRING;
     if is_named(name, command) || (is_db(name) && (seen || !string)) {
         return Some(Reason::BadField);
     }
-    if is_db(name) && (string && !is_named(text_in(raw(field)), db)) {
+    if is_db(name) && names_another(field, db) {
         return Some(Reason::WrongDb);
     }
     None
 }
 
-/// The bytes of a raw value; none of a document or an array.
-fn raw<'a>(item: &RawItem<'a>) -> &'a [u8]
-    ensures raw { result.now ≡ raw_of item.now.tree }
+/// The text of a field that is a string.
+#[tactic(auto, using(crate::proofs::Targets::text_found))]
+fn name_in<'a>(field: &RawItem<'a>) -> &'a [u8]
+    requires { is_string (entry field.now.name field.now.tree) ≡ true }
+    ensures text { result.now ≡ text_of (raw_of field.now.tree) }
 {
-    match item.child() {
-        Some(_) => &[],
-        None => item.value(),
+    match field.text() {
+        Some(text) => text,
+        None => unreachable!(),
     }
 }
 
-/// The text in the bytes of a string: behind a length of four bytes, and before a final 00.
-#[tactic(auto, using(crate::proofs::Targets::short_text))]
-fn text_in<'a>(raw: &'a [u8]) -> &'a [u8]
-    ensures text { result.now ≡ text_of raw.now }
+/// Whether a field is no string, or the empty one.
+#[tactic(auto, using(crate::proofs::Targets::empty_found, crate::proofs::Targets::empty_none))]
+fn names_nothing(field: &RawItem<'_>) -> bool
+    ensures { result ≡ (not (is_string (entry field.now.name field.now.tree)) || is_empty (text_of (raw_of field.now.tree))) }
 {
-    if raw.len() < 5 {
-        return &[];
+    match field.text() {
+        Some(text) => is_empty(text),
+        None => true,
     }
-    let (_, behind) = raw.split_at(4);
-    let (text, _) = behind.split_at(raw.len() - 5);
-    text
+}
+
+/// Whether a field is a string that isn't this name.
+#[tactic(auto, using(crate::proofs::Targets::other_found, crate::proofs::Targets::other_none))]
+fn names_another(field: &RawItem<'_>, word: &[u8]) -> bool
+    ensures { result ≡ (is_string (entry field.now.name field.now.tree) && not (named (text_of (raw_of field.now.tree)) word.now)) }
+{
+    match field.text() {
+        Some(text) => !is_named(text, word),
+        None => false,
+    }
 }
 
 /// Whether there is no byte.

@@ -10,7 +10,8 @@ use Rattle.encrypt_schema.specs.Stations.{Station, Outside, Store, Compare, stat
 use Rattle.encrypt_schema.specs.Visits.{is_payload, entry, command_entry, Visit, visit, visits, command_visit, mark_at, marks, roles}
 use Rattle.encrypt_schema.specs.Skeletons.{hole, plain, branch, skeleton_in, skeletons, skeleton, width_of, holes_in, holes, hole_at, AreApart}
 use Rattle.encrypt_schema.proofs.Tables.{command_without_role}
-use Rattle.encrypt_schema.proofs.Widths.{framed_length, items_length, width_kept}
+use Rattle.encrypt_schema.proofs.Widths.{items_length, width_kept}
+use Rattle.bson_tree.proofs.Sizes.{framed_size}
 use Rattle.encrypt_schema.proofs.Worlds.{shown_in, shown}
 use Rattle.encrypt_schema.proofs.Silence.{marks_append, cut}
 
@@ -51,7 +52,7 @@ apart_node : (rows : List Row) (u : Station) (at : ℕ) (is : Items) (b : Bool)
 apart_node rows u at is true a = omega arith
 apart_node rows u at is false a =
     wider at (at + 4) (marks rows (shown rows u (at + 4) [] is)) (at + 4 + length (items_bytes is)) (at + length (framed (items_bytes is)))
-    (omega arith) (omega (arith, framed_length (items_bytes is))) a
+    (omega arith) (omega (arith, framed_size (items_bytes is))) a
 
 -- the marks of one element, and of those behind it
 apart_item : (rows : List Row) (s : Station) (at : ℕ) (elder : List (List ℕ)) (name : List ℕ) (t : Tree) (is : Items)
@@ -116,7 +117,7 @@ roles_apart rows at c =
     let s = station rows Outside (command_entry c) in
     let a = apart_among rows s (at + 4) [] c in
     subst (λ (ms : List Mark). AreApart (at + 4) ms (at + length (doc_bytes c))) (sym (roles_shown rows at c))
-    (wider (at + 4) (at + 4) (marks rows (shown rows s (at + 4) [] c)) (at + 4 + length (items_bytes c)) (at + length (doc_bytes c)) (omega arith) (omega (arith, framed_length (items_bytes c))) a)
+    (wider (at + 4) (at + 4) (marks rows (shown rows s (at + 4) [] c)) (at + 4 + length (items_bytes c)) (at + length (doc_bytes c)) (omega arith) (omega (arith, framed_size (items_bytes c))) a)
 
 -- a value's own hole, or the holes inside it
 

@@ -3,7 +3,8 @@ use Rattle.std.proofs.Common.{◌≡◌, ℕ, ◌+◌, ◌<◌, ◌≤◌, List,
 use Rattle.bson_tree.specs.Tree.{Tree, leaf, node, Items, no_items, item}
 use Rattle.bson_tree.specs.Spelling.{framed, value_bytes, items_bytes}
 use Rattle.encrypt_schema.specs.declared.marks.Mark.{Mark}
-use Rattle.encrypt_schema.proofs.Widths.{framed_length, items_length}
+use Rattle.encrypt_schema.proofs.Widths.{items_length}
+use Rattle.bson_tree.proofs.Sizes.{framed_size}
 
 mutual
   -- a value that begins at `at` takes marks from the front of a list: its own, or those inside it; the others are left
@@ -46,7 +47,7 @@ mutual
   behind_in (raw at tag bytes ms) n h b = earlier n (at + length bytes) ms (omega (arith, h)) b
   behind_in (inside at tag is ms rest d) n h b =
       earlier n (at + 4) ms (omega (arith, h))
-      (behind d (earlier (at + 4 + length (items_bytes is)) (at + length (framed (items_bytes is))) rest (omega (arith, framed_length (items_bytes is))) b))
+      (behind d (earlier (at + 4 + length (items_bytes is)) (at + length (framed (items_bytes is))) rest (omega (arith, framed_size (items_bytes is))) b))
 
   -- where the marks that are left begin behind the elements, all begin behind the elements' first byte
   pub behind : {at : ℕ} {is : Items} {ms rest : List Mark} → Takes at is ms rest
@@ -62,7 +63,7 @@ mutual
   untouched_in (own at t m ms s e) b = absurd (omega (arith, s, b))
   untouched_in (raw at tag bytes ms) b = refl
   untouched_in (inside at tag is ms rest d) b =
-      untouched d (first_behind (at + 4 + length (items_bytes is)) (at + length (framed (items_bytes is))) ms (omega (arith, framed_length (items_bytes is))) b)
+      untouched d (first_behind (at + 4 + length (items_bytes is)) (at + length (framed (items_bytes is))) ms (omega (arith, framed_size (items_bytes is))) b)
 
   -- elements that end before the first mark take none
   pub untouched : {at : ℕ} {is : Items} {ms rest : List Mark} → Takes at is ms rest

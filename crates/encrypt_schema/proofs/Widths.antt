@@ -1,16 +1,13 @@
 -- What the skeleton of a value keeps of it: names, lengths, and what is looked at of it behind its veil.
 use Rattle.std.proofs.Common.{◌≡◌, ℕ, ◌+◌, Bool, true, false, cond, List, [], ◌∷◌, length, refl, sym, ap, ◌∙◌, arith, length-append}
 use Rattle.bson_tree.specs.Tree.{Tree, leaf, node, Items, no_items, item}
+use Rattle.bson_tree.proofs.Sizes.{framed_size}
 use Rattle.bson_tree.specs.Spelling.{framed, value_bytes, items_bytes}
 use Rattle.encrypt_schema.specs.Row.{Row}
 use Rattle.encrypt_schema.specs.Stations.{Entry, Station, station, has_role}
 use Rattle.encrypt_schema.specs.Visits.{names_of, is_payload, entry}
 use Rattle.encrypt_schema.specs.Skeletons.{Skeleton, hole, plain, branch, Skeletons, no_more, more, skeleton_in, skeletons, width_of, widths_of}
 use Rattle.encrypt_schema.proofs.Tables.{without, station_without}
-
--- a document: four bytes of length, its elements, 00
-pub framed_length : (bs : List ℕ) → length (framed bs) ≡ length bs + 5
-framed_length bs = simp length-append (omega arith)
 
 -- an element: a type byte, a name, 00, a value
 pub items_length : (name : List ℕ) (t : Tree) (is : Items)
@@ -46,7 +43,7 @@ mutual
       [ true ↦ refl | false ↦ refl ]
   width_kept rows s (node tag is) =
       elim (has_role s) as (λ b. width_of (cond b (hole tag (length (framed (items_bytes is))) false) (branch tag (skeletons rows s is))) ≡ length (framed (items_bytes is)))
-      [ true ↦ refl | false ↦ omega (arith, widths_kept rows s is, framed_length (items_bytes is)) ]
+      [ true ↦ refl | false ↦ omega (arith, widths_kept rows s is, framed_size (items_bytes is)) ]
 
   pub widths_kept : (rows : List Row) (s : Station) (is : Items)
       → widths_of (skeletons rows s is) ≡ length (items_bytes is)

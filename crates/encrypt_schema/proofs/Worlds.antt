@@ -9,7 +9,8 @@ use Rattle.encrypt_schema.specs.Offences.{offence, least}
 use Rattle.encrypt_schema.specs.Visits.{is_payload, entry, command_entry, Visit, visit, command_visit, mark_at, marks, Refusal, refusal, refused_at, first_refusal, or_else, station_of, offence_of}
 use Rattle.encrypt_schema.specs.Skeletons.{Skeleton, hole, plain, branch, Skeletons, no_more, more, skeleton_in, skeletons, skeleton, width_of, widths_of}
 use Rattle.encrypt_schema.proofs.Tables.{without, station_without, reasons_without, command_without_role}
-use Rattle.encrypt_schema.proofs.Widths.{framed_length, entry_in, names_kept, width_kept, widths_kept, veiled, entry_kept, station_kept}
+use Rattle.encrypt_schema.proofs.Widths.{entry_in, names_kept, width_kept, widths_kept, veiled, entry_kept, station_kept}
+use Rattle.bson_tree.proofs.Sizes.{framed_size}
 
 -- the places that aren't below a protected one
 abbrev mutual
@@ -108,7 +109,7 @@ command_kept rows at c =
     let a : e ≡ entry_in [] (branch 3 (skeletons rows u c))
     = ap (λ (ns : List (List ℕ)). record { name = []; tag = 3; names = ns; raw = []; payload = false }) (sym (names_kept rows u c)) in
     let v = command_veiled rows e in
-    let w : widths_of (skeletons rows u c) + 5 ≡ length (framed (items_bytes c)) = omega (arith, widths_kept rows u c, framed_length (items_bytes c)) in
+    let w : widths_of (skeletons rows u c) + 5 ≡ length (framed (items_bytes c)) = omega (arith, widths_kept rows u c, framed_size (items_bytes c)) in
     let rest : map (veil rows) (shown rows u (at + 4) [] c) ≡ seen rows (station rows Outside (entry_in [] (branch 3 (skeletons rows u c)))) (at + 4) [] (skeletons rows u c)
     = shown_kept rows u (at + 4) [] c ∙ ap (λ (f : Entry). seen rows (station rows Outside f) (at + 4) [] (skeletons rows u c)) a in
     let first : veil rows (command_visit c) ≡ record { parent = Outside; elder = []; entry = entry_in [] (branch 3 (skeletons rows u c)); start = 0; width = widths_of (skeletons rows u c) + 5 }

@@ -1,7 +1,7 @@
 -- What the code's own types for schemas and infos stand for
 use Rattle.std.specs.Prelude.{ℕ, List, [], ◌∷◌, ◌++◌, map, Option, Some, None}
 use Rattle.bson_tree.specs.Tree.{Items}
-use Rattle.bson_codec.specs.Raw.{At}
+use Rattle.bson_codec.specs.Borrowed.{At}
 use Rattle.encrypt_schema.specs.declared.field.Field.{Field}
 use Rattle.encrypt_schema.specs.declared.field.Field.TheVariants as fields
 use Rattle.encrypt_schema.specs.declared.info_fields.InfoFields.{InfoFields}

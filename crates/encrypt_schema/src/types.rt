@@ -13,37 +13,67 @@ use crate::policy::{Algorithm, TypeSet};
 use crate::settings::encrypt_setting;
 use crate::values::{is_string, text_of};
 use bson_codec::{RawDoc, RawItem};
-use bson_tree::Bytes;
+use bson_tree::{Bytes, types};
 use fle_outside::Memory;
 use std::alloc::Global;
 
 /// Each alias with its type byte, as BSON 1.1 has them.
 static TYPE_NAMES: [(&'static [u8], u8); 17] = [
-    (b"double", 1),
-    (b"string", 2),
-    (b"object", 3),
-    (b"array", 4),
-    (b"binData", 5),
-    (b"objectId", 7),
-    (b"bool", 8),
-    (b"date", 9),
-    (b"regex", 11),
-    (b"dbPointer", 12),
-    (b"javascript", 13),
-    (b"symbol", 14),
-    (b"javascriptWithScope", 15),
-    (b"int", 16),
-    (b"timestamp", 17),
-    (b"long", 18),
-    (b"decimal", 19),
+    (b"double", types::DOUBLE),
+    (b"string", types::STRING),
+    (b"object", types::DOCUMENT),
+    (b"array", types::ARRAY),
+    (b"binData", types::BINARY),
+    (b"objectId", types::OBJECT_ID),
+    (b"bool", types::BOOL),
+    (b"date", types::DATE),
+    (b"regex", types::REGEX),
+    (b"dbPointer", types::DB_POINTER),
+    (b"javascript", types::CODE),
+    (b"symbol", types::SYMBOL),
+    (b"javascriptWithScope", types::CODE_WITH_SCOPE),
+    (b"int", types::INT),
+    (b"timestamp", types::TIMESTAMP),
+    (b"long", types::LONG),
+    (b"decimal", types::DECIMAL),
 ];
 
 /// Every type that can be protected.
-const EVERY_TYPE: [u8; 17] = [1, 2, 3, 4, 5, 7, 8, 9, 11, 12, 13, 14, 15, 16, 17, 18, 19];
+const EVERY_TYPE: [u8; 17] = [
+    types::DOUBLE,
+    types::STRING,
+    types::DOCUMENT,
+    types::ARRAY,
+    types::BINARY,
+    types::OBJECT_ID,
+    types::BOOL,
+    types::DATE,
+    types::REGEX,
+    types::DB_POINTER,
+    types::CODE,
+    types::SYMBOL,
+    types::CODE_WITH_SCOPE,
+    types::INT,
+    types::TIMESTAMP,
+    types::LONG,
+    types::DECIMAL,
+];
 
 /// Every type that the deterministic algorithm can protect: not double, object, array, bool,
 /// javascriptWithScope and decimal.
-const COMPARABLE_TYPES: [u8; 11] = [2, 5, 7, 9, 11, 12, 13, 14, 16, 17, 18];
+const COMPARABLE_TYPES: [u8; 11] = [
+    types::STRING,
+    types::BINARY,
+    types::OBJECT_ID,
+    types::DATE,
+    types::REGEX,
+    types::DB_POINTER,
+    types::CODE,
+    types::SYMBOL,
+    types::INT,
+    types::TIMESTAMP,
+    types::LONG,
+];
 
 /// The types of a rule with this algorithm.
 #[tactic(auto, unfolding(crate::specs::Rules::types_of))]

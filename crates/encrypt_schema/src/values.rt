@@ -5,19 +5,7 @@ ghost use Rattle.encrypt_schema.specs.Values.{find, are_distinct, is_string, is_
 
 use crate::names::is_named;
 use bson_codec::{RawDoc, RawItem};
-
-/// The type byte of a string.
-const STRING: u8 = 0x02;
-/// The type byte of a document.
-const DOCUMENT: u8 = 0x03;
-/// The type byte of an array.
-const ARRAY: u8 = 0x04;
-/// The type byte of a binary.
-const BINARY: u8 = 0x05;
-/// The type byte of a bool.
-const BOOL: u8 = 0x08;
-/// The subtype of a UUID in a binary.
-const UUID: u8 = 0x04;
+use bson_tree::{subtypes, types};
 
 /// The first field of this name.
 #[tactic(auto, unfolding(crate::specs::Values::find))]
@@ -36,28 +24,28 @@ pub(crate) fn find<'a>(document: &RawDoc<'a>, word: &[u8]) -> Option<RawItem<'a>
 pub(crate) fn is_string(item: &RawItem<'_>) -> bool
     ensures { result ≡ is_string item.now.tree }
 {
-    item.tag() == STRING
+    item.tag() == types::STRING
 }
 
 /// Whether the value is a document.
 pub(crate) fn is_document(item: &RawItem<'_>) -> bool
     ensures { result ≡ is_document item.now.tree }
 {
-    item.tag() == DOCUMENT
+    item.tag() == types::DOCUMENT
 }
 
 /// Whether the value is an array.
 pub(crate) fn is_array(item: &RawItem<'_>) -> bool
     ensures { result ≡ is_array item.now.tree }
 {
-    item.tag() == ARRAY
+    item.tag() == types::ARRAY
 }
 
 /// Whether the value is a bool.
 pub(crate) fn is_bool(item: &RawItem<'_>) -> bool
     ensures { result ≡ is_bool item.now.tree }
 {
-    item.tag() == BOOL
+    item.tag() == types::BOOL
 }
 
 /// Whether each value is a document.
@@ -85,7 +73,7 @@ pub(crate) fn are_strings(document: &RawDoc<'_>) -> bool
 }
 
 /// The text of a string.
-#[tactic(auto, using(crate::proofs::Texts::text_is))]
+#[tactic(auto, using(crate::proofs::Texts::text_found))]
 pub(crate) fn text_of<'a>(item: &RawItem<'a>) -> Option<&'a [u8]>
     ensures { option_copied result ≡ text_of item.now.tree }
 {
@@ -93,13 +81,14 @@ pub(crate) fn text_of<'a>(item: &RawItem<'a>) -> Option<&'a [u8]>
 }
 
 /// The 16 bytes of a UUID.
+#[tactic(auto, using(crate::proofs::Texts::uuid_found, crate::proofs::Texts::no_uuid))]
 pub(crate) fn uuid_of(item: &RawItem<'_>) -> Option<[u8; 16]>
     ensures { result ≡ uuid_of item.now.tree }
 {
-    let bytes = item.value();
-    if item.tag() == BINARY && bytes.len() == 21 && bytes[4] == UUID {
+    let (subtype, contents) = item.binary()?;
+    if contents.len() == 16 && subtype == subtypes::UUID {
         let mut id = [0; 16];
-        id.copy_from_slice(&bytes[5..]);
+        id.copy_from_slice(contents);
         Some(id)
     } else {
         None

@@ -11,6 +11,7 @@ use crate::aead::DATA_KEY;
 use crate::checksum::adler32;
 use crate::input::message;
 use crate::job::MOST_BYTES;
+use bson_tree::types::BINARY;
 use crypto_hooks::Tables;
 use encrypt_schema::Algorithm;
 use fle_aead::DataKey;
@@ -24,9 +25,6 @@ use std::alloc::{AllocError, Global};
 const KEY_ID: [u8; 16] = [
     0x00, 0x11, 0x22, 0x33, 0x44, 0x55, 0x46, 0x77, 0x88, 0x99, 0xaa, 0xbb, 0xcc, 0xdd, 0xee, 0xff,
 ];
-
-/// The type byte of a binary.
-const BINARY: u8 = 0x05;
 
 /// The vector of a random payload.
 const VECTOR: [u8; 16] = [

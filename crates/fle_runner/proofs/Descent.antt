@@ -6,10 +6,10 @@ use Rattle.std.proofs.lemmas.Bool.Decides.{nat_tests}
 use Rattle.bson_tree.specs.Tree.{Tree, Items, leaf, node, no_items, item}
 use Rattle.bson_tree.specs.Spelling.{value_bytes, items_bytes}
 use Rattle.bson_tree.specs.Places.{start_in, start_from}
-use Rattle.bson_codec.proofs.Frames.{framed_length}
+use Rattle.bson_tree.proofs.Sizes.{framed_size}
 use Rattle.bson_codec.proofs.Offsets.{within_from}
 use Rattle.bson_codec.proofs.Spots.{same}
-use Rattle.bson_codec.specs.Raw.{has_inside, holds}
+use Rattle.bson_codec.specs.Borrowed.{has_inside, holds}
 use Rattle.fle_runner.specs.Descent.{spot_in, spot_from}
 
 -- ---- choices
@@ -45,7 +45,7 @@ holds_inside at start name (node tag is) [] e = holds_first at start true (lengt
 holds_inside at start name (leaf tag bytes) (i ∷ place) e = absurd cc
 holds_inside at start name (node tag is) (i ∷ place) e =
     let inside = within_from i place (start + 4) is at e in
-    holds_between at start (length (value_bytes (node tag is))) (omega (arith, inside.from)) (omega (arith, inside.to, framed_length (items_bytes is)))
+    holds_between at start (length (value_bytes (node tag is))) (omega (arith, inside.from)) (omega (arith, inside.to, framed_size (items_bytes is)))
 
 -- no element holds the offsets at which values of later ones begin
 holds_no_later : (at start : ℕ) (name : List ℕ) (t : Tree) (is : Items) (i : ℕ) (place : List ℕ)

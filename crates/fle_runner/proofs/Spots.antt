@@ -5,9 +5,9 @@ use Rattle.std.proofs.lemmas.Bool.{ne_eqb}
 use Rattle.bson_tree.specs.Tree.{Tree, Items, leaf, node, no_items, item, tree_size, items_size}
 use Rattle.bson_tree.specs.Spelling.{value_bytes}
 use Rattle.bson_tree.specs.Places.{start_of, place_of}
-use Rattle.bson_codec.specs.Raw.{Elem}
+use Rattle.bson_codec.specs.Borrowed.{Elem}
 use Rattle.bson_codec.proofs.Spots.{same, place_begun, place_none}
-use Rattle.bson_codec.specs.Raw.{holds, holding}
+use Rattle.bson_codec.specs.Borrowed.{holds, holding}
 use Rattle.fle_runner.specs.Descent.{spot_in, spot_from, below}
 use Rattle.fle_runner.proofs.Descent.{if_true, if_false, found_from, begins_from}
 

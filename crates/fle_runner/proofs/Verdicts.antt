@@ -4,7 +4,7 @@ use Rattle.std.proofs.lemmas.Bool.{false≢true}
 use Rattle.bson_tree.specs.Tree.{Tree, leaf, node, Items, no_items, item}
 use Rattle.bson_tree.specs.Filled.{fill_tree, fill_items}
 use Rattle.bson_tree.specs.Spelling.{value_bytes}
-use Rattle.bson_codec.specs.Raw.{At}
+use Rattle.bson_codec.specs.Borrowed.{At}
 use Rattle.encrypt_schema.specs.declared.marks.Mark.{Mark}
 use Rattle.encrypt_schema.specs.declared.marks.MarkFault.{MarkFault}
 use Rattle.encrypt_schema.specs.declared.marks.MarkFault.TheVariants as faults

@@ -1,6 +1,6 @@
 -- When what a payload opens to is a value that may have been sealed.
 use Rattle.std.specs.Prelude.{◌≡◌, ℕ, Bool, false, ◌||◌, ◌==◌, List}
-use Rattle.bson_codec.specs.Raw.{SpellsWithin}
+use Rattle.bson_codec.specs.Borrowed.{SpellsWithin}
 use Rattle.fle_aead.specs.Sealed.{iv_of, IsSealed}
 
 -- BSON 1.1: the types with a single value, which spell nothing: undefined, null, maximal and minimal

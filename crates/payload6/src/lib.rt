@@ -21,7 +21,6 @@ pub use opening::{PayloadFault, open_payload_into};
 pub use payload::{DETERMINISTIC, PartsFault, Payload, RANDOM, parts};
 pub use sealing::{det_iv, payload_len, seal_payload_into};
 
-mod appending;
 pub mod laws;
 mod markings;
 mod opening;

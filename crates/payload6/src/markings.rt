@@ -8,22 +8,13 @@ ghost use Rattle.bson_tree.specs.Tree.{item as element, leaf, no_items};
 ghost use Rattle.payload6.specs.Marking.{binary, key_id, marking, marking_fields};
 ghost use Rattle.payload6.specs.Payload.{algorithm_number};
 
-use crate::appending::{append, put_name, with_room};
 use crate::payload::{DETERMINISTIC, RANDOM};
 use bson_codec::RawItem;
-use bson_tree::Bytes;
+use bson_codec::writing::{append, put_name};
+use bson_tree::{Bytes, subtypes, types};
 use encrypt_schema::{Algorithm, KeyRef, Policy};
 use fle_outside::Memory;
 use std::alloc::Global;
-
-/// The type byte of an int.
-const INT: u8 = 0x10;
-
-/// The type byte of a binary.
-const BINARY: u8 = 0x05;
-
-/// The subtype of a UUID in a binary.
-const UUID: u8 = 4;
 
 /// How many bytes the document of a marking has more than its value.
 const DOCUMENT: usize = 40;
@@ -37,6 +28,16 @@ pub fn marking(alloc: Global, item: &RawItem<'_>, policy: &Policy) -> Result<Byt
     let mut out = with_room(alloc, 1 + DOCUMENT + item.value().len())?;
     put_marking(&mut out, item, policy)?;
     Ok(Bytes::from_vec(out))
+}
+
+/// An empty buffer with room for this many bytes.
+fn with_room(alloc: Global, size: usize) -> Result<Vec<u8>, Memory>
+    ensures empty { IfOk result (λ v. v.items ≡ []) }
+{
+    match Vec::with_capacity(alloc, size) {
+        Ok(out) => Ok(out),
+        Err(_) => Err(Memory),
+    }
 }
 
 /// Appends the marking of an element's value, of any length. `Memory` where there is none for it, with a part of
@@ -85,7 +86,7 @@ fn put_algorithm(out: &mut Vec<u8>, algorithm: Algorithm) -> Result<(), Memory>
     ensures { OnOk result (out.new.items ≡ out.old.items ++ items_bytes
         (element (codes "a") (leaf 16 (algorithm_number algorithm ∷ (0 ∷ (0 ∷ (0 ∷ []))))) no_items)) }
 {
-    put_name(out, INT, b"a")?;
+    put_name(out, types::INT, b"a")?;
     append(out, &[kind_of(algorithm), 0, 0, 0])?;
     Ok(())
 }
@@ -95,8 +96,8 @@ fn put_key_id(out: &mut Vec<u8>, id: &[u8; 16]) -> Result<(), Memory>
     ensures { OnOk result
         (out.new.items ≡ out.old.items ++ items_bytes (element (codes "ki") (binary 4 id.now) no_items)) }
 {
-    put_name(out, BINARY, b"ki")?;
-    append(out, &[16, 0, 0, 0, UUID])?;
+    put_name(out, types::BINARY, b"ki")?;
+    append(out, &[16, 0, 0, 0, subtypes::UUID])?;
     append(out, id)?;
     Ok(())
 }

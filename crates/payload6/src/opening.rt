@@ -8,6 +8,7 @@ ghost use Rattle.payload6.specs.Payload.{IsSealedPayload};
 
 use crate::payload::Payload;
 use bson_codec::check_value;
+use bson_tree::types;
 use crypto_hooks::Block256;
 use fle_aead::{DataKey, OpenFault, open_into};
 
@@ -81,7 +82,6 @@ pub fn open_payload_into<B: Block256>(
 
 /// Whether the bytes spell a value of a type that may be sealed, which adds at most so many levels.
 fn is_original(tag: u8, plain: &[u8], levels: u32) -> bool
-    requires { length plain.now < 2 ^ 31 }
     ensures { IsTrue result ↔ IsOriginal levels tag plain.now }
 {
     !is_single(tag) && check_value(tag, plain, levels)
@@ -91,5 +91,5 @@ fn is_original(tag: u8, plain: &[u8], levels: u32) -> bool
 fn is_single(tag: u8) -> bool
     ensures { result ≡ single tag }
 {
-    tag == 0x06 || tag == 0x0A || tag == 0x7F || tag == 0xFF
+    tag == types::UNDEFINED || tag == types::NULL || tag == types::MAX_KEY || tag == types::MIN_KEY
 }

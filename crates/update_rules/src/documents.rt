@@ -10,15 +10,10 @@ ghost use Rattle.encrypt_schema.specs.Walking.{Begins, Marked, station_by};
 ghost use Rattle.update_rules.specs.Covered.{IsStored};
 
 use bson_codec::{RawDoc, RawItem};
+use bson_tree::types;
 use encrypt_schema::{
     Class, Cursor, MarkFault, Marks, Place, Reason, Rows, Table, mark_elements, type_allowed_under,
 };
-
-/// The type byte of a document.
-const DOCUMENT: u8 = 0x03;
-
-/// The type byte of an array.
-const ARRAY: u8 = 0x04;
 
 /// What an element is of a stored document at this path.
 #[tactic(auto, using(encrypt_schema::proofs::Steps::above_path, encrypt_schema::proofs::Steps::above_stands))]
@@ -30,7 +25,7 @@ pub fn step_document(rows: &Rows, at: Cursor, item: &RawItem<'_>) -> Place
     let next = rows.step(at, item.name());
     match rows.class(next) {
         Class::Protected(i) => Place::Store(i),
-        Class::Above => if item.tag() == DOCUMENT {
+        Class::Above => if item.tag() == types::DOCUMENT {
             Place::Document(next)
         } else {
             Place::Passed
@@ -49,7 +44,7 @@ pub fn offence_document(rows: &Rows, at: Cursor, item: &RawItem<'_>) -> Option<R
 {
     match rows.class(rows.step(at, item.name())) {
         Class::Protected(i) => type_allowed_under(rows, i, item),
-        Class::Above => if item.tag() == ARRAY {
+        Class::Above => if item.tag() == types::ARRAY {
             Some(Reason::ArrayOnPath)
         } else {
             None

@@ -1,12 +1,11 @@
 use Rattle.std.proofs.Common.{◌≡◌, ◌∙◌, ℕ, false, codes, Option, Some, sym, ap}
-use Rattle.bson_codec.specs.Raw.{At}
+use Rattle.bson_codec.specs.Borrowed.{At}
 use Rattle.encrypt_schema.specs.declared.reason.Reason.{Reason}
 use Rattle.encrypt_schema.specs.Names.{named}
-use Rattle.encrypt_schema.specs.Offences.{text_of}
 use Rattle.encrypt_schema.specs.Targets.{command_fields, is_marked, is_passed, later_refusal}
 use Rattle.encrypt_schema.specs.Visits.{refused_at, or_else}
 use Rattle.command_marker.specs.Commands.{is_unbuilt, is_command, collection_in}
-use Rattle.command_marker.proofs.Targets.{target_none, target_built, insert_left, aims_err}
+use Rattle.command_marker.proofs.Targets.{target_none, target_built, insert_left, string_left, aims_err}
 use Rattle.command_marker.proofs.targeting.target.Goals as goal
 
 pub returns-in_default : goal.returns-in_default
@@ -31,6 +30,12 @@ returns-in-Some-first_reason c =
           ∙ ap (λ (n : ℕ). refused_at n (Some c.in-Some-first_reason.reason)) (sym c.start.ensures.start);
     }
 
+pub name_in-requires : goal.name_in-requires
+name_in-requires c =
+    let first = c.in-Some.first in
+    let built : is_unbuilt first.name ≡ false = ap is_unbuilt (sym c.name-name.ensures.name) ∙ sym c.is_unbuilt.ensures ∙ c.if-is_unbuilt.false in
+    string_left (is_marked first.name) (named first.name (codes "insert")) (is_passed first.name) _ _ built c.in_default-first_reason.ensures
+
 pub returns-in-Ok : goal.returns-in-Ok
 returns-in-Ok c =
     let db = c.args.db.now in
@@ -51,7 +56,7 @@ returns-in-Ok c =
             ∙ c.in-Ok.ensures,
         ap (is_command (codes "insert")) whole
             ∙ insert_left (is_marked first.name) (named first.name (codes "insert")) (is_passed first.name) _ built c.in_default-first_reason.ensures,
-        c.text_in.ensures.text ∙ ap text_of c.raw.ensures.raw ∙ sym (ap collection_in whole),
+        c.name_in.ensures.text ∙ sym (ap collection_in whole),
       );
     }
 

@@ -1,16 +1,13 @@
-use Rattle.std.proofs.Common.{◌≡◌, ◌∙◌, ℕ, List, length, take, Err, Ok, ap, arith, refl, rules, subst, sym}
+use Rattle.std.proofs.Common.{◌≡◌, ◌∙◌, ℕ, List, length, take, Err, Ok, ap, refl, rules, subst, sym}
 use Rattle.fle_aead.specs.Sealed.{IsSealed, IsWronglyTagged}
 use Rattle.payload6.specs.Opening.{IsOriginal}
-use Rattle.payload6.proofs.PayloadForm.{blocks-of, found-is, message_in, shorter}
+use Rattle.payload6.proofs.PayloadForm.{blocks-of, found-is, message_in}
 use Rattle.payload6.proofs.opening.open_payload_into.Goals as goal
 
 pub unreachable-requires : goal.unreachable-requires
 unreachable-requires g c =
     absurd ((c.open_into.ensures.short.0 (c.in-Err-Short.is ∙ ap Err c.in-Err-Short.field-0-is))
     (blocks-of _ c.args.payload.now.some c.args.payload.now.whole))
-
-pub is_original-requires : goal.is_original-requires
-is_original-requires g c = omega (arith, shorter _ _ _ _ _ c.in-Ok.ensures.ok, c.requires.short)
 
 pub returns-in-Err-Tag-clause-opens : goal.returns-in-Err-Tag-clause-opens
 returns-in-Err-Tag-clause-opens g c = λ iv p s o.

@@ -1,7 +1,7 @@
 -- The elements that are left have the first one that holds the offset.
 use Rattle.std.proofs.Common.{◌≡◌, ◌+◌}
 use Rattle.bson_tree.specs.Tree.{count}
-use Rattle.bson_codec.specs.Raw.{holding}
+use Rattle.bson_codec.specs.Borrowed.{holding}
 use Rattle.bson_codec.proofs.borrowed.RawDoc.child_holding.Given as goal
 
 abbrev pub invariant-loop-item : goal.invariant-loop-item

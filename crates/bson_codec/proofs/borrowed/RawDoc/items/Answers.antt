@@ -1,7 +1,7 @@
 -- The elements of the bytes are those of the document, and there are no more of them than bytes.
 use Rattle.std.proofs.Common.{◌+◌, ◌<◌, ◌^◌, ap, subst, ◌∙◌, arith}
 use Rattle.bson_tree.specs.Tree.{Items, count}
-use Rattle.bson_codec.specs.Raw.{At, doc_of}
+use Rattle.bson_codec.specs.Borrowed.{At, doc_of}
 use Rattle.bson_codec.proofs.Items.{items_are}
 use Rattle.bson_codec.proofs.Values.{few_items}
 use Rattle.bson_codec.proofs.borrowed.RawDoc.items.Goals as goal

@@ -1,6 +1,6 @@
 -- The bytes of a value with a document inside spell that document.
 use Rattle.std.proofs.Common.{◌≡◌, true}
-use Rattle.bson_codec.specs.Raw.{is_inner}
+use Rattle.bson_codec.specs.Borrowed.{is_inner}
 use Rattle.bson_codec.proofs.Items.{child_spells}
 use Rattle.bson_codec.proofs.item.RawItem.child.Goals as goal
 

@@ -1,7 +1,8 @@
+-- Where the length is put in, a document stands.
 use Rattle.std.proofs.Common.{◌≡◌, ◌∙◌, ◌+◌, ◌-◌, ◌∷◌, ◌++◌, [], length, arith, ap, length-append}
 use Rattle.std.proofs.lemmas.List.{take_at}
-use Rattle.command_marker.proofs.Frames.{framed_at, with_end}
-use Rattle.command_marker.proofs.frame.close.Goals as goal
+use Rattle.bson_codec.proofs.Frames.{framed_at, with_end}
+use Rattle.bson_codec.proofs.writing.close.Goals as goal
 
 pub returns : goal.returns
 returns c = record {

@@ -72,24 +72,16 @@ pub record SpellsElements (bs : List ℕ) : Type 0 where
   pub laid : IsItems level_limit tree
   pub parts : bs ≡ items_bytes tree
 
--- the bytes are the spelling of a value of this type in a document
-pub record SpellsValue (tag : ℕ) (bs : List ℕ) : Type 0 where
-  pub tree : Tree
-  pub laid : IsValue (IsItems (level_limit - 1)) tree
-  pub type : tag_of tree ≡ tag
-  pub parts : bs ≡ value_bytes tree
-
--- what a function that takes no memory returned, seen by `view`, is what reading gives
-abbrev pub Seen : {X Y : Type 0} → (X → Y) → Result X BsonFault → Result Y BsonFault → Type 0
-Seen view (Ok x) read = read ≡ Ok (view x)
-Seen view (Err f) read = read ≡ Err f
-
 -- the bytes are the spelling of a value of this type that adds at most so many levels
 pub record SpellsWithin (levels tag : ℕ) (bs : List ℕ) : Type 0 where
   pub tree : Tree
   pub laid : IsValue (IsItems levels) tree
   pub type : tag_of tree ≡ tag
   pub parts : bs ≡ value_bytes tree
+
+-- the bytes are the spelling of a value of this type in a document
+abbrev pub SpellsValue : ℕ → List ℕ → Type 0
+SpellsValue tag bs = SpellsWithin (level_limit - 1) tag bs
 
 -- a document or an array
 abbrev pub has_inside : Tree → Bool
