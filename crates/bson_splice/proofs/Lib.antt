@@ -4,3 +4,7 @@ pub mod Frames
 pub mod Steps
 pub mod Elements
 pub mod Parts
+pub mod Fitting
+pub mod Going
+pub mod Documents
+pub mod Whole

@@ -3,4 +3,10 @@
 //! put in anew.
 #![tactic(auto)]
 
+mod putter;
+mod splicing;
+mod step;
 pub mod writing;
+
+pub use putter::{Putter, Stopped};
+pub use splicing::splice;
