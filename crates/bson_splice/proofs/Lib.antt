@@ -8,3 +8,5 @@ pub mod Fitting
 pub mod Going
 pub mod Documents
 pub mod Whole
+pub mod Refits
+pub mod Given

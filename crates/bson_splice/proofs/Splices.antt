@@ -6,7 +6,7 @@ use Rattle.bson_tree.specs.Tree.{Tree, leaf, node, Items, no_items, item}
 use Rattle.bson_tree.specs.Spelling.{framed, value_bytes, items_bytes}
 use Rattle.bson_tree.specs.Filled.{fill_tree, fill_items}
 use Rattle.bson_splice.specs.Splices.{Put, begins, is_before, left_in, left, spliced_in, spliced, put_at}
-use Rattle.bson_splice.specs.Takes.{TakesIn, own, raw, inside, Takes, done, next, Adds}
+use Rattle.bson_splice.specs.Takes.{TakesIn, own, raw, inside, Takes, done, next, Trades, Caps}
 use Rattle.bson_splice.proofs.Behind.{AreBehind, IsNextBehind, earlier, behind, untouched}
 use Rattle.bson_tree.proofs.Sizes.{framed_size, element_size}
 
@@ -75,23 +75,25 @@ mutual
 record SplicedIn (at : ℕ) (t : Tree) (ps rest : List Put) : Type 0 where
   pub made : spliced_in at ps t ≡ fill_tree (put_at ps) at t
   pub rests : left_in at ps t ≡ rest
-  pub size : (n : ℕ) → Adds ps n → (k : ℕ) × Adds rest k × (length (value_bytes (spliced_in at ps t)) + k ≡ length (value_bytes t) + n)
+  pub size : (m n : ℕ) → Trades ps m n → (k l : ℕ) × Trades rest k l × (length (value_bytes (spliced_in at ps t)) + m + l ≡ length (value_bytes t) + n + k)
+  pub most : (m n : ℕ) → Caps ps m n → (k l : ℕ) × Caps rest k l × (length (value_bytes (spliced_in at ps t)) + m + l ≤ length (value_bytes t) + n + k)
 
 pub record Spliced (at : ℕ) (is : Items) (ps rest : List Put) : Type 0 where
   pub made : spliced at ps is ≡ fill_items (put_at ps) at is
   pub rests : left at ps is ≡ rest
-  pub size : (n : ℕ) → Adds ps n → (k : ℕ) × Adds rest k × (length (items_bytes (spliced at ps is)) + k ≡ length (items_bytes is) + n)
+  pub size : (m n : ℕ) → Trades ps m n → (k l : ℕ) × Trades rest k l × (length (items_bytes (spliced at ps is)) + m + l ≡ length (items_bytes is) + n + k)
+  pub most : (m n : ℕ) → Caps ps m n → (k l : ℕ) × Caps rest k l × (length (items_bytes (spliced at ps is)) + m + l ≤ length (items_bytes is) + n + k)
 
 -- the value's own mark
 of_own : (at : ℕ) (t : Tree) (p : Put) (ps : List Put) → p.start ≡ at → p.end ≡ at + length (value_bytes t) → SplicedIn at t (p ∷ ps) ps
 of_own at (leaf tag bytes) p ps s e =
     let on : (p.start == at) ≡ true = eq-eqb p.start at s in
     let whole : p.end ≡ p.start + length (value_bytes (leaf tag bytes)) = omega (arith, s, e) in
-    record { made = rw on refl; rests = rw on refl; size = λ n a. (a.1, a.4, rw on (omega (arith, a.2, a.3 (leaf tag bytes) whole))) }
+    record { made = rw on refl; rests = rw on refl; size = λ m n a. (a.2, a.3, a.7, rw on (omega (arith, a.4, a.5, a.6 (leaf tag bytes) whole))); most = λ m n a. (a.2, a.3, a.7, rw on (omega (arith, a.4, a.5, a.6 (leaf tag bytes) whole))) }
 of_own at (node tag is) p ps s e =
     let on : (p.start == at) ≡ true = eq-eqb p.start at s in
     let whole : p.end ≡ p.start + length (value_bytes (node tag is)) = omega (arith, s, e) in
-    record { made = rw on refl; rests = rw on refl; size = λ n a. (a.1, a.4, rw on (omega (arith, a.2, a.3 (node tag is) whole))) }
+    record { made = rw on refl; rests = rw on refl; size = λ m n a. (a.2, a.3, a.7, rw on (omega (arith, a.4, a.5, a.6 (node tag is) whole))); most = λ m n a. (a.2, a.3, a.7, rw on (omega (arith, a.4, a.5, a.6 (node tag is) whole))) }
 
 not_begun : (at : ℕ) (ps : List Put) → AreBehind at ps → begins at ps ≡ false
 not_begun at [] b = refl
@@ -106,7 +108,7 @@ of_raw : (at tag : ℕ) (bytes : List ℕ) (ps : List Put) → AreBehind at ps �
 of_raw at tag bytes ps b =
     let off = not_begun at ps b in
     let absent = none_put ps at (leaf tag bytes) b in
-    record { made = rw (off, absent) refl; rests = rw off refl; size = λ n a. (n, a, rw off refl) }
+    record { made = rw (off, absent) refl; rests = rw off refl; size = λ m n a. (m, n, a, rw off (omega arith)); most = λ m n a. (m, n, a, rw off (omega arith)) }
 
 -- a value inside which the next mark stands
 of_open : (at tag : ℕ) (is : Items) (ps rest : List Put) → begins at ps ≡ false → is_before (at + length (framed (items_bytes is))) ps ≡ true
@@ -115,7 +117,8 @@ of_open at tag is ps rest off on absent s =
     record {
       made = rw (off, on, absent) (ap (node tag) s.made);
       rests = rw (off, on) s.rests;
-      size = λ n a. let i = s.size n a in (i.0, i.1, rw (off, on) (omega (arith, i.2, framed_size (items_bytes is), framed_size (items_bytes (spliced (at + 4) ps is)))));
+      size = λ m n a. let i = s.size m n a in (i.0, i.1, i.2, rw (off, on) (omega (arith, i.3, framed_size (items_bytes is), framed_size (items_bytes (spliced (at + 4) ps is)))));
+      most = λ m n a. let i = s.most m n a in (i.0, i.1, i.2, rw (off, on) (omega (arith, i.3, framed_size (items_bytes is), framed_size (items_bytes (spliced (at + 4) ps is)))));
     }
 
 -- a value behind which the next mark stands
@@ -128,7 +131,8 @@ of_shut at tag is ps rest off shut e b =
     record {
       made = rw (off, shut, absent) (ap (node tag) (sym kept));
       rests = rw (off, shut) e;
-      size = λ n a. (n, subst (λ (qs : List Put). Adds qs n) e a, rw (off, shut) refl);
+      size = λ m n a. (m, n, subst (λ (qs : List Put). Trades qs m n) e a, rw (off, shut) (omega arith));
+      most = λ m n a. (m, n, subst (λ (qs : List Put). Caps qs m n) e a, rw (off, shut) (omega arith));
     }
 
 of_node : (at tag : ℕ) (is : Items) (ps rest : List Put) (b : Bool) → is_before (at + length (framed (items_bytes is))) ps ≡ b
@@ -160,8 +164,10 @@ of_next at name t is ps mid rest d first others =
     record {
       made = ap (λ (v : Tree). item name v (spliced q (left_in p ps t) is)) a ∙ ap (item name (fill_tree (put_at ps) p t)) (on ∙ behind);
       rests = ap (λ (ns : List Put). left q ns is) first.rests ∙ others.rests;
-      size = λ n b. let i = first.size n b in let j = others.size i.0 (subst (λ (k : ℕ). Adds mid k) refl i.1) in
-          (j.0, j.1, omega (arith, i.2, j.2, size, element_size name t is, element_size name u (spliced q (left_in p ps t) is)));
+      size = λ m n b. let i = first.size m n b in let j = others.size i.0 i.1 i.2 in
+          (j.0, j.1, j.2, omega (arith, i.3, j.3, size, element_size name t is, element_size name u (spliced q (left_in p ps t) is)));
+      most = λ m n b. let i = first.most m n b in let j = others.most i.0 i.1 i.2 in
+          (j.0, j.1, j.2, omega (arith, i.3, j.3, size, element_size name t is, element_size name u (spliced q (left_in p ps t) is)));
     }
 
 mutual
@@ -179,7 +185,7 @@ mutual
   -- what marks at values of these elements put in
   pub spliced_items : {at : ℕ} {is : Items} {ps rest : List Put} → Takes at is ps rest
       → AreBehind (at + length (items_bytes is)) rest → Spliced at is ps rest
-  spliced_items (done at ps) b = record { made = refl; rests = refl; size = λ n a. (n, a, refl) }
+  spliced_items (done at ps) b = record { made = refl; rests = refl; size = λ m n a. (m, n, a, omega arith); most = λ m n a. (m, n, a, omega arith) }
   spliced_items (next at name t is ps mid rest d ds) b =
       let low : AreBehind (at + (2 + length name) + length (value_bytes t) + length (items_bytes is)) rest =
       earlier (at + (2 + length name) + length (value_bytes t) + length (items_bytes is)) (at + length (items_bytes (item name t is))) rest (omega (arith, element_size name t is)) b in

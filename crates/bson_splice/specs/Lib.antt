@@ -4,3 +4,4 @@ pub mod Spans
 pub mod Steps
 pub mod Splicing
 pub mod Whole
+pub mod Values

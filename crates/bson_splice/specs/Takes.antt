@@ -1,5 +1,5 @@
 -- Values of a document that are replaced: in reading order, each from its first to its last byte, none inside another
-use Rattle.std.specs.Prelude.{◌≡◌, ℕ, ◌+◌, List, [], ◌∷◌, length}
+use Rattle.std.specs.Prelude.{◌≡◌, ◌≤◌, ℕ, ◌+◌, List, [], ◌∷◌, length}
 use Rattle.bson_tree.specs.Tree.{Tree, leaf, node, Items, no_items, item}
 use Rattle.bson_tree.specs.Spelling.{value_bytes}
 use Rattle.bson_splice.specs.Splices.{Put}
@@ -19,11 +19,22 @@ mutual
         → Takes (at + (2 + length name) + length (value_bytes t)) is mid rest
         → Takes at (item name t is) ps rest
 
--- each value that takes a place has so many bytes more than the one whose place it takes; this many in all
-abbrev pub Adds : List Put → ℕ → Type 0
-Adds [] n = n ≡ 0
-Adds (p ∷ ps) n =
-    (m k : ℕ)
-    × (n ≡ m + k)
-    × ((t : Tree) → p.end ≡ p.start + length (value_bytes t) → length (value_bytes (p.value t)) ≡ length (value_bytes t) + m)
-    × Adds ps k
+-- the places that are taken have m bytes, and what takes them has n
+abbrev pub Trades : List Put → ℕ → ℕ → Type 0
+Trades [] m n = (m ≡ 0) × (n ≡ 0)
+Trades (p ∷ ps) m n =
+    (a b k l : ℕ)
+    × (m ≡ a + k)
+    × (n ≡ b + l)
+    × ((t : Tree) → p.end ≡ p.start + length (value_bytes t) → length (value_bytes (p.value t)) + a ≡ length (value_bytes t) + b)
+    × Trades ps k l
+
+-- the places that are taken have m bytes, and what takes them has at most n
+abbrev pub Caps : List Put → ℕ → ℕ → Type 0
+Caps [] m n = (m ≡ 0) × (n ≡ 0)
+Caps (p ∷ ps) m n =
+    (a b k l : ℕ)
+    × (m ≡ a + k)
+    × (n ≡ b + l)
+    × ((t : Tree) → p.end ≡ p.start + length (value_bytes t) → length (value_bytes (p.value t)) + a ≤ length (value_bytes t) + b)
+    × Caps ps k l

@@ -6,7 +6,12 @@
 mod putter;
 mod splicing;
 mod step;
+mod values;
 pub mod writing;
 
 pub use putter::{Putter, Stopped};
 pub use splicing::splice;
+pub use values::{NewValue, TooLong, splice_values, spliced_len};
+
+#[cfg(test)]
+mod tests;
