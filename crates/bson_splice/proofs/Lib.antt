@@ -10,3 +10,4 @@ pub mod Documents
 pub mod Whole
 pub mod Refits
 pub mod Given
+pub mod Places

@@ -3,6 +3,7 @@
 //! put in anew.
 #![tactic(auto)]
 
+pub mod laws;
 mod putter;
 mod splicing;
 mod step;
