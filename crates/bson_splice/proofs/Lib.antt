@@ -1,0 +1,13 @@
+pub mod Behind
+pub mod Splices
+pub mod Frames
+pub mod Steps
+pub mod Elements
+pub mod Parts
+pub mod Fitting
+pub mod Going
+pub mod Documents
+pub mod Whole
+pub mod Refits
+pub mod Given
+pub mod Places
