@@ -2,15 +2,16 @@
 use Rattle.std.proofs.Common.{◌≡◌, ◌<◌, ◌≤◌, ℕ, Bool, true, false, nat_lt, cond, Option, Some, None, Result, Err, List, [], length, Vec, Global, refl, ◌∙◌, ap, arith}
 use Rattle.std.proofs.lemmas.Bool.Decides.{nat_tests}
 use Rattle.bson_tree.specs.Tree.{Items}
-use Rattle.command_marker.specs.Reply.{reply_limit}
+use Rattle.command_marker.specs.Reply.{reply_limit, reply_to}
 use Rattle.encrypt_schema.specs.Collection.{Collection}
 use Rattle.encrypt_schema.specs.Collections.{Faulty, Loads}
+use Rattle.encrypt_schema.specs.Targets.{rows_of}
 use Rattle.encrypt_schema.specs.Visits.{Refusal}
 use Rattle.encrypt_schema.specs.declared.faults.InfoFault.{InfoFault}
 use Rattle.encrypt_schema.specs.declared.faults.InfoFault.TheVariants as faults
 use Rattle.fle_outside.specs.Seen.{EntropySeen, SinkSeen}
 use Rattle.fle_outside.proofs.Drawings.{draws_none}
-use Rattle.fle_runner.specs.Mark.{infos_task, infos_why, mark_refusal, mark_verdict, plain_plan, reply_for, sized, verdict_by}
+use Rattle.fle_runner.specs.Mark.{infos_task, infos_why, mark_refusal, mark_verdict, plain_plan, sized, verdict_by}
 use Rattle.fle_runner.specs.Numbers.{infos_number}
 use Rattle.fle_stream.specs.Did.{Did}
 use Rattle.fle_stream.specs.Ended.{EndsAs}
@@ -44,7 +45,7 @@ verdict_draws c reply None = sized_draws (nat_lt reply_limit (length reply)) rep
 
 pub mark_draws : (infos : List Collection) (db : List ℕ) → DrawsNone (mark_verdict infos db)
 unfolding mark_verdict
-mark_draws infos db = λ c. verdict_draws c (reply_for infos c) (mark_refusal infos db c)
+mark_draws infos db = λ c. verdict_draws c (reply_to (rows_of infos c) c) (mark_refusal infos db c)
 
 -- the reply is written, or above its limit
 by_size : (b : Bool) (bytes : List ℕ) (e : EntropySeen) → b ≡ true → JudgeIs (cond b too_long (writes (plain_plan bytes))) e e judgements.TooLong

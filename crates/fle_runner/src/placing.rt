@@ -22,12 +22,12 @@ pub fn place_at(alloc: Global, document: &RawDoc<'_>, at: u32) -> Result<Place, 
             return Err(Memory);
         }
         if item.start() == at {
-            return Place::from_slice(alloc, &steps);
+            return Ok(Place::from_vec(steps));
         }
         match item.child() {
             Some(child) => inner = child,
             None => break,
         }
     }
-    Place::from_slice(alloc, &[])
+    Ok(Place::from_vec(Vec::new(alloc)))
 }

@@ -1,8 +1,5 @@
 -- What reading the next document of a stream gives.
 use Rattle.std.specs.Prelude.{◌≡◌, ℕ, ◌-◌, ◌≤◌, ◌^◌, Option, Some, List, length, drop}
-use Rattle.bson_tree.specs.Tree.{Items}
-use Rattle.bson_tree.specs.Spelling.{doc_bytes}
-use Rattle.bson_codec.specs.Layout.{IsDoc}
 use Rattle.bson_codec.specs.Reading.{document}
 use Rattle.fle_outside.specs.Filling.{RoseBy, RoseWithin}
 use Rattle.fle_stream.specs.Streams.{documents, ends, nothing, over, faulty, spelled, first_size}
@@ -22,11 +19,6 @@ NextIs told after nexts.Over = (documents told ≡ ends over) × (after ≡ Some
 NextIs told after (nexts.Faulty fault) = (n : ℕ) × (documents told ≡ ends (faulty n fault)) × (after ≡ Some (drop n told))
 NextIs told after nexts.Failed = Handed told after (first_size (documents told) (length told))
 NextIs told after nexts.Memory = Handed told after (first_size (documents told) (length told))
-
--- a tree that a document of the input spells
-pub record IsInput (is : Items) : Type 0 where
-  pub spelled : IsDoc is
-  pub small : length (doc_bytes is) ≤ 2 ^ 24
 
 -- told or not, bytes that were read are as many as a document of the input may have
 abbrev pub NextSound : Next → Type 0

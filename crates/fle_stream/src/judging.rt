@@ -1,10 +1,10 @@
 //! Verbs that judge the documents of the input one by one.
 
-ghost use Rattle.std.specs.Prelude.{◌≡◌, ◌+◌, ◌≤◌, List, ℕ, Option, Some, length, drop};
+ghost use Rattle.std.specs.Prelude.{◌≡◌, ◌+◌, ◌^◌, ◌≤◌, List, ℕ, Option, Some, length, drop};
+ghost use Rattle.bson_tree.specs.Spelling.{doc_bytes};
 ghost use Rattle.bson_tree.specs.Tree.{Items};
 ghost use Rattle.fle_outside.specs.Counts.{Rose};
 ghost use Rattle.fle_stream.specs.Judge.{JudgeIs};
-ghost use Rattle.fle_stream.specs.Next.{IsInput};
 ghost use Rattle.fle_stream.specs.Outcome.{Course, outcome, judged};
 ghost use Rattle.fle_stream.specs.Plan.{Verdict, DrawsNone, draws_in, size_in};
 ghost use Rattle.fle_stream.specs.Streams.{documents, first_size};
@@ -45,9 +45,9 @@ pub trait Judge {
     /// What each judgement needs, such as that the block cipher of its hooks answers by its standard.
     ghost ready: { Self → Type 0 };
 
-    /// Judges a document, whose offsets are from 0.
+    /// Judges a document, whose offsets are from 0; that it is one, its `bytes()` tells.
     fn judge<N: Entropy>(&mut self, alloc: Global, document: &RawDoc<'_>, entropy: &mut N) -> Judged
-        requires input { IsInput document.now.tree }
+        requires small { length (doc_bytes document.now.tree) ≤ 2 ^ 24 }
         requires whole { document.now.start ≡ 0 }
         requires ready { ready self.old }
         ensures ready { ready self.new }
@@ -108,7 +108,7 @@ fn judge_document<J: Judge, O: Sink, N: Entropy>(
     out: &mut O,
     entropy: &mut N,
 ) -> Turn
-    requires input { IsInput document.now.tree }
+    requires small { length (doc_bytes document.now.tree) ≤ 2 ^ 24 }
     requires whole { document.now.start ≡ 0 }
     requires ready { J.ready judge.old }
     ensures ready { J.ready judge.new }

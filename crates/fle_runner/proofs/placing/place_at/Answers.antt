@@ -1,5 +1,5 @@
 -- The way ends at the value, in a raw value, or at an offset that no element holds; else it goes on.
-use Rattle.std.proofs.Common.{◌≡◌, ℕ, ◌+◌, List, [], ◌∷◌, ◌++◌, IfOk, sym, subst, ◌∙◌, arith}
+use Rattle.std.proofs.Common.{◌≡◌, ◌+◌, [], ◌∷◌, ◌++◌, sym, ◌∙◌, arith}
 use Rattle.std.proofs.lemmas.Grind.{common_steps}
 use Rattle.bson_tree.specs.Places.{place_of}
 use Rattle.fle_runner.proofs.Spots.{place_is, ends_nowhere, ends_here, ends_in_leaf, goes_on, is_smaller}
@@ -17,8 +17,8 @@ returns-then-start-at c =
     let l = c.loop-number in
     let here = ends_here l.steps.items c.args.at 0 (l.inner.start + 4) l.inner.tree c.in-Some.number c.in-Some.item c.in-Some.ensures.found (sym c.start.ensures.start ∙ c.if-start-at.true) in
     let pushed : c.push.new.self.items ≡ l.steps.items ++ c.in-Some.number ∷ [] = grind (arith, common_steps) in
-    let whole : c.deref.result.now ≡ place_of c.args.at c.args.document.now.tree = cc (c.deref.ensures.value) in
-    record { place = subst (λ (steps : List ℕ). IfOk c.from_slice.result (λ p. p ≡ steps)) whole c.from_slice.ensures.copy }
+    let whole : c.push.new.self.items ≡ place_of c.args.at c.args.document.now.tree = cc in
+    record { place = c.from_vec.ensures.same ∙ whole }
 
 pub loop-number-smaller : goal.loop-number-smaller
 loop-number-smaller c =
@@ -44,4 +44,4 @@ returns c =
           (λ same. w.if-start-at.false (w.start.ensures.start ∙ same)) w.in-None.ensures.node)
       | in_default w ↦ sym (l.invariant ∙ ends_nowhere l.steps.items c.args.at 0 (l.inner.start + 4) l.inner.tree w.in_default.ensures.found)
     ] in
-    record { place = subst (λ (steps : List ℕ). IfOk c.from_slice-2.result (λ p. p ≡ steps)) none c.from_slice-2.ensures.copy }
+    record { place = c.from_vec-2.ensures.same ∙ c.new.ensures.items ∙ none }
