@@ -1,0 +1,7 @@
+pub mod Standing
+pub mod Texts
+pub mod Frames
+pub mod Sizes
+pub mod Laid
+pub mod ReadBack
+pub mod Joined

@@ -1,0 +1,5 @@
+pub mod Standings
+pub mod Values
+pub mod Key
+pub mod Seen
+pub mod Written

@@ -1,0 +1,48 @@
+-- BSON 1.1: values of some types, as key documents have them
+use Rattle.std.specs.Prelude.{ℕ, ◌==◌, ◌-◌, ◌&&◌, Bool, true, List, [], ◌∷◌, length, take, drop, slice_index, Option, Some, None, if◌then◌else◌}
+use Rattle.bson_tree.specs.Tree.{Tree, Items, no_items, item, tag_of, kids_of}
+use Rattle.bson_tree.specs.Spelling.{value_bytes}
+
+-- the types that are looked at: string (02), document (03), array (04), binary (05)
+abbrev pub is_string : Tree → Bool
+is_string t = tag_of t == 2
+
+abbrev pub is_document : Tree → Bool
+is_document t = tag_of t == 3
+
+abbrev pub is_array : Tree → Bool
+is_array t = tag_of t == 4
+
+abbrev pub is_binary : Tree → Bool
+is_binary t = tag_of t == 5
+
+-- "string": its bytes are the length in four bytes, the text, and 00
+abbrev pub text_in : List ℕ → List ℕ
+text_in bytes = take (length bytes - 5) (drop 4 bytes)
+
+abbrev pub text_of : Tree → Option (List ℕ)
+text_of t = if is_string t then Some (text_in (value_bytes t)) else None
+
+-- each value is a string
+abbrev pub are_strings : Items → Bool
+are_strings no_items = true
+are_strings (item name t is) = is_string t && are_strings is
+
+-- the texts of the strings among the values, in order
+abbrev pub texts : Items → List (List ℕ)
+texts no_items = []
+texts (item name t is) = if is_string t then text_in (value_bytes t) ∷ texts is else texts is
+
+-- "binary": its bytes are the length in four bytes, the subtype, and the contents
+abbrev pub contents_of : ℕ → Tree → Option (List ℕ)
+contents_of subtype t =
+    if is_binary t && (slice_index (value_bytes t) 4 == subtype) then Some (drop 5 (value_bytes t)) else None
+
+-- so many bytes
+abbrev pub of_length : ℕ → Option (List ℕ) → Option (List ℕ)
+of_length n None = None
+of_length n (Some bytes) = if length bytes == n then Some bytes else None
+
+-- a UUID: a binary of subtype 04 with 16 bytes
+abbrev pub uuid_of : Tree → Option (List ℕ)
+uuid_of t = of_length 16 (contents_of 4 t)

@@ -1,0 +1,63 @@
+-- Opened keys that are kept, the most recently used first.
+use Rattle.std.specs.Prelude.{◌≡◌, ℕ, ◌-◌, ◌<◌, ◌≤◌, Bool, true, false, List, [], ◌∷◌, length, take, map, Option, Some, None, Result, Ok, Err, refl, bytes_eq, Contains, if◌then◌else◌, ◌⊎◌}
+use Rattle.std.specs.Coded.{Coded, code_by, coded×, coded_list, coded_ℕ}
+use Rattle.data_key.specs.declared.key_doc.KeyDoc.{KeyDoc}
+use Rattle.local_kms.specs.Wrapped.{Unwraps}
+use Rattle.local_kms.specs.declared.wrapping.UnwrapFault.{UnwrapFault}
+use Rattle.key_vault.specs.declared.cache.Opened.{Opened}
+
+-- a key that was opened
+pub record Entry : Type 0 where
+  pub id : List ℕ
+  pub material : List ℕ
+  pub key : List ℕ
+
+-- the master key and the keys opened under it, the most recently used first
+pub record Cached : Type 0 where
+  pub master : List ℕ
+  pub entries : List Entry
+
+abbrev pub coded_entry : Coded Entry
+coded_entry = code_by (List ℕ × (List ℕ × List ℕ)) (coded× (coded_list coded_ℕ) (coded× (coded_list coded_ℕ) (coded_list coded_ℕ)))
+    (λ e. (e.id, (e.material, e.key))) (λ p. record { id = p.0; material = p.1.0; key = p.1.1 }) (λ _. refl)
+
+abbrev pub coded_cached : Coded Cached
+coded_cached = code_by (List ℕ × List Entry) (coded× (coded_list coded_ℕ) (coded_list coded_entry))
+    (λ c. (c.master, c.entries)) (λ p. record { master = p.0; entries = p.1 }) (λ _. refl)
+
+-- the entry of a pair that is kept
+abbrev pub entry_of : List ℕ × Opened → Entry
+entry_of p = record { id = p.0; material = p.1.material; key = p.1.key }
+
+-- each was opened under this master key
+abbrev pub AreOpened : List ℕ → List (List ℕ × Opened) → Type 0
+AreOpened master es = (e : List ℕ × Opened) → Contains es e → Unwraps master e.1.material (Ok e.1.key)
+
+-- the most entries
+abbrev pub capacity : ℕ
+capacity = 64
+
+-- the entries without the first of an id
+abbrev pub without : List ℕ → List Entry → List Entry
+without id [] = []
+without id (e ∷ es) = if bytes_eq id e.id then es else e ∷ without id es
+
+-- an entry has this id
+abbrev pub is_kept : List ℕ → List Entry → Bool
+is_kept id [] = false
+is_kept id (e ∷ es) = if bytes_eq id e.id then true else is_kept id es
+
+-- the entry of a key that was opened goes first, and the others keep their order; a new one in a full list drops the last
+abbrev pub kept_first : Entry → List Entry → List Entry
+kept_first e es = e ∷ (if is_kept e.id es then without e.id es else take (capacity - 1) es)
+
+-- a key that was opened is first; or, where its id was new and there was no memory for it, the list is as before
+abbrev pub KeepsOpened : KeyDoc → List ℕ → List Entry → List Entry → Type 0
+KeepsOpened key opened before now =
+    (now ≡ kept_first (record { id = key.id; material = key.material; key = opened }) before)
+    ⊎ ((is_kept key.id before ≡ false) × (now ≡ before))
+
+-- after a refusal the list is as before
+abbrev pub Keeps : KeyDoc → List Entry → List Entry → Result (List ℕ) UnwrapFault → Type 0
+Keeps key before now (Ok opened) = KeepsOpened key opened before now
+Keeps key before now (Err _) = now ≡ before

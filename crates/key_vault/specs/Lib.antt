@@ -1,0 +1,5 @@
+pub mod Keys
+pub mod Lookup
+pub mod Loading
+pub mod Numbers
+pub mod Cached

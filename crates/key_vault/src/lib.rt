@@ -1,0 +1,22 @@
+//! Key vaults: the keys of a file, found by id and by name, and a cache of the keys that were opened (MongoDB Client Side
+//! Encryption, "Key vault").
+//!
+//! ```rust
+//! let vault = Vault::load(alloc, &file)?;
+//! let key = open_key(&hooks, &master, vault.by_id(&id))?;
+//! ```
+//!
+//! It asks no server: a vault is what its file holds.
+#![tactic(auto)]
+
+mod cache;
+mod faults;
+mod loading;
+mod lookup;
+mod numbers;
+mod vault;
+
+pub use cache::KeyCache;
+pub use faults::{VaultFault, VaultKind};
+pub use lookup::{Keyless, open_key};
+pub use vault::Vault;

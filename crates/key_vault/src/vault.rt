@@ -1,0 +1,104 @@
+//! The keys of a file of key documents.
+
+ghost use Rattle.std.specs.Prelude.{◌≡◌, ◌≤◌, ◌<◌, [], length, option_copied, slice_get};
+ghost use Rattle.key_vault.specs.Keys.{key_by_id, key_by_name};
+ghost use Rattle.key_vault.specs.Loading.{Loads, vault};
+
+use crate::faults::VaultFault;
+use crate::numbers::{number_of_id, number_of_name};
+use data_key::KeyDoc;
+use std::alloc::Global;
+use std::collections::HashMap;
+use std::marker::Model;
+
+/// The keys of a file, seen as their list, in the file's order.
+#[derive(Drop)]
+pub struct Vault {
+    pub(crate) keys: Vec<KeyDoc>,
+    pub(crate) ids: HashMap<[u8; 16], u32>,
+    pub(crate) names: HashMap<Vec<u8>, u32>,
+}
+
+impl Model for Vault {
+    ghost use Rattle.std.specs.Prelude.{◌≡◌, ℕ, List};
+    ghost use Rattle.data_key.specs.declared.key_doc.KeyDoc.{KeyDoc};
+    ghost use Rattle.key_vault.specs.Keys.{has_id, has_name, place_from};
+    ghost use Rattle.key_vault.specs.Numbers.{number_of_id, number_of_name};
+
+    ghost Value = { List KeyDoc };
+
+    ghost view = { λ v. v.keys.items };
+
+    ghost invariant = { λ v. ((id : List ℕ) → number_of_id v.ids id ≡ place_from 0 (has_id id) v.keys.items)
+        × ((name : List ℕ) → number_of_name v.names name ≡ place_from 0 (has_name name) v.keys.items) };
+}
+
+impl Vault {
+    /// Reads a file of key documents: one after another, nothing between them. `Bad` exactly where a document is faulty;
+    /// they are judged in order.
+    pub fn load(alloc: Global, bytes: &[u8]) -> Result<Vault, VaultFault>
+        requires { length bytes.now ≤ 67108864 }
+        ensures loaded { Loads result (vault bytes.now) }
+    {
+        let mut vault = Vault::none(alloc);
+        let mut rest = bytes;
+        while !rest.is_empty() {
+            let n = vault.add_front(alloc, rest)?;
+            let (_, behind) = rest.split_at(n);
+            rest = behind;
+        }
+        Ok(vault)
+    }
+
+    /// How many keys it has.
+    pub fn len(&self) -> usize
+        ensures number { result ≡ length self.now }
+    {
+        self.keys.len()
+    }
+
+    /// Key number `i`, from 0: `None` exactly where `i` isn't below `len`.
+    pub fn key(&self, i: usize) -> Option<&KeyDoc>
+        ensures found { option_copied result ≡ slice_get self.now i }
+    {
+        key_at(&self.keys, i)
+    }
+
+    /// The key of this id, found by its hash; `None` exactly where there is none.
+    pub fn by_id(&self, id: &[u8; 16]) -> Option<&KeyDoc>
+        ensures found { option_copied result ≡ key_by_id self.now id.now }
+    {
+        match number_of_id(&self.ids, id) {
+            Some(number) => key_at(&self.keys, number as usize),
+            None => None,
+        }
+    }
+
+    /// The key of this alternate name, found by its hash; `None` exactly where there is none.
+    pub fn by_name(&self, name: &[u8]) -> Option<&KeyDoc>
+        ensures found { option_copied result ≡ key_by_name self.now name.now }
+    {
+        match number_of_name(&self.names, name) {
+            Some(number) => key_at(&self.keys, number as usize),
+            None => None,
+        }
+    }
+
+    /// No key.
+    fn none(alloc: Global) -> Vault
+        ensures empty { result ≡ [] }
+    {
+        Vault {
+            keys: Vec::new(alloc),
+            ids: HashMap::new(alloc),
+            names: HashMap::new(alloc),
+        }
+    }
+}
+
+/// Key number `i`, from 0.
+fn key_at(keys: &Vec<KeyDoc>, i: usize) -> Option<&KeyDoc>
+    ensures { option_copied result ≡ slice_get keys.now.items i }
+{
+    if i < keys.len() { Some(&keys[i]) } else { None }
+}

@@ -1,0 +1,5 @@
+pub mod Master
+pub mod Wrapped
+pub mod Drawn
+pub mod Made
+pub mod Seen

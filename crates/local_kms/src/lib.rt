@@ -1,0 +1,25 @@
+//! The local provider of master keys: data keys are sealed and opened under a master key that the user keeps in a file
+//! (MongoDB Client Side Encryption, "local").
+//!
+//! [`read_master`] reads the file, [`wrap_key`] and [`unwrap_key`] seal and open a data key under it, and [`new_key`]
+//! makes one of random blocks.
+//!
+//! ```rust
+//! let master = read_master(&file)?;
+//! let key = new_key(alloc, &mut entropy, &hooks, &master, names)?;
+//! let opened = unwrap_key(&hooks, &master, key.material.as_slice())?;
+//! ```
+//!
+//! It wipes no key, and doesn't ask how random the blocks are.
+#![tactic(auto)]
+
+mod making;
+mod master;
+mod wrapping;
+
+pub use making::{NewFault, new_key};
+pub use master::{MasterFault, MasterKey, read_master};
+pub use wrapping::{UnwrapFault, unwrap_key, wrap_key};
+
+#[cfg(test)]
+mod tests;

@@ -1,0 +1,98 @@
+//! Data keys sealed under a master key, and opened again.
+
+ghost use Rattle.std.specs.Prelude.{◌≡◌, [], take};
+ghost use Rattle.fle_aead.specs.Sealed.{IsSealed};
+ghost use Rattle.local_kms.specs.Seen.{fault_seen, IsKeyOf};
+ghost use Rattle.local_kms.specs.Wrapped.{Unwraps};
+
+use crate::master::MasterKey;
+use crypto_hooks::Block256;
+use fle_aead::{DataKey, OpenFault, open_into, seal_into};
+
+/// How many bytes a data key has.
+const KEY: usize = 96;
+
+/// How many bytes a sealed data key has: a vector, seven blocks and a tag.
+const MATERIAL: usize = 160;
+
+/// Why material isn't opened.
+#[derive(Clone, Copy, Debug, PartialEq, Eq)]
+pub enum UnwrapFault {
+    /// It isn't 160 bytes; or tag and padding are right, and what is sealed isn't 96 bytes.
+    Length,
+    /// The last 32 bytes aren't the tag of the rest.
+    Tag {
+        /// What the tag would have to be.
+        computed: [u8; 32],
+        /// What stands there.
+        found: [u8; 32],
+    },
+    /// The tag is right and the padding isn't.
+    Padding,
+}
+
+/// Seals a data key under a master key and this initialization vector, without associated data.
+pub fn wrap_key<B: Block256>(
+    hooks: &B,
+    master: &MasterKey,
+    iv: [u8; 16],
+    key: &DataKey,
+) -> [u8; 160]
+    requires hooks { B.answers hooks.now }
+    ensures sealed { IsSealed master.now [] iv key.now result }
+{
+    let mut material = [0; MATERIAL];
+    seal_into(hooks, master.key(), &[], iv, key.bytes(), &mut material);
+    material
+}
+
+/// Opens a data key under its master key: its length is judged, then the tag, then the padding, then the length of the
+/// key. It takes no memory.
+pub fn unwrap_key<B: Block256>(
+    hooks: &B,
+    master: &MasterKey,
+    material: &[u8],
+) -> Result<DataKey, UnwrapFault>
+    requires hooks { B.answers hooks.now }
+    ensures answer { Unwraps master.now material.now result }
+{
+    if material.len() != MATERIAL {
+        return Err(UnwrapFault::Length);
+    }
+    let mut plain = [0; MATERIAL];
+    match open_into(hooks, master.key(), &[], material, &mut plain) {
+        Ok(n) => key_by(n, &plain),
+        Err(fault) => Err(fault_of(fault)),
+    }
+}
+
+/// The key that is the first n bytes, where these are 96.
+fn key_by(n: usize, plain: &[u8; 160]) -> Result<DataKey, UnwrapFault>
+    ensures { IsKeyOf n plain.now result }
+{
+    if n == KEY {
+        Ok(DataKey::new(front_of(plain)))
+    } else {
+        Err(UnwrapFault::Length)
+    }
+}
+
+/// Why a message isn't opened, told of material.
+fn fault_of(fault: OpenFault) -> UnwrapFault
+    ensures { result ≡ fault_seen fault }
+{
+    match fault {
+        OpenFault::Short => UnwrapFault::Length,
+        OpenFault::Tag { computed, found } => UnwrapFault::Tag { computed, found },
+        OpenFault::Padding => UnwrapFault::Padding,
+    }
+}
+
+/// The first 96 bytes.
+fn front_of(plain: &[u8; 160]) -> [u8; 96]
+    ensures { result ≡ take 96 plain.now }
+{
+    let mut key = [0; KEY];
+    key.copy_from_slice(&plain[..KEY]);
+    key
+}
