@@ -44,9 +44,9 @@ module _ (f : ℕ → Tree → Option Tree) (to : ℕ) (empty : (q : ℕ) (u : T
         let b = same (at + (2 + length name) + length (value_bytes t)) is (omega (arith, h, element_size name t is)) in
         cc
 
--- ---- marks by the offsets where they begin
+-- ---- what is put in by the offsets where it begins
 
--- nothing is put in before the marks
+-- nothing is put in before the first of them
 pub none_put : (ps : List Put) (q : ℕ) (u : Tree) → AreBehind q ps → put_at ps q u ≡ None
 none_put [] q u b = refl
 none_put (p ∷ ps) q u b =
@@ -62,7 +62,7 @@ mutual
   passed_in (raw at tag bytes ps) q u h = refl
   passed_in (inside at tag is ps rest d) q u h = passed d q u (omega (arith, h, framed_size (items_bytes is)))
 
-  -- behind the elements the marks that they took put in nothing
+  -- behind the elements those that they took put in nothing
   passed : {at : ℕ} {is : Items} {ps rest : List Put} → Takes at is ps rest → (q : ℕ) (u : Tree)
       → at + length (items_bytes is) < q → put_at ps q u ≡ put_at rest q u
   passed (done at ps) q u h = refl
@@ -71,7 +71,7 @@ mutual
 
 -- ---- the splice
 
--- a splice puts in what its marks put in by offsets, leaves the marks behind, and is longer by what its marks add
+-- a splice puts in what is put in by offsets, leaves those behind, and is longer by what they add and take off
 record SplicedIn (at : ℕ) (t : Tree) (ps rest : List Put) : Type 0 where
   pub made : spliced_in at ps t ≡ fill_tree (put_at ps) at t
   pub rests : left_in at ps t ≡ rest
@@ -84,7 +84,7 @@ pub record Spliced (at : ℕ) (is : Items) (ps rest : List Put) : Type 0 where
   pub size : (m n : ℕ) → Trades ps m n → (k l : ℕ) × Trades rest k l × (length (items_bytes (spliced at ps is)) + m + l ≡ length (items_bytes is) + n + k)
   pub most : (m n : ℕ) → Caps ps m n → (k l : ℕ) × Caps rest k l × (length (items_bytes (spliced at ps is)) + m + l ≤ length (items_bytes is) + n + k)
 
--- the value's own mark
+-- the value's own place is taken
 of_own : (at : ℕ) (t : Tree) (p : Put) (ps : List Put) → p.start ≡ at → p.end ≡ at + length (value_bytes t) → SplicedIn at t (p ∷ ps) ps
 of_own at (leaf tag bytes) p ps s e =
     let on : (p.start == at) ≡ true = eq-eqb p.start at s in
@@ -103,14 +103,14 @@ not_before : (to : ℕ) (ps : List Put) → is_before (to + 1) ps ≡ false → 
 not_before to [] e = tt
 not_before to (p ∷ ps) e = omega (arith, ltb-false p.start (to + 1) e)
 
--- a raw value without a mark
+-- a raw value whose place isn't taken
 of_raw : (at tag : ℕ) (bytes : List ℕ) (ps : List Put) → AreBehind at ps → SplicedIn at (leaf tag bytes) ps ps
 of_raw at tag bytes ps b =
     let off = not_begun at ps b in
     let absent = none_put ps at (leaf tag bytes) b in
     record { made = rw (off, absent) refl; rests = rw off refl; size = λ m n a. (m, n, a, rw off (omega arith)); most = λ m n a. (m, n, a, rw off (omega arith)) }
 
--- a value inside which the next mark stands
+-- a value inside which the next place stands
 of_open : (at tag : ℕ) (is : Items) (ps rest : List Put) → begins at ps ≡ false → is_before (at + length (framed (items_bytes is))) ps ≡ true
     → put_at ps at (node tag is) ≡ None → Spliced (at + 4) is ps rest → SplicedIn at (node tag is) ps rest
 of_open at tag is ps rest off on absent s =
@@ -121,7 +121,7 @@ of_open at tag is ps rest off on absent s =
       most = λ m n a. let i = s.most m n a in (i.0, i.1, i.2, rw (off, on) (omega (arith, i.3, framed_size (items_bytes is), framed_size (items_bytes (spliced (at + 4) ps is)))));
     }
 
--- a value behind which the next mark stands
+-- a value behind which the next place stands
 of_shut : (at tag : ℕ) (is : Items) (ps rest : List Put) → begins at ps ≡ false → is_before (at + length (framed (items_bytes is))) ps ≡ false
     → ps ≡ rest → AreBehind (at + 4 + length (items_bytes is)) ps → SplicedIn at (node tag is) ps rest
 of_shut at tag is ps rest off shut e b =
@@ -182,7 +182,7 @@ mutual
       (earlier at (at + 4) ps (omega arith) (behind d low))
       (spliced_items d low)
 
-  -- what marks at values of these elements put in
+  -- what takes values of these elements
   pub spliced_items : {at : ℕ} {is : Items} {ps rest : List Put} → Takes at is ps rest
       → AreBehind (at + length (items_bytes is)) rest → Spliced at is ps rest
   spliced_items (done at ps) b = record { made = refl; rests = refl; size = λ m n a. (m, n, a, omega arith); most = λ m n a. (m, n, a, omega arith) }
