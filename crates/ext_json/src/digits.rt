@@ -17,8 +17,7 @@ const PIECE: usize = 768;
 /// Writes at most 16 bytes as pairs of lower-case hexadecimal digits.
 pub fn put_hex<O: Sink>(bytes: &[u8], out: &mut O) -> Result<(), Failed>
     requires { length bytes.now ≤ 16 }
-    ensures { WritesWhole (O.written out.old) (O.written out.new) (O.faults out.old) (O.faults out.new)
-        (O.assured out.old) (O.assured out.new) result (encode_lower bytes.now) }
+    ensures { WritesWhole (O.seen out.old) (O.seen out.new) result (encode_lower bytes.now) }
 {
     let mut buffer = [0u8; 32];
     let digits = &mut buffer[..2 * bytes.len()];
@@ -30,16 +29,14 @@ pub fn put_hex<O: Sink>(bytes: &[u8], out: &mut O) -> Result<(), Failed>
 
 /// Writes a byte as two lower-case hexadecimal digits.
 pub fn put_byte<O: Sink>(byte: u8, out: &mut O) -> Result<(), Failed>
-    ensures { WritesWhole (O.written out.old) (O.written out.new) (O.faults out.old) (O.faults out.new)
-        (O.assured out.old) (O.assured out.new) result (encode_lower (byte ∷ [])) }
+    ensures { WritesWhole (O.seen out.old) (O.seen out.new) result (encode_lower (byte ∷ [])) }
 {
     put_hex(&[byte], out)
 }
 
 /// Writes the base64 text of bytes, padding included.
 pub fn put_base64<O: Sink>(bytes: &[u8], out: &mut O) -> Result<(), Failed>
-    ensures { WritesWhole (O.written out.old) (O.written out.new) (O.faults out.old) (O.faults out.new)
-        (O.assured out.old) (O.assured out.new) result (encode_of standard bytes.now) }
+    ensures { WritesWhole (O.seen out.old) (O.seen out.new) result (encode_of standard bytes.now) }
 {
     let mut left = bytes;
     while left.len() > PIECE {
@@ -58,8 +55,7 @@ pub fn put_base64<O: Sink>(bytes: &[u8], out: &mut O) -> Result<(), Failed>
 
 fn put_piece<O: Sink>(piece: &[u8], out: &mut O) -> Result<(), Failed>
     requires { length piece.now ≤ 768 }
-    ensures { WritesWhole (O.written out.old) (O.written out.new) (O.faults out.old) (O.faults out.new)
-        (O.assured out.old) (O.assured out.new) result (encode_of standard piece.now) }
+    ensures { WritesWhole (O.seen out.old) (O.seen out.new) result (encode_of standard piece.now) }
 {
     let mut buffer = [0u8; 1024];
     let Ok(n) = STANDARD.encode_slice(piece, &mut buffer) else {
@@ -71,8 +67,7 @@ fn put_piece<O: Sink>(piece: &[u8], out: &mut O) -> Result<(), Failed>
 
 /// Writes a signed number in decimal digits.
 pub fn put_signed<O: Sink>(number: i64, out: &mut O) -> Result<(), Failed>
-    ensures { WritesWhole (O.written out.old) (O.written out.new) (O.faults out.old) (O.faults out.new)
-        (O.assured out.old) (O.assured out.new) result (signed_decimal number) }
+    ensures { WritesWhole (O.seen out.old) (O.seen out.new) result (signed_decimal number) }
 {
     let mut buffer = Buffer::new();
     let digits = buffer.format(number);
@@ -81,8 +76,7 @@ pub fn put_signed<O: Sink>(number: i64, out: &mut O) -> Result<(), Failed>
 
 /// Writes an unsigned number in decimal digits.
 pub fn put_unsigned<O: Sink>(number: u32, out: &mut O) -> Result<(), Failed>
-    ensures { WritesWhole (O.written out.old) (O.written out.new) (O.faults out.old) (O.faults out.new)
-        (O.assured out.old) (O.assured out.new) result (decimal number) }
+    ensures { WritesWhole (O.seen out.old) (O.seen out.new) result (decimal number) }
 {
     let mut buffer = Buffer::new();
     let digits = buffer.format(number);

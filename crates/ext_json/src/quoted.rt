@@ -12,8 +12,7 @@ use fle_outside::{Failed, Sink, write_whole};
 
 /// Writes a string in quotes.
 pub fn put_quoted<O: Sink>(text: &[u8], out: &mut O) -> Result<(), Failed>
-    ensures { WritesWhole (O.written out.old) (O.written out.new) (O.faults out.old) (O.faults out.new)
-        (O.assured out.old) (O.assured out.new) result (quoted text.now) }
+    ensures { WritesWhole (O.seen out.old) (O.seen out.new) result (quoted text.now) }
 {
     match write_whole(out, quote()) {
         Ok(()) => {}
@@ -28,8 +27,7 @@ pub fn put_quoted<O: Sink>(text: &[u8], out: &mut O) -> Result<(), Failed>
 
 /// Writes the bytes of a string, with the escapes that are needed.
 pub fn put_escaped<O: Sink>(text: &[u8], out: &mut O) -> Result<(), Failed>
-    ensures { WritesWhole (O.written out.old) (O.written out.new) (O.faults out.old) (O.faults out.new)
-        (O.assured out.old) (O.assured out.new) result (escaped text.now) }
+    ensures { WritesWhole (O.seen out.old) (O.seen out.new) result (escaped text.now) }
 {
     let mut left = text;
     while !left.is_empty() {
@@ -47,8 +45,7 @@ pub fn put_escaped<O: Sink>(text: &[u8], out: &mut O) -> Result<(), Failed>
 // A run of bytes that stand as they are, or one byte.
 fn put_front<O: Sink>(front: &[u8], out: &mut O) -> Result<(), Failed>
     requires { (length front.now ≡ 1) ⊎ (escaped front.now ≡ front.now) }
-    ensures { WritesWhole (O.written out.old) (O.written out.new) (O.faults out.old) (O.faults out.new)
-        (O.assured out.old) (O.assured out.new) result (escaped front.now) }
+    ensures { WritesWhole (O.seen out.old) (O.seen out.new) result (escaped front.now) }
 {
     if front.len() == 1 {
         put_escape(front[0], out)
@@ -58,8 +55,7 @@ fn put_front<O: Sink>(front: &[u8], out: &mut O) -> Result<(), Failed>
 }
 
 fn put_escape<O: Sink>(byte: u8, out: &mut O) -> Result<(), Failed>
-    ensures { WritesWhole (O.written out.old) (O.written out.new) (O.faults out.old) (O.faults out.new)
-        (O.assured out.old) (O.assured out.new) result (escape byte) }
+    ensures { WritesWhole (O.seen out.old) (O.seen out.new) result (escape byte) }
 {
     if byte == b'"' || byte == b'\\' {
         return write_whole(out, &[b'\\', byte]);
@@ -71,8 +67,7 @@ fn put_escape<O: Sink>(byte: u8, out: &mut O) -> Result<(), Failed>
 }
 
 fn put_control<O: Sink>(byte: u8, out: &mut O) -> Result<(), Failed>
-    ensures { WritesWhole (O.written out.old) (O.written out.new) (O.faults out.old) (O.faults out.new)
-        (O.assured out.old) (O.assured out.new) result (control_start ++ encode_lower (byte ∷ [])) }
+    ensures { WritesWhole (O.seen out.old) (O.seen out.new) result (control_start ++ encode_lower (byte ∷ [])) }
 {
     match write_whole(out, control()) {
         Ok(()) => {}

@@ -26,8 +26,7 @@ use fle_outside::{Failed, Sink, write_whole};
 pub fn put_raw<O: Sink>(form: Form, value: &[u8], out: &mut O) -> Result<(), Failed>
     requires { IsRaw (IsItems (level_limit - 1)) (form_layout form) value.now }
     ensures { (D : Items → List ℕ) → (form ≡ Form.Scope → ⊥)
-        → WritesWhole (O.written out.old) (O.written out.new) (O.faults out.old) (O.faults out.new)
-        (O.assured out.old) (O.assured out.new) result (raw_text D form value.now) }
+        → WritesWhole (O.seen out.old) (O.seen out.new) result (raw_text D form value.now) }
 {
     match write_whole(out, head(form)) {
         Ok(()) => {}
@@ -45,8 +44,7 @@ pub fn put_raw<O: Sink>(form: Form, value: &[u8], out: &mut O) -> Result<(), Fai
 fn put_body<O: Sink>(form: Form, value: &[u8], out: &mut O) -> Result<(), Failed>
     requires { IsRaw (IsItems (level_limit - 1)) (form_layout form) value.now }
     ensures { (D : Items → List ℕ) → (form ≡ Form.Scope → ⊥)
-        → WritesWhole (O.written out.old) (O.written out.new) (O.faults out.old) (O.faults out.new)
-        (O.assured out.old) (O.assured out.new) result (body_text D form value.now) }
+        → WritesWhole (O.seen out.old) (O.seen out.new) result (body_text D form value.now) }
 {
     match form {
         Form::DoubleBits | Form::ObjectId | Form::DecimalBits => put_hex(value, out),
@@ -64,8 +62,7 @@ fn put_body<O: Sink>(form: Form, value: &[u8], out: &mut O) -> Result<(), Failed
 }
 
 fn put_binary<O: Sink>(subtype: u8, contents: &[u8], out: &mut O) -> Result<(), Failed>
-    ensures { WritesWhole (O.written out.old) (O.written out.new) (O.faults out.old) (O.faults out.new)
-        (O.assured out.old) (O.assured out.new) result
+    ensures { WritesWhole (O.seen out.old) (O.seen out.new) result
         (encode_of standard contents.now ++ (middle_text Form.Binary ++ encode_lower (subtype ∷ []))) }
 {
     match put_base64(contents, out) {
@@ -80,8 +77,7 @@ fn put_binary<O: Sink>(subtype: u8, contents: &[u8], out: &mut O) -> Result<(), 
 }
 
 fn put_regex<O: Sink>(parts: (&[u8], &[u8]), out: &mut O) -> Result<(), Failed>
-    ensures { WritesWhole (O.written out.old) (O.written out.new) (O.faults out.old) (O.faults out.new)
-        (O.assured out.old) (O.assured out.new) result
+    ensures { WritesWhole (O.seen out.old) (O.seen out.new) result
         (quoted parts.entry.0.now ++ (middle_text Form.Regex ++ quoted parts.entry.1.now)) }
 {
     let (pattern, options) = parts;
@@ -98,8 +94,7 @@ fn put_regex<O: Sink>(parts: (&[u8], &[u8]), out: &mut O) -> Result<(), Failed>
 
 fn put_pointer<O: Sink>(parts: (&[u8], &[u8]), out: &mut O) -> Result<(), Failed>
     requires { length parts.1.now ≤ 16 }
-    ensures { WritesWhole (O.written out.old) (O.written out.new) (O.faults out.old) (O.faults out.new)
-        (O.assured out.old) (O.assured out.new) result
+    ensures { WritesWhole (O.seen out.old) (O.seen out.new) result
         (quoted parts.entry.0.now ++ (middle_text Form.Pointer ++ encode_lower parts.entry.1.now)) }
 {
     let (namespace, id) = parts;
@@ -115,8 +110,7 @@ fn put_pointer<O: Sink>(parts: (&[u8], &[u8]), out: &mut O) -> Result<(), Failed
 }
 
 fn put_timestamp<O: Sink>(seconds: u32, increment: u32, out: &mut O) -> Result<(), Failed>
-    ensures { WritesWhole (O.written out.old) (O.written out.new) (O.faults out.old) (O.faults out.new)
-        (O.assured out.old) (O.assured out.new) result
+    ensures { WritesWhole (O.seen out.old) (O.seen out.new) result
         (decimal seconds ++ (middle_text Form.Timestamp ++ decimal increment)) }
 {
     match put_unsigned(seconds, out) {

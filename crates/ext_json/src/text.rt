@@ -25,8 +25,7 @@ const LEVELS: u32 = 100;
 ///
 /// The text is UTF-8 where `first_bad_text` finds no place.
 pub fn write_text<O: Sink>(document: &RawDoc<'_>, out: &mut O) -> Result<(), Failed>
-    ensures text { WritesWhole (O.written out.old) (O.written out.new) (O.faults out.old) (O.faults out.new)
-        (O.assured out.old) (O.assured out.new) result (text document.now.tree) }
+    ensures text { WritesWhole (O.seen out.old) (O.seen out.new) result (text document.now.tree) }
 {
     put_inside(LEVELS, true, document, out)
 }
@@ -40,8 +39,7 @@ fn put_inside<O: Sink>(
     document: &RawDoc<'_>,
     out: &mut O,
 ) -> Result<(), Failed>
-    ensures { WritesWhole (O.written out.old) (O.written out.new) (O.faults out.old) (O.faults out.new)
-        (O.assured out.old) (O.assured out.new) result (inside_text levels named document.now.tree) }
+    ensures { WritesWhole (O.seen out.old) (O.seen out.new) result (inside_text levels named document.now.tree) }
 {
     if levels == 0 {
         return Ok(());
@@ -65,8 +63,7 @@ fn put_elements<O: Sink>(
     document: &RawDoc<'_>,
     out: &mut O,
 ) -> Result<(), Failed>
-    ensures { WritesWhole (O.written out.old) (O.written out.new) (O.faults out.old) (O.faults out.new)
-        (O.assured out.old) (O.assured out.new) result
+    ensures { WritesWhole (O.seen out.old) (O.seen out.new) result
         (elements_text (value_text (inside_text levels)) named [] document.now.tree) }
 {
     let mut before: &[u8] = &[];
@@ -88,8 +85,7 @@ fn put_element<O: Sink>(
     item: &RawItem<'_>,
     out: &mut O,
 ) -> Result<(), Failed>
-    ensures { WritesWhole (O.written out.old) (O.written out.new) (O.faults out.old) (O.faults out.new)
-        (O.assured out.old) (O.assured out.new) result
+    ensures { WritesWhole (O.seen out.old) (O.seen out.new) result
         (before.now ++ (name_text named item.now.name ++ value_text (inside_text levels) item.now.tree)) }
 {
     match write_whole(out, before) {
@@ -105,8 +101,7 @@ fn put_element<O: Sink>(
 
 #[cycle(text)]
 fn put_value<O: Sink>(levels: u32, item: &RawItem<'_>, out: &mut O) -> Result<(), Failed>
-    ensures { WritesWhole (O.written out.old) (O.written out.new) (O.faults out.old) (O.faults out.new)
-        (O.assured out.old) (O.assured out.new) result (value_text (inside_text levels) item.now.tree) }
+    ensures { WritesWhole (O.seen out.old) (O.seen out.new) result (value_text (inside_text levels) item.now.tree) }
 {
     match item.child() {
         Some(inside) => put_inside(levels, item.tag() == types::DOCUMENT, &inside, out),
@@ -117,8 +112,7 @@ fn put_value<O: Sink>(levels: u32, item: &RawItem<'_>, out: &mut O) -> Result<()
 // A value that is no document and no array.
 #[cycle(text)]
 fn put_leaf<O: Sink>(levels: u32, item: &RawItem<'_>, out: &mut O) -> Result<(), Failed>
-    ensures { WritesWhole (O.written out.old) (O.written out.new) (O.faults out.old) (O.faults out.new)
-        (O.assured out.old) (O.assured out.new) result
+    ensures { WritesWhole (O.seen out.old) (O.seen out.new) result
         (leaf_text (inside_text levels true) (form_of_type (tag_of item.now.tree)) (value_bytes item.now.tree)) }
 {
     let value = item.value();
@@ -136,8 +130,7 @@ fn put_scope<O: Sink>(
     scope: &RawDoc<'_>,
     out: &mut O,
 ) -> Result<(), Failed>
-    ensures { WritesWhole (O.written out.old) (O.written out.new) (O.faults out.old) (O.faults out.new)
-        (O.assured out.old) (O.assured out.new) result
+    ensures { WritesWhole (O.seen out.old) (O.seen out.new) result
         (head_text Form.Scope ++ ((quoted code.now ++ (middle_text Form.Scope
         ++ inside_text levels true scope.now.tree)) ++ tail_text Form.Scope)) }
 {
@@ -154,8 +147,7 @@ fn put_scope<O: Sink>(
 
 // The code, and what its scope stands behind.
 fn put_code<O: Sink>(code: &[u8], out: &mut O) -> Result<(), Failed>
-    ensures { WritesWhole (O.written out.old) (O.written out.new) (O.faults out.old) (O.faults out.new)
-        (O.assured out.old) (O.assured out.new) result
+    ensures { WritesWhole (O.seen out.old) (O.seen out.new) result
         (head_text Form.Scope ++ (quoted code.now ++ middle_text Form.Scope)) }
 {
     match write_whole(out, head(Form::Scope)) {
@@ -174,8 +166,7 @@ fn put_plain<O: Sink>(item: &RawItem<'_>, value: &[u8], out: &mut O) -> Result<(
     requires bytes { value.now ≡ value_bytes item.now.tree }
     requires laid { IsValue (IsItems (level_limit - 1)) item.now.tree }
     ensures { (D : Items → List ℕ) → (tag_of item.now.tree ≡ 0x0F → ⊥)
-        → WritesWhole (O.written out.old) (O.written out.new) (O.faults out.old) (O.faults out.new)
-        (O.assured out.old) (O.assured out.new) result
+        → WritesWhole (O.seen out.old) (O.seen out.new) result
         (leaf_text D (form_of_type (tag_of item.now.tree)) (value_bytes item.now.tree)) }
 {
     let tag = item.tag();
@@ -186,8 +177,7 @@ fn put_plain<O: Sink>(item: &RawItem<'_>, value: &[u8], out: &mut O) -> Result<(
 }
 
 fn put_name<O: Sink>(named: bool, name: &[u8], out: &mut O) -> Result<(), Failed>
-    ensures { WritesWhole (O.written out.old) (O.written out.new) (O.faults out.old) (O.faults out.new)
-        (O.assured out.old) (O.assured out.new) result (name_text named name.now) }
+    ensures { WritesWhole (O.seen out.old) (O.seen out.new) result (name_text named name.now) }
 {
     if named {
         put_member_name(name, out)
@@ -197,8 +187,7 @@ fn put_name<O: Sink>(named: bool, name: &[u8], out: &mut O) -> Result<(), Failed
 }
 
 fn put_member_name<O: Sink>(name: &[u8], out: &mut O) -> Result<(), Failed>
-    ensures { WritesWhole (O.written out.old) (O.written out.new) (O.faults out.old) (O.faults out.new)
-        (O.assured out.old) (O.assured out.new) result (quoted name.now ++ 58 ∷ []) }
+    ensures { WritesWhole (O.seen out.old) (O.seen out.new) result (quoted name.now ++ 58 ∷ []) }
 {
     match put_quoted(name, out) {
         Ok(()) => {}

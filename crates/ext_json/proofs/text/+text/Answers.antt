@@ -12,13 +12,13 @@ use Rattle.ext_json.proofs.Scopes.{scope_text, scope_grouped, is_fifteen}
 use Rattle.ext_json.proofs.text.+text.Goals as goal
 
 pub put_element-returns-in-Err : goal.put_element-returns-in-Err
-put_element-returns-in-Err g t c = put_stops _ c.in-Err.ensures
+put_element-returns-in-Err g t c = put_stops _ c.in-Err.ensures.wrote
 
 pub put_element-returns-in-Err-put_name : goal.put_element-returns-in-Err-put_name
-put_element-returns-in-Err-put_name g t c = put_then _ c.in-Ok.ensures (put_stops _ (rw c.name.ensures.name at c.in-Err-put_name.ensures))
+put_element-returns-in-Err-put_name g t c = put_then _ c.in-Ok.ensures.wrote (put_stops _ (rw c.name.ensures.name at c.in-Err-put_name.ensures))
 
 pub put_element-returns : goal.put_element-returns
-put_element-returns g t c = put_then _ c.in-Ok.ensures (put_then _ (rw c.name.ensures.name at c.in-Ok-put_name.ensures) c.put_value.ensures)
+put_element-returns g t c = put_then _ c.in-Ok.ensures.wrote (put_then _ (rw c.name.ensures.name at c.in-Ok-put_name.ensures) c.put_value.ensures)
 
 pub put_elements-returns-in-Err : goal.put_elements-returns-in-Err
 put_elements-returns-in-Err g t c =
@@ -39,17 +39,17 @@ put_elements-returns g t c =
 
 pub put_inside-returns-in-Err : goal.put_inside-returns-in-Err
 put_inside-returns-in-Err g t c =
-    rw (inside_more c.args.levels c.args.named c.args.document.now.tree c.if-levels-eq0.false) (put_stops _ (rw c.opening.ensures at c.in-Err.ensures))
+    rw (inside_more c.args.levels c.args.named c.args.document.now.tree c.if-levels-eq0.false) (put_stops _ (rw c.opening.ensures at c.in-Err.ensures.wrote))
 
 pub put_inside-returns-in-Err-put_elements : goal.put_inside-returns-in-Err-put_elements
 put_inside-returns-in-Err-put_elements g t c =
     rw (inside_more c.args.levels c.args.named c.args.document.now.tree c.if-levels-eq0.false)
-    (put_then _ (rw c.opening.ensures at c.in-Ok.ensures) (put_stops _ c.in-Err-put_elements.ensures))
+    (put_then _ (rw c.opening.ensures at c.in-Ok.ensures.wrote) (put_stops _ c.in-Err-put_elements.ensures))
 
 pub put_inside-returns : goal.put_inside-returns
 put_inside-returns g t c =
     rw (inside_more c.args.levels c.args.named c.args.document.now.tree c.if-levels-eq0.false)
-    (put_then _ (rw c.opening.ensures at c.in-Ok.ensures) (put_then _ c.in-Ok-put_elements.ensures (rw c.closing.ensures at c.write_whole-2.ensures)))
+    (put_then _ (rw c.opening.ensures at c.in-Ok.ensures.wrote) (put_then _ c.in-Ok-put_elements.ensures (rw c.closing.ensures at c.write_whole-2.ensures.wrote)))
 
 pub put_scope-returns-in-Err : goal.put_scope-returns-in-Err
 put_scope-returns-in-Err g t c =
@@ -62,7 +62,7 @@ put_scope-returns-in-Err-put_inside g t c =
 pub put_scope-returns : goal.put_scope-returns
 put_scope-returns g t c =
     rw (scope_grouped (head_text forms.Scope) (quoted c.args.code.now) (middle_text forms.Scope) (inside_text c.args.levels true c.args.scope.now.tree) (tail_text forms.Scope))
-    (put_then _ c.in-Ok.ensures (put_then _ c.in-Ok-put_inside.ensures (rw c.tail.ensures at c.write_whole.ensures)))
+    (put_then _ c.in-Ok.ensures (put_then _ c.in-Ok-put_inside.ensures (rw c.tail.ensures at c.write_whole.ensures.wrote)))
 
 pub put_leaf-returns-in-Some : goal.put_leaf-returns-in-Some
 put_leaf-returns-in-Some g t c =

@@ -25,6 +25,6 @@ abbrev pub invariant-put_elements-loop-item : goal.invariant-put_elements-loop-i
 invariant-put_elements-loop-item g l =
     (goal.iterator-put_elements-loop-item g).can_next l.item-iterator ×
     (goal.iterator-put_elements-loop-item g).is_finite l.item-iterator ×
-    PartWay (g.O.Sink.written l.fn.out) (g.O.Sink.written l.out) (g.O.Sink.faults l.fn.out) (g.O.Sink.faults l.out) (g.O.Sink.assured l.fn.out) (g.O.Sink.assured l.out)
+    PartWay (g.O.Sink.seen l.fn.out) (g.O.Sink.seen l.out)
     (elements_text (value_text (inside_text l.levels)) l.named [] l.document.tree)
     (elements_text (value_text (inside_text l.levels)) l.named l.before l.item-iterator.tree)
