@@ -4,3 +4,4 @@ pub mod Spots
 pub mod Reasons
 pub mod Verdicts
 pub mod Marks
+pub mod Shows

@@ -7,6 +7,7 @@ use Rattle.fle_runner.specs.declared.words.Asked.TheVariants as asked
 -- a verb with its words
 pub data Form : Type 0 where
   mark : List ℕ → List ℕ → Form
+  show : Form
 
 -- `mark DB SCHEMAS`: DB has 1 to 63 bytes, SCHEMAS isn't empty
 abbrev pub mark_form : List ℕ → List ℕ → Option Form
@@ -17,6 +18,7 @@ abbrev pub is_verb : List ℕ → List ℕ → Bool
 is_verb word verb = pointwise nat_eq word verb
 
 abbrev pub form_of : List (List ℕ) → Option Form
+form_of (verb ∷ []) = if is_verb verb (codes "show") then Some show else None
 form_of (verb ∷ db ∷ schemas ∷ []) = if is_verb verb (codes "mark") then mark_form db schemas else None
 form_of _ = None
 
@@ -24,8 +26,10 @@ form_of _ = None
 abbrev pub asked_form : Asked → Option Form
 asked_form asked.Nothing = None
 asked_form (asked.Mark db schemas) = Some (mark db.now schemas.now)
+asked_form asked.Show = Some show
 
 -- a run of these words draws no random block
 abbrev pub DrawsNoBlock : Option Form → Type 0
 DrawsNoBlock None = Unit {0}
 DrawsNoBlock (Some (mark db schemas)) = Unit {0}
+DrawsNoBlock (Some show) = Unit {0}

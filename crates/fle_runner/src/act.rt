@@ -13,6 +13,7 @@ ghost use Rattle.fle_stream.specs.Task.{outcome_of};
 ghost use Rattle.fle_stream.specs.Turn.{RunTook};
 
 use crate::mark::mark;
+use crate::show::show;
 use crate::words::{Asked, read_words};
 use fle_outside::{Entropy, Folder, Sink, Source};
 use fle_stream::{Cut, End, Finish, Why};
@@ -51,5 +52,6 @@ pub fn act<S: Source, F: Folder, O: Sink, N: Entropy>(
     match read_words(words) {
         Asked::Nothing => End::unread(Why::Finished(Finish::Words)),
         Asked::Mark { db, schemas } => mark(alloc, db, schemas, input, files, out, entropy),
+        Asked::Show => show(alloc, input, out, entropy),
     }
 }

@@ -10,6 +10,7 @@
 #![tactic(auto)]
 
 mod act;
+mod gathered;
 mod help;
 mod laws;
 mod mark;
@@ -20,6 +21,7 @@ mod placing_tests;
 mod program;
 #[cfg(test)]
 mod schema_tests;
+mod show;
 #[cfg(test)]
 mod tests;
 #[cfg(test)]

@@ -18,6 +18,8 @@ pub enum Asked<'a> {
         /// The name of the file of collection infos.
         schemas: &'a str,
     },
+    /// The text of each document.
+    Show,
 }
 
 /// What the words after the program's name ask for.
@@ -25,6 +27,7 @@ pub fn read_words(words: &[String]) -> Asked<'_>
     ensures asked { asked_form result ≡ form_of (map string_bytes words.now) }
 {
     match words {
+        [verb] if verb.as_str() == "show" => Asked::Show,
         [verb, db, schemas] if verb.as_str() == "mark" => mark_words(db.as_str(), schemas.as_str()),
         _ => Asked::Nothing,
     }

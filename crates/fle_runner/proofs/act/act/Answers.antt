@@ -1,9 +1,10 @@
--- The words have no form, or that of `mark`.
+-- The words have no form, or that of a verb.
 use Rattle.std.proofs.Common.{Option, sym, ap}
 use Rattle.fle_runner.specs.Words.{Form}
 use Rattle.fle_runner.specs.Verbs.{task_of}
+use Rattle.fle_runner.specs.Show.{show_verdict}
 use Rattle.fle_stream.specs.declared.why.Finish.TheVariants as finishes
-use Rattle.fle_stream.proofs.Programs.{did_task, did_fail, ends_task}
+use Rattle.fle_stream.proofs.Programs.{did_task, did_fail, ends_task, ends_each}
 use Rattle.fle_runner.proofs.act.act.Goals as goal
 
 pub returns-in-Nothing-clause-did : goal.returns-in-Nothing-clause-did
@@ -18,3 +19,11 @@ returns-in-Mark-clause-did g c = λ all told has is.
 pub returns-in-Mark-clause-placed : goal.returns-in-Mark-clause-placed
 returns-in-Mark-clause-placed g c = λ all has.
     ends_task _ (ap (λ (f : Option Form). task_of f all) (sym c.in-Mark.ensures.asked)) (c.mark.ensures.placed all has)
+
+pub returns-in-Show-clause-did : goal.returns-in-Show-clause-did
+returns-in-Show-clause-did g c = λ all told has is.
+    did_task (ap (λ (f : Option Form). task_of f all) (sym c.in-Show.ensures.asked)) (c.show.ensures.did told is)
+
+pub returns-in-Show-clause-placed : goal.returns-in-Show-clause-placed
+returns-in-Show-clause-placed g c = λ all has.
+    ends_task _ (ap (λ (f : Option Form). task_of f all) (sym c.in-Show.ensures.asked)) (ends_each show_verdict _ c.show.ensures.kind)
