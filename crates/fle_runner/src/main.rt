@@ -12,6 +12,7 @@
 mod act;
 mod gathered;
 mod help;
+mod infos;
 mod laws;
 mod mark;
 mod numbers;
