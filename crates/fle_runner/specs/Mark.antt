@@ -79,11 +79,11 @@ abbrev pub infos_why : InfosFault → Why
 infos_why (faults.Bad number document) = whys.Finished (finishes.Setup 1 (setups.Contents number) document)
 infos_why faults.Memory = whys.Cut cuts.Memory
 
--- each command is marked under the infos that the file has, or the file is at fault
+-- each command is marked under the infos that the file has, or the file is at fault; none comes to want of memory
 abbrev pub infos_task : List ℕ → Result (List Collection) InfosFault → Task
 infos_task db (Ok infos) = each (mark_verdict infos db)
 infos_task db (Err (faults.Bad number document)) = fails (finishes.Setup 1 (setups.Contents number) document)
-infos_task db (Err faults.Memory) = fails (finishes.Setup 1 setups.TooLong 0)
+infos_task db (Err faults.Memory) = fails finishes.Done
 
 -- a file of collection infos has at most 64 MiB
 abbrev pub infos_limit : ℕ

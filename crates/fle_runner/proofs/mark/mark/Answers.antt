@@ -1,8 +1,8 @@
 -- The file is loaded and read, and then the stream is judged.
-use Rattle.std.proofs.Common.{List, Result, ◌∙◌, ap}
+use Rattle.std.proofs.Common.{List, ℕ, Result, Err, ◌∙◌, ap, subst}
 use Rattle.encrypt_schema.specs.Collection.{Collection}
 use Rattle.fle_outside.specs.Files.{file_of}
-use Rattle.fle_runner.specs.Infos.{infos_read}
+use Rattle.fle_runner.specs.Infos.{ReadsAs, infos_read}
 use Rattle.fle_runner.specs.Mark.{infos_limit, infos_task, mark_verdict}
 use Rattle.fle_runner.specs.declared.infos.InfosFault.{InfosFault}
 use Rattle.fle_stream.proofs.Programs.{did_task, did_load, ends_task, ends_load, ends_each}
@@ -36,14 +36,14 @@ returns-in-Ok-read_infos-clause-undrawn g c = λ at. c.judge_stream.ensures.undr
 
 pub returns-clause-did : goal.returns-clause-did
 returns-clause-did g c = λ all told has is.
-    let read = rw c.deref.ensures.value at c.in-Err-read_infos.ensures.read in
+    let read = subst (λ (bytes : List ℕ). ReadsAs (infos_read bytes) (Err c.in-Err-read_infos.fault)) c.deref.ensures.value c.in-Err-read_infos.ensures.read in
     let from = c.in-Ok.ensures.load all has (λ bytes. infos_task c.args.db.now (infos_read bytes)) in
     rw (c.unread-in-Err-read_infos.ensures.unread, c.why_infos.ensures.why)
     (did_infos _ c.args.db.now (infos_read c.in-Ok.bytes.items) c.in-Err-read_infos.fault told _ _ _ from read is)
 
 pub returns-clause-placed : goal.returns-clause-placed
 returns-clause-placed g c = λ all has.
-    let read = rw c.deref.ensures.value at c.in-Err-read_infos.ensures.read in
+    let read = subst (λ (bytes : List ℕ). ReadsAs (infos_read bytes) (Err c.in-Err-read_infos.fault)) c.deref.ensures.value c.in-Err-read_infos.ensures.read in
     let from = c.in-Ok.ensures.load all has (λ bytes. infos_task c.args.db.now (infos_read bytes)) in
     rw (c.unread-in-Err-read_infos.ensures.unread, c.why_infos.ensures.why)
     (ends_infos _ c.args.db.now (infos_read c.in-Ok.bytes.items) c.in-Err-read_infos.fault from read)
