@@ -2,7 +2,7 @@
 _fle() {
   local word=${COMP_WORDS[COMP_CWORD]}
   case $COMP_CWORD in
-    1) mapfile -t COMPREPLY < <(compgen -W "mark --help --version" -- "$word") ;;
+    1) mapfile -t COMPREPLY < <(compgen -W "mark show --help --version" -- "$word") ;;
     3) mapfile -t COMPREPLY < <(compgen -f -- "$word") ;;
     *) COMPREPLY=() ;;
   esac

@@ -1,4 +1,5 @@
 pub mod Writing
+pub mod Wants
 pub mod Zeros
 pub mod Layouts
 pub mod Escapes

@@ -1,6 +1,6 @@
 //! Collection infos from a JSON text (RFC 8259).
 
-ghost use Rattle.std.specs.Prelude.{◌≡◌, ◌≤◌, ◌+◌, ◌*◌, ◌++◌, [], length, Some, None, IfErr, OnOk};
+ghost use Rattle.std.specs.Prelude.{◌≡◌, ◌≤◌, ◌+◌, ◌*◌, ◌++◌, [], length, Some, None, IfErr, IfOk, OnOk};
 ghost use Rattle.serde_json.specs.View.{view, items_view};
 ghost use Rattle.bson_tree.specs.Spelling.{doc_bytes};
 ghost use Rattle.bson_tree.specs.Tree.{Items, node};
@@ -26,6 +26,7 @@ const LONGEST: usize = 67_108_864;
 /// BSON holds. `Syntax` and `Form` exactly where the text has that fault.
 pub fn infos_from_json(alloc: Global, text: &[u8]) -> Result<Vec<u8>, JsonFault>
     ensures infos { Answers (λ v. v.items) result (json_infos text.now) }
+    ensures small { IfOk result (λ v. length v.items ≤ longest) }
 {
     match Json::from_slice(alloc, text) {
         Ok(value) => infos_of(alloc, &value),
@@ -37,7 +38,8 @@ pub fn infos_from_json(alloc: Global, text: &[u8]) -> Result<Vec<u8>, JsonFault>
 }
 
 fn infos_of(alloc: Global, value: &Json) -> Result<Vec<u8>, JsonFault>
-    ensures { Answers (λ v. v.items) result (infos_in (Some (view value.now))) }
+    ensures infos { Answers (λ v. v.items) result (infos_in (Some (view value.now))) }
+    ensures small { IfOk result (λ v. length v.items ≤ longest) }
 {
     match value {
         Json::Array(items) => members_in(alloc, items),
@@ -46,7 +48,8 @@ fn infos_of(alloc: Global, value: &Json) -> Result<Vec<u8>, JsonFault>
 }
 
 fn members_in(alloc: Global, items: &Vec<Json>) -> Result<Vec<u8>, JsonFault>
-    ensures { Answers (λ v. v.items) result (members_of 1 [] (items_view items.now.items)) }
+    ensures infos { Answers (λ v. v.items) result (members_of 1 [] (items_view items.now.items)) }
+    ensures small { IfOk result (λ v. length v.items ≤ longest) }
 {
     let mut out = Vec::new(alloc);
     let mut number = 1;

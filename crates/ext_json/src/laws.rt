@@ -1,11 +1,14 @@
 //! Laws of texts: what holds of all documents. The functions do nothing; their clauses are the laws.
 
-ghost use Rattle.std.specs.Prelude.{◌≡◌, ◌+◌, ◌++◌, ◌∷◌, ◌<◌, ◌^◌, ℕ, List, [], length, None, true, IsUtf8};
+ghost use Rattle.std.specs.Prelude.{◌≡◌, ◌+◌, ◌++◌, ◌∷◌, ◌<◌, ◌^◌, ℕ, List, [], length, None, true, Err, IsUtf8};
 ghost use Rattle.bson_tree.specs.Tree.{Items};
 ghost use Rattle.bson_codec.specs.Layout.{IsDoc, IsName, binary_bytes, level_limit, scope_bytes, string_bytes};
 ghost use Rattle.ext_json.specs.BadText.{first_bad};
+ghost use Rattle.ext_json.specs.Infos.{json_infos};
 ghost use Rattle.ext_json.specs.Parts as spec;
 ghost use Rattle.ext_json.specs.Text.{inside_text, text};
+
+use crate::fault::JsonFault;
 
 /// The text of a document without a bad place is UTF-8 (RFC 3629).
 pub fn texts_are_utf8()
@@ -32,4 +35,9 @@ pub fn parts_are_those_laid_out()
         → spec.code_of (scope_bytes code scope) ≡ code }
     ensures scope { (code : List ℕ) (scope : Items) → IsDoc scope → length (scope_bytes code scope) < 2 ^ 31
         → spec.scope_of (scope_bytes code scope) ≡ scope }
+{}
+
+/// No text comes to want of memory: that is an answer of `infos_from_json` alone.
+pub fn no_text_wants_memory()
+    ensures never { (written : List ℕ) → json_infos written ≡ Err JsonFault.Memory → ⊥ }
 {}

@@ -5,3 +5,4 @@ pub mod Reasons
 pub mod Verdicts
 pub mod Marks
 pub mod Shows
+pub mod InfosRead

@@ -4,15 +4,14 @@ use Rattle.std.proofs.lemmas.Bool.Decides.{nat_tests}
 use Rattle.bson_tree.specs.Tree.{Items}
 use Rattle.command_marker.specs.Reply.{reply_limit, reply_to}
 use Rattle.encrypt_schema.specs.Collection.{Collection}
-use Rattle.encrypt_schema.specs.Collections.{Faulty, Loads}
 use Rattle.encrypt_schema.specs.Targets.{rows_of}
 use Rattle.encrypt_schema.specs.Visits.{Refusal}
-use Rattle.encrypt_schema.specs.declared.faults.InfoFault.{InfoFault}
-use Rattle.encrypt_schema.specs.declared.faults.InfoFault.TheVariants as faults
 use Rattle.fle_outside.specs.Seen.{EntropySeen, SinkSeen}
 use Rattle.fle_outside.proofs.Drawings.{draws_none}
 use Rattle.fle_runner.specs.Mark.{infos_task, infos_why, mark_refusal, mark_verdict, plain_plan, sized, verdict_by}
-use Rattle.fle_runner.specs.Numbers.{infos_number}
+use Rattle.fle_runner.specs.Infos.{ReadsAs}
+use Rattle.fle_runner.specs.declared.infos.InfosFault.{InfosFault}
+use Rattle.fle_runner.specs.declared.infos.InfosFault.TheVariants as faults
 use Rattle.fle_stream.specs.Did.{Did}
 use Rattle.fle_stream.specs.Ended.{EndsAs}
 use Rattle.fle_stream.specs.Judge.{JudgeIs}
@@ -24,14 +23,14 @@ use Rattle.fle_stream.specs.declared.why.SetupFault.TheVariants as setups
 use Rattle.fle_stream.specs.declared.why.Why.TheVariants as whys
 use Rattle.fle_stream.proofs.Programs.{did_task, did_fail, did_memory, ends_task}
 
-pub did_infos : (t : Task) (db : List ℕ) (read : Result (List Collection) Faulty) (fault : InfoFault) (told : List ℕ) (after : Option (List ℕ)) (entropy : EntropySeen) (out : SinkSeen)
-    → t ≡ infos_task db read → Loads (Err fault) read → after ≡ Some told → Did t told after entropy entropy out out 0 (infos_why fault)
-did_infos t db read (faults.Bad document kind) told after entropy out from is left =
-    did_task (from ∙ ap (λ (x : Result (List Collection) Faulty). infos_task db x) is) (did_fail (finishes.Setup 1 (setups.Contents (infos_number kind)) document) told after entropy out left)
+pub did_infos : (t : Task) (db : List ℕ) (read : Result (List Collection) InfosFault) (fault : InfosFault) (told : List ℕ) (after : Option (List ℕ)) (entropy : EntropySeen) (out : SinkSeen)
+    → t ≡ infos_task db read → ReadsAs read (Err fault) → after ≡ Some told → Did t told after entropy entropy out out 0 (infos_why fault)
+did_infos t db read (faults.Bad number document) told after entropy out from is left =
+    did_task (from ∙ ap (λ (x : Result (List Collection) InfosFault). infos_task db x) is) (did_fail (finishes.Setup 1 (setups.Contents number) document) told after entropy out left)
 did_infos t db read faults.Memory told after entropy out from is left = did_memory t told after entropy out left
 
-pub ends_infos : (t : Task) (db : List ℕ) (read : Result (List Collection) Faulty) (fault : InfoFault) → t ≡ infos_task db read → Loads (Err fault) read → EndsAs t (infos_why fault)
-ends_infos t db read (faults.Bad document kind) from is = ends_task (whys.Finished (finishes.Setup 1 (setups.Contents (infos_number kind)) document)) (from ∙ ap (λ (x : Result (List Collection) Faulty). infos_task db x) is) refl
+pub ends_infos : (t : Task) (db : List ℕ) (read : Result (List Collection) InfosFault) (fault : InfosFault) → t ≡ infos_task db read → ReadsAs read (Err fault) → EndsAs t (infos_why fault)
+ends_infos t db read (faults.Bad number document) from is = ends_task (whys.Finished (finishes.Setup 1 (setups.Contents number) document)) (from ∙ ap (λ (x : Result (List Collection) InfosFault). infos_task db x) is) refl
 ends_infos t db read faults.Memory from is = tt
 
 -- no reply draws a block

@@ -1,5 +1,6 @@
 pub mod Numbers
 pub mod Words
+pub mod Infos
 pub mod Mark
 pub mod Show
 pub mod Verbs

@@ -2,9 +2,6 @@
 use Rattle.std.specs.Prelude.{◌≡◌, ℕ, Bool, true, false, nat_lt, Option, Some, None, option_map, Result, Ok, Err, List, length, if◌then◌else◌}
 use Rattle.bson_tree.specs.Tree.{Items}
 use Rattle.encrypt_schema.specs.Collection.{Collection}
-use Rattle.encrypt_schema.specs.Collections.{Faulty, collections}
-use Rattle.encrypt_schema.specs.declared.faults.InfoFault.{InfoFault}
-use Rattle.encrypt_schema.specs.declared.faults.InfoFault.TheVariants as faults
 use Rattle.encrypt_schema.specs.Row.{Row}
 use Rattle.encrypt_schema.specs.Offences.{is_view}
 use Rattle.encrypt_schema.specs.Targets.{rows_in, rows_of, verdict}
@@ -21,7 +18,10 @@ use Rattle.bson_tree.specs.Places.{place_of}
 use Rattle.fle_stream.specs.declared.why.Why.{Why}
 use Rattle.fle_stream.specs.declared.why.Why.TheVariants as whys
 use Rattle.fle_outside.specs.Blocks.{Block}
-use Rattle.fle_runner.specs.Numbers.{infos_number, reason_number}
+use Rattle.fle_runner.specs.Infos.{infos_read}
+use Rattle.fle_runner.specs.Numbers.{reason_number}
+use Rattle.fle_runner.specs.declared.infos.InfosFault.{InfosFault}
+use Rattle.fle_runner.specs.declared.infos.InfosFault.TheVariants as faults
 use Rattle.fle_stream.specs.declared.why.Finish.TheVariants as finishes
 use Rattle.fle_stream.specs.declared.why.Cut.TheVariants as cuts
 use Rattle.fle_stream.specs.declared.why.SetupFault.TheVariants as setups
@@ -75,14 +75,15 @@ Tells (mark_faults.Refused reason at) c v = v ≡ refuses reason (place_of at c)
 Tells mark_faults.Memory c v = Unit {0}
 
 -- why a run ends whose file of collection infos, the first of the words, is at fault
-abbrev pub infos_why : InfoFault → Why
-infos_why (faults.Bad document kind) = whys.Finished (finishes.Setup 1 (setups.Contents (infos_number kind)) document)
+abbrev pub infos_why : InfosFault → Why
+infos_why (faults.Bad number document) = whys.Finished (finishes.Setup 1 (setups.Contents number) document)
 infos_why faults.Memory = whys.Cut cuts.Memory
 
--- each command is marked under the infos that the file has, or the file is at fault
-abbrev pub infos_task : List ℕ → Result (List Collection) Faulty → Task
+-- each command is marked under the infos that the file has, or the file is at fault; none comes to want of memory
+abbrev pub infos_task : List ℕ → Result (List Collection) InfosFault → Task
 infos_task db (Ok infos) = each (mark_verdict infos db)
-infos_task db (Err faulty) = fails (finishes.Setup 1 (setups.Contents (infos_number faulty.kind)) faulty.document)
+infos_task db (Err (faults.Bad number document)) = fails (finishes.Setup 1 (setups.Contents number) document)
+infos_task db (Err faults.Memory) = fails finishes.Done
 
 -- a file of collection infos has at most 64 MiB
 abbrev pub infos_limit : ℕ
@@ -90,4 +91,4 @@ infos_limit = 67108864
 
 -- the file of collection infos is the first file of the words
 abbrev pub mark_task : List ℕ → Option (List ℕ) → Task
-mark_task db file = with_file 1 infos_limit file (λ bytes. infos_task db (collections bytes))
+mark_task db file = with_file 1 infos_limit file (λ bytes. infos_task db (infos_read bytes))

@@ -12,6 +12,9 @@
 mod act;
 mod gathered;
 mod help;
+mod infos;
+#[cfg(test)]
+mod json_tests;
 mod laws;
 mod mark;
 mod numbers;
@@ -22,6 +25,8 @@ mod program;
 #[cfg(test)]
 mod schema_tests;
 mod show;
+#[cfg(test)]
+mod show_tests;
 #[cfg(test)]
 mod tests;
 #[cfg(test)]

@@ -16,11 +16,12 @@ ghost use Rattle.fle_stream.specs.Plan.{Verdict, size_of};
 ghost use Rattle.fle_stream.specs.Task.{outcome_of};
 ghost use Rattle.fle_stream.specs.Turn.{RunTook};
 
-use crate::numbers::{number_of_infos, number_of_reason};
+use crate::infos::{InfosFault, read_infos};
+use crate::numbers::number_of_reason;
 use crate::placing::place_at;
 use bson_codec::RawDoc;
 use command_marker::{ReplyFault, Target, mark_command, reply, reply_clear, target};
-use encrypt_schema::{Info, InfoFault, Infos, MarkFault, Reason, Rows};
+use encrypt_schema::{Info, Infos, MarkFault, Reason, Rows};
 use fle_outside::{Entropy, Folder, Memory, Sink, Source};
 use fle_stream::{Cut, End, Finish, Judge, Judged, SetupFault, Why, judge_stream, load_file};
 use std::alloc::Global;
@@ -151,22 +152,22 @@ pub fn mark<S: Source, F: Folder, O: Sink, N: Entropy>(
         Ok(bytes) => bytes,
         Err(why) => return End::unread(why),
     };
-    match Infos::load(alloc, &bytes) {
+    match read_infos(alloc, &bytes) {
         Ok(infos) => judge_stream(alloc, Marker { infos, db }, input, out, entropy),
         Err(fault) => End::unread(why_infos(fault)),
     }
 }
 
 /// Why a run ends whose file of collection infos, the first of the words, is at fault.
-fn why_infos(fault: InfoFault) -> Why
+fn why_infos(fault: InfosFault) -> Why
     ensures why { result ≡ infos_why fault }
 {
     match fault {
-        InfoFault::Bad { document, kind } => Why::Finished(Finish::Setup {
+        InfosFault::Bad { number, document } => Why::Finished(Finish::Setup {
             file: 1,
-            fault: SetupFault::Contents(number_of_infos(kind)),
+            fault: SetupFault::Contents(number),
             document,
         }),
-        InfoFault::Memory => Why::Cut(Cut::Memory),
+        InfosFault::Memory => Why::Cut(Cut::Memory),
     }
 }
