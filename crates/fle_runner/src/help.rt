@@ -13,12 +13,16 @@ pub const VERSION: &str = "fle 0.1.0\n";
 pub const HELP: &str = "fle: MongoDB client-side field level encryption, the client's part
 
 usage: fle mark DB SCHEMAS
+       fle show
        fle --help | --version
 
   mark DB SCHEMAS   read commands of the database DB from standard input and write the
-                    marking reply to each; SCHEMAS is a file of collection infos
+                    marking reply to each; SCHEMAS is a file of collection infos,
+                    in JSON or BSON
+  show              read documents from standard input and write the text of each, after
+                    MongoDB Extended JSON, and a line feed
 
-Input, output and files are BSON documents, one after another. Where the status isn't 0,
+Documents, commands and replies are BSON, one after another. Where the status isn't 0,
 standard error has one line, `fle: S D R P`: the status, the number of the document or file,
 the reason, the place.
 
