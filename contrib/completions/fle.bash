@@ -2,7 +2,8 @@
 _fle() {
   local word=${COMP_WORDS[COMP_CWORD]}
   case $COMP_CWORD in
-    1) mapfile -t COMPREPLY < <(compgen -W "mark show --help --version" -- "$word") ;;
+    1) mapfile -t COMPREPLY < <(compgen -W "mark show keys --help --version" -- "$word") ;;
+    2) [[ ${COMP_WORDS[1]} != mark ]] && mapfile -t COMPREPLY < <(compgen -f -- "$word") ;;
     3) mapfile -t COMPREPLY < <(compgen -f -- "$word") ;;
     *) COMPREPLY=() ;;
   esac

@@ -6,3 +6,4 @@ pub mod Verdicts
 pub mod Marks
 pub mod Shows
 pub mod InfosRead
+pub mod Vaults

@@ -2,14 +2,16 @@
 use Rattle.std.specs.Prelude.{ℕ, Option, Some, None, List}
 use Rattle.fle_outside.specs.Files.{Files, file_of}
 use Rattle.fle_stream.specs.Task.{Task, fails}
-use Rattle.fle_runner.specs.Words.{Form, mark, show, form_of}
+use Rattle.fle_runner.specs.Words.{Form, mark, show, keys, form_of}
 use Rattle.fle_runner.specs.Mark.{mark_task}
 use Rattle.fle_runner.specs.Show.{show_task}
+use Rattle.fle_runner.specs.Keys.{keys_task}
 use Rattle.fle_stream.specs.declared.why.Finish.TheVariants as finishes
 
 abbrev pub task_for : Form → Files → Task
 task_for (mark db schemas) files = mark_task db (file_of files schemas)
 task_for show files = show_task
+task_for (keys vault) files = keys_task (file_of files vault)
 
 abbrev pub task_of : Option Form → Files → Task
 task_of None files = fails finishes.Words

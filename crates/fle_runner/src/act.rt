@@ -12,6 +12,7 @@ ghost use Rattle.fle_stream.specs.Plan.{draws_of, size_of};
 ghost use Rattle.fle_stream.specs.Task.{outcome_of};
 ghost use Rattle.fle_stream.specs.Turn.{RunTook};
 
+use crate::keys::keys;
 use crate::mark::mark;
 use crate::show::show;
 use crate::words::{Asked, read_words};
@@ -53,5 +54,6 @@ pub fn act<S: Source, F: Folder, O: Sink, N: Entropy>(
         Asked::Nothing => End::unread(Why::Finished(Finish::Words)),
         Asked::Mark { db, schemas } => mark(alloc, db, schemas, input, files, out, entropy),
         Asked::Show => show(alloc, input, out, entropy),
+        Asked::Keys { vault } => keys(alloc, vault, files, out),
     }
 }

@@ -14,6 +14,7 @@ pub const HELP: &str = "fle: MongoDB client-side field level encryption, the cli
 
 usage: fle mark DB SCHEMAS
        fle show
+       fle keys KEYS
        fle --help | --version
 
   mark DB SCHEMAS   read commands of the database DB from standard input and write the
@@ -21,6 +22,8 @@ usage: fle mark DB SCHEMAS
                     in JSON or BSON
   show              read documents from standard input and write the text of each, after
                     MongoDB Extended JSON, and a line feed
+  keys KEYS         write a line for each key of KEYS, a file of key documents; nothing
+                    is read from standard input
 
 Documents, commands and replies are BSON, one after another. Where the status isn't 0,
 standard error has one line, `fle: S D R P`: the status, the number of the document or file,

@@ -6,6 +6,7 @@
 //!
 //! ```text
 //! fle mark hr schemas.bson < commands.bson > replies.bson
+//! fle keys keys.bson
 //! ```
 #![tactic(auto)]
 
@@ -15,6 +16,9 @@ mod help;
 mod infos;
 #[cfg(test)]
 mod json_tests;
+mod keys;
+#[cfg(test)]
+mod keys_tests;
 mod laws;
 mod mark;
 mod numbers;

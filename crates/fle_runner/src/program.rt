@@ -50,7 +50,7 @@ pub fn fle<S: Source, F: Folder, O: Sink, G: Sink, N: Entropy, B: Block256>(
         (world (S.seen input.old) (F.seen files.old) (O.seen out.old) (G.seen diag.old) (N.seen entropy.old)) result }
     ensures entropy_sure { DrawsSurely (task (map string_bytes words.now))
         (world (S.seen input.old) (F.seen files.old) (O.seen out.old) (G.seen diag.old) (N.seen entropy.old)) result }
-    // `mark` draws no block, so it never ends with 7.
+    // `mark` and `keys` draw no block, so they never end with 7.
     ensures undrawn { DrawsNoBlock (form_of (map string_bytes words.now)) → result ≡ Status.EntropyFault → ⊥ }
 {
     let end = act(alloc, words, input, files, out, entropy);

@@ -6,3 +6,4 @@ pub mod Lines
 pub mod Loads
 pub mod Programs
 pub mod Endings
+pub mod Outputs

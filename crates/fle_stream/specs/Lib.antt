@@ -11,3 +11,4 @@ pub mod Task
 pub mod Files
 pub mod Did
 pub mod Ended
+pub mod Made

@@ -64,6 +64,13 @@ impl Vault {
         key_at(&self.keys, i)
     }
 
+    /// The keys, in the file's order.
+    pub fn keys(&self) -> &[KeyDoc]
+        ensures same { result.now ≡ self.now }
+    {
+        &self.keys
+    }
+
     /// The key of this id, found by its hash; `None` exactly where there is none.
     pub fn by_id(&self, id: &[u8; 16]) -> Option<&KeyDoc>
         ensures found { option_copied result ≡ key_by_id self.now id.now }

@@ -1,0 +1,65 @@
+//! Whole runs over vaults in memory: the verb `keys`.
+
+use crate::tests::{Run, expect, joined, look, plain};
+use fle_stream::Status;
+use std::test::Fail;
+
+/// A vault of one key, made outside this repository: sealed by Python's hmac and `cryptography`, written by a plain
+/// program of BSON's grammar.
+pub(crate) const VAULT: &[u8] =
+    b"+\x01\x00\x00\x05_id\x00\x10\x00\x00\x00\x04\x00\x11\x223DUFw\x88\x99\xaa\xbb\xcc\xdd\xee\xff\x05keyMaterial\x00\xa0\x00\x00\x00\x00\xf0\xf1\xf2\xf3\xf4\xf5\xf6\xf7\xf8\xf9\xfa\xfb\xfc\xfd\xfe\xff\xeb\x1b\xd9^L\x87\xa6\x0e\xd8P\xb5W\x90-U(\x88vkf\xbdJ)\xac.\xad't<\x08=\x9aP\x9a\x9b\xca<b\xf8\xe5i\x02\x22\xe2'\x98\xca\x9dS\xed|C\xa2\xd1\xf0\xd0\x01\x19 \xaf\xbfX7n\xad\x8a\xe8\x14\x0dw\x08\xcc\xc2\x17#\xf8\xa1]{\x16\x0e\x140QE\x16\x9a\x08j\x90*+\x8e\xd8\xeb\xed\x17\xa4\x1d\x03\x9f\x91n1\x86\x82\x91zZ\xb9\xdc|\x0c\xda\x9a\x22n\xa1\x1c\x80\xbes\xeb\x8b\xeb\xbcv\x8b5Uo$\xc2\xad\xf2\xf8\xb70\xb7\x16BD\x11\xcd\x09creationDate\x00\x00h\xe5\xcf\x8b\x01\x00\x00\x09updateDate\x00\x00h\xe5\xcf\x8b\x01\x00\x00\x10status\x00\x00\x00\x00\x00\x03masterKey\x00\x19\x00\x00\x00\x02provider\x00\x06\x00\x00\x00local\x00\x00\x00";
+
+/// The words of each run.
+const WORDS: [&str; 2] = ["keys", "infos"];
+
+/// A run over a vault in which nothing fails.
+fn vault(infos: &[u8]) -> Run<'_> {
+    Run {
+        words: &WORDS,
+        infos,
+        ..plain(b"")
+    }
+}
+
+#[test]
+fn a_key_is_told_in_one_line(rt: HostRuntime) -> Result<(), Fail> {
+    let line: &[u8] = b"00112233-4455-4677-8899-aabbccddeeff local 0\n";
+    expect(
+        &rt,
+        &look(rt.alloc(), vault(VAULT))?,
+        Status::Done,
+        line,
+        "",
+    );
+    Ok(())
+}
+
+#[test]
+fn a_vault_with_an_id_twice_is_at_fault(rt: HostRuntime) -> Result<(), Fail> {
+    let twice = joined(rt.alloc(), VAULT, VAULT)?;
+    let seen = look(rt.alloc(), vault(&twice))?;
+    expect(&rt, &seen, Status::Setup, b"", "fle: 4 1 25 2\n");
+    Ok(())
+}
+
+#[test]
+fn an_empty_vault_has_no_lines(rt: HostRuntime) -> Result<(), Fail> {
+    expect(&rt, &look(rt.alloc(), vault(b""))?, Status::Done, b"", "");
+    Ok(())
+}
+
+#[test]
+fn one_file_is_named(rt: HostRuntime) -> Result<(), Fail> {
+    let run = Run {
+        words: &["keys"],
+        ..plain(b"")
+    };
+    expect(
+        &rt,
+        &look(rt.alloc(), run)?,
+        Status::Words,
+        b"",
+        "fle: 2 0 0 -\n",
+    );
+    Ok(())
+}
