@@ -4,7 +4,7 @@ use Rattle.bson_tree.specs.Tree.{Tree, no_items, item}
 use Rattle.bson_tree.specs.Spelling.{value_bytes, items_bytes}
 use Rattle.bson_codec.specs.Borrowed.{At, Elem}
 use Rattle.bson_codec.specs.Elements.{TakesElement}
-use Rattle.encrypt_schema.specs.declared.marks.Mark.{Mark}
+use Rattle.encrypt_schema.specs.declared.command.marks.Mark.{Mark}
 use Rattle.command_marker.specs.Splices.{left_in, left, spliced_in, spliced}
 use Rattle.command_marker.proofs.Frames.{one_item}
 

@@ -4,20 +4,20 @@ use Rattle.std.proofs.lemmas.Bool.{false≢true}
 use Rattle.std.proofs.lemmas.Slice.Eq.{bytes_eq-Decides}
 use Rattle.bson_tree.specs.Tree.{Items, no_items, item}
 use Rattle.bson_codec.specs.Borrowed.{At}
-use Rattle.encrypt_schema.specs.declared.marks.Mark.{Mark}
-use Rattle.encrypt_schema.specs.declared.marks.MarkFault.{MarkFault}
-use Rattle.encrypt_schema.specs.declared.marks.MarkFault.TheVariants as faults
-use Rattle.encrypt_schema.specs.declared.reason.Reason.{Reason}
-use Rattle.encrypt_schema.specs.declared.reason.Reason.TheVariants.{BadField}
-use Rattle.encrypt_schema.specs.Names.{named, is_among}
-use Rattle.encrypt_schema.specs.Row.{Row}
-use Rattle.encrypt_schema.specs.Stations.{Entry, Station, Outside, Insert, Inserts, Update, Delete, Find, Passed, Unknown, is_passed, command_of}
-use Rattle.encrypt_schema.specs.Offences.{when, least, of_role, command_lacks, ruled_offence}
-use Rattle.encrypt_schema.specs.Visits.{names_of, command_entry, command_visit, command_visits, visits, mark_at, marks, ruled_of, refused_at, or_else, first_refusal}
-use Rattle.encrypt_schema.specs.Walking.{MarksPlaces}
-use Rattle.encrypt_schema.proofs.Elements.{told_as}
-use Rattle.encrypt_schema.proofs.Parts.{unruled, with_rows}
-use Rattle.encrypt_schema.proofs.Unmarked.{no_rows_no_roles}
+use Rattle.encrypt_schema.specs.declared.command.marks.Mark.{Mark}
+use Rattle.encrypt_schema.specs.declared.command.marks.MarkFault.{MarkFault}
+use Rattle.encrypt_schema.specs.declared.command.marks.MarkFault.TheVariants as faults
+use Rattle.encrypt_schema.specs.declared.command.reason.Reason.{Reason}
+use Rattle.encrypt_schema.specs.declared.command.reason.Reason.TheVariants.{BadField}
+use Rattle.encrypt_schema.specs.Language.Names.{named, is_among}
+use Rattle.encrypt_schema.specs.Language.Row.{Row}
+use Rattle.encrypt_schema.specs.Commands.Stations.{Entry, Station, Outside, Insert, Inserts, Update, Delete, Find, Passed, Unknown, is_passed, command_of}
+use Rattle.encrypt_schema.specs.Commands.Offences.{when, least, of_role, command_lacks, ruled_offence}
+use Rattle.encrypt_schema.specs.Commands.Visits.{names_of, command_entry, command_visit, command_visits, visits, mark_at, marks, ruled_of, refused_at, or_else, first_refusal}
+use Rattle.encrypt_schema.specs.Views.Walking.{MarksPlaces}
+use Rattle.encrypt_schema.proofs.Commands.Elements.{told_as}
+use Rattle.encrypt_schema.proofs.Commands.Parts.{unruled, with_rows}
+use Rattle.encrypt_schema.proofs.Commands.Unmarked.{no_rows_no_roles}
 use Rattle.command_marker.specs.Commands.{is_command, passes, TellsMarks}
 
 -- a field of an insert: by whether it is `documents`, stands for the second time, and is an array

@@ -4,7 +4,7 @@ use Rattle.std.specs.Prelude.{codes}
 use Rattle.bson_tree.specs.Tree.{Tree, leaf, no_items, item}
 use Rattle.bson_tree.proofs.Sizes.{framed_size, element_size}
 use Rattle.bson_tree.specs.Spelling.{value_bytes, items_bytes}
-use Rattle.encrypt_schema.specs.declared.policy.Policy.{Policy}
+use Rattle.encrypt_schema.specs.declared.schema.policy.Policy.{Policy}
 use Rattle.payload6.specs.Payload.{algorithm_number}
 use Rattle.payload6.specs.Marking.{key_id, binary, marking_fields, marking}
 use Rattle.command_marker.specs.Marking.{marked_value}

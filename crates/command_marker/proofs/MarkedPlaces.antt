@@ -7,17 +7,17 @@ use Rattle.bson_tree.specs.Tree.{Tree, leaf, node, Items, no_items, item}
 use Rattle.bson_tree.specs.Places.{tree_at, value_at}
 use Rattle.bson_tree.specs.Spelling.{framed, value_bytes, items_bytes}
 use Rattle.bson_tree.specs.Filled.{fill_tree, fill_items, filled_in, filled_from, filled}
-use Rattle.encrypt_schema.specs.declared.marks.Mark.{Mark}
-use Rattle.encrypt_schema.specs.Chains.{Chain, onward, Link, link, chain_in, chain_from, parent_along, last_of, station_along}
-use Rattle.encrypt_schema.specs.Policies.{policy_at}
-use Rattle.encrypt_schema.specs.Row.{Row}
-use Rattle.encrypt_schema.specs.Stations.{Station, Outside, Store, Compare, station, has_role}
-use Rattle.encrypt_schema.specs.Visits.{entry, command_entry, Visit, visit, mark_at, marks, roles}
-use Rattle.encrypt_schema.proofs.Worlds.{shown_in, shown}
-use Rattle.encrypt_schema.proofs.Apart.{own_marks, roles_shown}
-use Rattle.encrypt_schema.proofs.Taken.{marks_item, takes_among, takes_value}
-use Rattle.encrypt_schema.proofs.Plans.{AreBehind, earlier, behind}
-use Rattle.encrypt_schema.proofs.Widths.{items_length}
+use Rattle.encrypt_schema.specs.declared.command.marks.Mark.{Mark}
+use Rattle.encrypt_schema.specs.Commands.Chains.{Chain, onward, Link, link, chain_in, chain_from, parent_along, last_of, station_along}
+use Rattle.encrypt_schema.specs.Language.Policies.{policy_at}
+use Rattle.encrypt_schema.specs.Language.Row.{Row}
+use Rattle.encrypt_schema.specs.Commands.Stations.{Station, Outside, Store, Compare, station, has_role}
+use Rattle.encrypt_schema.specs.Commands.Visits.{entry, command_entry, Visit, visit, mark_at, marks, roles}
+use Rattle.encrypt_schema.proofs.Commands.Worlds.{shown_in, shown}
+use Rattle.encrypt_schema.proofs.Commands.Apart.{own_marks, roles_shown}
+use Rattle.encrypt_schema.proofs.Commands.Taken.{marks_item, takes_among, takes_value}
+use Rattle.encrypt_schema.proofs.Commands.Plans.{AreBehind, earlier, behind}
+use Rattle.encrypt_schema.proofs.Commands.Widths.{items_length}
 use Rattle.bson_tree.proofs.Sizes.{framed_size}
 use Rattle.command_marker.specs.Marking.{marked_value}
 use Rattle.command_marker.specs.Marked.{marking_at, marked}

@@ -4,7 +4,7 @@ use Rattle.std.proofs.lemmas.List.{append-nil}
 use Rattle.std.specs.Int.{to_le_bytes, w32}
 use Rattle.bson_tree.specs.Tree.{Tree, no_items, item}
 use Rattle.bson_tree.specs.Spelling.{value_bytes, items_bytes}
-use Rattle.encrypt_schema.specs.declared.policy.Policy.{Policy}
+use Rattle.encrypt_schema.specs.declared.schema.policy.Policy.{Policy}
 use Rattle.payload6.specs.Marking.{marking}
 use Rattle.command_marker.specs.Marking.{marked_value}
 use Rattle.command_marker.specs.Written.{growth}

@@ -1,21 +1,21 @@
 -- The marks of a command are a plan by which it is marked.
 use Rattle.std.proofs.Common.{◌≡◌, ◌∙◌, ℕ, ◌+◌, ◌≤◌, Bool, List, [], ◌∷◌, ◌++◌, length, drop, arith, ap, sym, subst, Err}
 use Rattle.std.proofs.lemmas.List.{drop-drop}
-use Rattle.encrypt_schema.specs.declared.policy.Policy.{Policy}
+use Rattle.encrypt_schema.specs.declared.schema.policy.Policy.{Policy}
 use Rattle.command_marker.specs.declared.stop.ReplyFault.{ReplyFault}
 use Rattle.command_marker.specs.Reply.{reply, reply_limit, RepliesAs}
 use Rattle.bson_tree.specs.Tree.{Items}
 use Rattle.bson_tree.specs.Spelling.{items_bytes, doc_bytes}
 use Rattle.bson_tree.specs.Filled.{fill_items}
 use Rattle.bson_codec.specs.Borrowed.{At}
-use Rattle.encrypt_schema.specs.declared.marks.Mark.{Mark}
-use Rattle.encrypt_schema.specs.Policies.{policy_at}
-use Rattle.encrypt_schema.specs.Row.{Row}
-use Rattle.encrypt_schema.specs.Visits.{roles}
-use Rattle.encrypt_schema.proofs.Plans.{Takes}
-use Rattle.encrypt_schema.proofs.Ruled as numbers
-use Rattle.encrypt_schema.proofs.Ruled.{roles_ruled}
-use Rattle.encrypt_schema.proofs.Taken.{roles_taken, few_roles}
+use Rattle.encrypt_schema.specs.declared.command.marks.Mark.{Mark}
+use Rattle.encrypt_schema.specs.Language.Policies.{policy_at}
+use Rattle.encrypt_schema.specs.Language.Row.{Row}
+use Rattle.encrypt_schema.specs.Commands.Visits.{roles}
+use Rattle.encrypt_schema.proofs.Commands.Plans.{Takes}
+use Rattle.encrypt_schema.proofs.Commands.Ruled as numbers
+use Rattle.encrypt_schema.proofs.Commands.Ruled.{roles_ruled}
+use Rattle.encrypt_schema.proofs.Commands.Taken.{roles_taken, few_roles}
 use Rattle.command_marker.specs.Marked.{marking_at, marked}
 use Rattle.command_marker.specs.Splices.{spliced, added, put_at}
 use Rattle.command_marker.specs.Written.{AreRuled, IsPlan, SizesAs, growth, growth_by, marked_by, reply_end, reply_head}

@@ -6,12 +6,12 @@ use Rattle.std.proofs.lemmas.List.{length-map}
 use Rattle.std.specs.Int.{to_le_bytes, w32}
 use Rattle.bson_tree.specs.Tree.{Items, node, no_items, item}
 use Rattle.bson_tree.specs.Spelling.{items_bytes, doc_bytes}
-use Rattle.encrypt_schema.specs.declared.marks.Mark.{Mark}
+use Rattle.encrypt_schema.specs.declared.command.marks.Mark.{Mark}
 use Rattle.bson_codec.specs.Borrowed.{At}
-use Rattle.encrypt_schema.specs.Row.{Row}
-use Rattle.encrypt_schema.specs.Chains.{use_of_mark}
-use Rattle.encrypt_schema.proofs.Sites.{marks_of_sites}
-use Rattle.encrypt_schema.specs.Visits.{roles}
+use Rattle.encrypt_schema.specs.Language.Row.{Row}
+use Rattle.encrypt_schema.specs.Commands.Chains.{use_of_mark}
+use Rattle.encrypt_schema.proofs.Commands.Sites.{marks_of_sites}
+use Rattle.encrypt_schema.specs.Commands.Visits.{roles}
 use Rattle.command_marker.specs.declared.stop.ReplyFault.{ReplyFault}
 use Rattle.command_marker.specs.declared.stop.ReplyFault.TheVariants as faults
 use Rattle.command_marker.specs.Marked.{marked}

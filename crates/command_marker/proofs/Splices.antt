@@ -5,11 +5,11 @@ use Rattle.std.specs.Prelude.{◌==◌}
 use Rattle.bson_tree.specs.Tree.{Tree, leaf, node, Items, no_items, item}
 use Rattle.bson_tree.specs.Spelling.{framed, value_bytes, items_bytes}
 use Rattle.bson_tree.specs.Filled.{fill_tree, fill_items}
-use Rattle.encrypt_schema.specs.declared.marks.Mark.{Mark}
-use Rattle.encrypt_schema.proofs.Widths.{items_length}
+use Rattle.encrypt_schema.specs.declared.command.marks.Mark.{Mark}
+use Rattle.encrypt_schema.proofs.Commands.Widths.{items_length}
 use Rattle.bson_tree.proofs.Sizes.{framed_size}
 use Rattle.command_marker.specs.Splices.{begins, is_before, left_in, left, spliced_in, spliced, added, put_at}
-use Rattle.encrypt_schema.proofs.Plans.{TakesIn, own, raw, inside, Takes, done, next, AreBehind, IsNextBehind, earlier, behind, untouched}
+use Rattle.encrypt_schema.proofs.Commands.Plans.{TakesIn, own, raw, inside, Takes, done, next, AreBehind, IsNextBehind, earlier, behind, untouched}
 
 -- ---- maps from offsets that are alike
 

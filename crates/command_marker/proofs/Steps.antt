@@ -5,8 +5,8 @@ use Rattle.std.proofs.lemmas.Option.{slice_get_within}
 use Rattle.std.specs.Prelude.{◌==◌, nat_lt}
 use Rattle.bson_tree.specs.Tree.{Tree, leaf, node, Items}
 use Rattle.bson_tree.specs.Spelling.{framed, value_bytes, items_bytes}
-use Rattle.encrypt_schema.specs.declared.marks.Mark.{Mark}
-use Rattle.encrypt_schema.specs.Row.{Row}
+use Rattle.encrypt_schema.specs.declared.command.marks.Mark.{Mark}
+use Rattle.encrypt_schema.specs.Language.Row.{Row}
 use Rattle.command_marker.specs.Splices.{left_in, left, spliced_in, spliced}
 use Rattle.command_marker.specs.Written.{AreRuled}
 

@@ -6,19 +6,19 @@ use Rattle.bson_tree.specs.Tree.{Tree, Items, leaf, no_items, item, tag_of}
 use Rattle.bson_tree.specs.Spelling.{value_bytes}
 use Rattle.bson_codec.specs.Borrowed.{At, Elem}
 use Rattle.bson_codec.specs.Elements.{TakesElement}
-use Rattle.encrypt_schema.specs.declared.reason.Reason.{Reason}
-use Rattle.encrypt_schema.specs.declared.reason.Reason.TheVariants.{NotACommand, NotBuilt, BadField, WrongDb}
-use Rattle.encrypt_schema.specs.Names.{named, is_among}
-use Rattle.encrypt_schema.specs.Stations.{Entry, Station, Insert, Update, Delete, Find, Passed, Unknown, is_passed, command_of}
-use Rattle.encrypt_schema.specs.Offences.{when, least, text_of, is_db, is_empty, is_marked, is_string, of_field, target_offence}
-use Rattle.encrypt_schema.specs.Visits.{names_of, entry, raw_of, command_visit, target_of, target_verdict, Refusal, refused_at, or_else}
+use Rattle.encrypt_schema.specs.declared.command.reason.Reason.{Reason}
+use Rattle.encrypt_schema.specs.declared.command.reason.Reason.TheVariants.{NotACommand, NotBuilt, BadField, WrongDb}
+use Rattle.encrypt_schema.specs.Language.Names.{named, is_among}
+use Rattle.encrypt_schema.specs.Commands.Stations.{Entry, Station, Insert, Update, Delete, Find, Passed, Unknown, is_passed, command_of}
+use Rattle.encrypt_schema.specs.Commands.Offences.{when, least, text_of, is_db, is_empty, is_marked, is_string, of_field, target_offence}
+use Rattle.encrypt_schema.specs.Commands.Visits.{names_of, entry, raw_of, command_visit, target_of, target_verdict, Refusal, refused_at, or_else}
 use Rattle.bson_codec.specs.Layout.{string_bytes}
-use Rattle.encrypt_schema.proofs.Texts.{text_is}
-use Rattle.encrypt_schema.proofs.Fields.{fields_refusal, command_alone, target_shallow}
+use Rattle.encrypt_schema.proofs.Language.Texts.{text_is}
+use Rattle.encrypt_schema.proofs.Commands.Fields.{fields_refusal, command_alone, target_shallow}
 use Rattle.command_marker.specs.Commands.{is_unbuilt, target_refusal, AimsAt, Refuses}
 use Rattle.command_marker.specs.Fields.{is_marked_name, first_reasons, later_reasons, later_refusal}
-use Rattle.encrypt_schema.specs.declared.marks.MarkFault.{MarkFault}
-use Rattle.encrypt_schema.specs.declared.marks.MarkFault.TheVariants as faults
+use Rattle.encrypt_schema.specs.declared.command.marks.MarkFault.{MarkFault}
+use Rattle.encrypt_schema.specs.declared.command.marks.MarkFault.TheVariants as faults
 
 -- what is wrong with a later field
 pub least_later : (name form other : Bool)

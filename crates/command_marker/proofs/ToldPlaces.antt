@@ -4,15 +4,15 @@ use Rattle.bson_tree.specs.Tree.{Tree, leaf, node, Items, no_items, item}
 use Rattle.bson_tree.specs.Spelling.{value_bytes}
 use Rattle.bson_tree.specs.Places.{start_in, start_from, start_of, places, place_of}
 use Rattle.bson_codec.proofs.Spots.{place_begun, place_of_head}
-use Rattle.encrypt_schema.specs.declared.reason.Reason.{Reason}
-use Rattle.encrypt_schema.specs.Chains.{Chain, onward, link, chain, chain_in, chain_from, visit_along, width_at, offence_at, refusal_at, first_of, first_refusal_at}
-use Rattle.encrypt_schema.specs.Collection.{Collection}
-use Rattle.encrypt_schema.specs.Row.{Row}
-use Rattle.encrypt_schema.specs.Skeletons.{skeleton}
-use Rattle.encrypt_schema.specs.Stations.{Outside}
-use Rattle.encrypt_schema.specs.Visits.{Visit, Refusal, refused_at, or_else, target_of, view_of, content_of, command_visits, verdict_on}
-use Rattle.encrypt_schema.proofs.ByPlace.{refusal, verdict_by_place}
-use Rattle.encrypt_schema.proofs.Refused.{refused, refused_shown, equal_refusal_at}
+use Rattle.encrypt_schema.specs.declared.command.reason.Reason.{Reason}
+use Rattle.encrypt_schema.specs.Commands.Chains.{Chain, onward, link, chain, chain_in, chain_from, visit_along, width_at, offence_at, refusal_at, first_of, first_refusal_at}
+use Rattle.encrypt_schema.specs.Language.Collection.{Collection}
+use Rattle.encrypt_schema.specs.Language.Row.{Row}
+use Rattle.encrypt_schema.specs.Commands.Skeletons.{skeleton}
+use Rattle.encrypt_schema.specs.Commands.Stations.{Outside}
+use Rattle.encrypt_schema.specs.Commands.Visits.{Visit, Refusal, refused_at, or_else, target_of, view_of, content_of, command_visits, verdict_on}
+use Rattle.encrypt_schema.proofs.Commands.ByPlace.{refusal, verdict_by_place}
+use Rattle.encrypt_schema.proofs.Commands.Refused.{refused, refused_shown, equal_refusal_at}
 use Rattle.command_marker.specs.ToldPlaces.{told, told_first, told_else, first_refused_by, first_refused}
 
 -- a place at which no value begins has no chain

@@ -4,12 +4,12 @@ use Rattle.std.proofs.lemmas.Bool.{false≢true}
 use Rattle.bson_tree.specs.Tree.{Tree, leaf, node, Items, no_items, item}
 use Rattle.bson_tree.specs.Filled.{fill_tree, fill_items}
 use Rattle.bson_tree.specs.Spelling.{value_bytes}
-use Rattle.encrypt_schema.specs.declared.marks.Mark.{Mark}
-use Rattle.encrypt_schema.specs.Collection.{Collection}
-use Rattle.encrypt_schema.specs.Row.{Row}
-use Rattle.encrypt_schema.specs.Targets.{info_of, rows_of, verdict}
-use Rattle.encrypt_schema.specs.Visits.{roles}
-use Rattle.encrypt_schema.proofs.Unmarked.{no_rows_no_roles, passed_no_roles, passed_no_refusal}
+use Rattle.encrypt_schema.specs.declared.command.marks.Mark.{Mark}
+use Rattle.encrypt_schema.specs.Language.Collection.{Collection}
+use Rattle.encrypt_schema.specs.Language.Row.{Row}
+use Rattle.encrypt_schema.specs.Commands.Targets.{info_of, rows_of, verdict}
+use Rattle.encrypt_schema.specs.Commands.Visits.{roles}
+use Rattle.encrypt_schema.proofs.Commands.Unmarked.{no_rows_no_roles, passed_no_roles, passed_no_refusal}
 use Rattle.command_marker.specs.Commands.{passes}
 use Rattle.command_marker.specs.Marked.{marked, marking_at}
 use Rattle.command_marker.specs.Reply.{reply, reply_clear_to, reply_to}

@@ -2,18 +2,18 @@
 use Rattle.std.specs.Prelude.{◌≡◌, ℕ, Bool, true, false, not, ◌&&◌, ◌||◌, List, [], codes, Option, Some, None, Result, Ok, Err, ⊤, if◌then◌else◌}
 use Rattle.bson_tree.specs.Tree.{Items, no_items, item}
 use Rattle.bson_codec.specs.Borrowed.{At}
-use Rattle.encrypt_schema.specs.declared.marks.Mark.{Mark}
-use Rattle.encrypt_schema.specs.declared.marks.MarkFault.{MarkFault}
-use Rattle.encrypt_schema.specs.declared.marks.MarkFault.TheVariants as faults
-use Rattle.encrypt_schema.specs.declared.reason.Reason.TheVariants as reasons
-use Rattle.encrypt_schema.specs.declared.walking.Place.{Place}
-use Rattle.encrypt_schema.specs.declared.walking.Place.TheVariants as places
-use Rattle.encrypt_schema.specs.Cursors.{StandsForPath}
-use Rattle.encrypt_schema.specs.Names.{named}
-use Rattle.encrypt_schema.specs.Offences.{text_of}
-use Rattle.encrypt_schema.specs.Row.{Row}
-use Rattle.encrypt_schema.specs.Stations.{is_passed}
-use Rattle.encrypt_schema.specs.Visits.{raw_of, Refusal, or_else, target_verdict, content_verdict, roles}
+use Rattle.encrypt_schema.specs.declared.command.marks.Mark.{Mark}
+use Rattle.encrypt_schema.specs.declared.command.marks.MarkFault.{MarkFault}
+use Rattle.encrypt_schema.specs.declared.command.marks.MarkFault.TheVariants as faults
+use Rattle.encrypt_schema.specs.declared.command.reason.Reason.TheVariants as reasons
+use Rattle.encrypt_schema.specs.declared.command.walking.Place.{Place}
+use Rattle.encrypt_schema.specs.declared.command.walking.Place.TheVariants as places
+use Rattle.encrypt_schema.specs.Views.Cursors.{StandsForPath}
+use Rattle.encrypt_schema.specs.Language.Names.{named}
+use Rattle.encrypt_schema.specs.Commands.Offences.{text_of}
+use Rattle.encrypt_schema.specs.Language.Row.{Row}
+use Rattle.encrypt_schema.specs.Commands.Stations.{is_passed}
+use Rattle.encrypt_schema.specs.Commands.Visits.{raw_of, Refusal, or_else, target_verdict, content_verdict, roles}
 use Rattle.command_marker.specs.Fields.{is_marked_name}
 use Rattle.command_marker.specs.declared.destination.Target.{Target}
 use Rattle.command_marker.specs.declared.destination.Target.TheVariants as targets

@@ -2,12 +2,12 @@
 use Rattle.std.specs.Prelude.{ℕ, ◌+◌, Bool, not, ◌&&◌, ◌||◌, List, [], ◌∷◌, ◌++◌, length, Option, None}
 use Rattle.bson_tree.specs.Tree.{Items, no_items, item}
 use Rattle.bson_tree.specs.Spelling.{value_bytes}
-use Rattle.encrypt_schema.specs.declared.reason.Reason.{Reason}
-use Rattle.encrypt_schema.specs.declared.reason.Reason.TheVariants.{NotACommand, BadField, WrongDb}
-use Rattle.encrypt_schema.specs.Names.{named}
-use Rattle.encrypt_schema.specs.Stations.{Entry, is_passed, command_of}
-use Rattle.encrypt_schema.specs.Offences.{when, least, is_db, is_empty, is_marked, is_string, text_of}
-use Rattle.encrypt_schema.specs.Visits.{entry, Refusal, refused_at, or_else}
+use Rattle.encrypt_schema.specs.declared.command.reason.Reason.{Reason}
+use Rattle.encrypt_schema.specs.declared.command.reason.Reason.TheVariants.{NotACommand, BadField, WrongDb}
+use Rattle.encrypt_schema.specs.Language.Names.{named}
+use Rattle.encrypt_schema.specs.Commands.Stations.{Entry, is_passed, command_of}
+use Rattle.encrypt_schema.specs.Commands.Offences.{when, least, is_db, is_empty, is_marked, is_string, text_of}
+use Rattle.encrypt_schema.specs.Commands.Visits.{entry, Refusal, refused_at, or_else}
 
 -- the name of a marked command
 abbrev pub is_marked_name : List ℕ → Bool

@@ -2,10 +2,10 @@
 use Rattle.std.specs.Prelude.{ℕ, ◌==◌, List, [], ◌∷◌, Option, Some, None, if◌then◌else◌}
 use Rattle.bson_tree.specs.Tree.{Tree, Items}
 use Rattle.bson_tree.specs.Filled.{fill_items}
-use Rattle.encrypt_schema.specs.declared.marks.Mark.{Mark}
-use Rattle.encrypt_schema.specs.Policies.{policy_at}
-use Rattle.encrypt_schema.specs.Row.{Row}
-use Rattle.encrypt_schema.specs.Visits.{roles}
+use Rattle.encrypt_schema.specs.declared.command.marks.Mark.{Mark}
+use Rattle.encrypt_schema.specs.Language.Policies.{policy_at}
+use Rattle.encrypt_schema.specs.Language.Row.{Row}
+use Rattle.encrypt_schema.specs.Commands.Visits.{roles}
 use Rattle.command_marker.specs.Marking.{marked_value}
 
 -- the marking of a value that begins at `at`, under the policy of the first mark that begins there; none where no

@@ -2,10 +2,10 @@
 use Rattle.std.specs.Prelude.{ℕ, List, Option, Some, None, option_map, option_and_then}
 use Rattle.bson_tree.specs.Tree.{Tree, Items}
 use Rattle.bson_tree.specs.Places.{value_at}
-use Rattle.encrypt_schema.specs.Chains.{station_at}
-use Rattle.encrypt_schema.specs.Policies.{policy_at}
-use Rattle.encrypt_schema.specs.Row.{Row}
-use Rattle.encrypt_schema.specs.Stations.{Station, Store, Compare}
+use Rattle.encrypt_schema.specs.Commands.Chains.{station_at}
+use Rattle.encrypt_schema.specs.Language.Policies.{policy_at}
+use Rattle.encrypt_schema.specs.Language.Row.{Row}
+use Rattle.encrypt_schema.specs.Commands.Stations.{Station, Store, Compare}
 use Rattle.command_marker.specs.Marking.{marked_value}
 
 -- the number of the rule under which a place of this station is protected; none where it isn't

@@ -3,8 +3,8 @@ use Rattle.std.specs.Prelude.{◌≡◌, ℕ, ◌<◌, ◌≤◌, Bool, false, n
 use Rattle.std.specs.Global.{Global}
 use Rattle.bson_tree.specs.Tree.{Tree, Items, leaf, node, no_items, item}
 use Rattle.bson_tree.specs.Spelling.{doc_bytes}
-use Rattle.encrypt_schema.specs.Row.{Row}
-use Rattle.encrypt_schema.specs.Visits.{roles}
+use Rattle.encrypt_schema.specs.Language.Row.{Row}
+use Rattle.encrypt_schema.specs.Commands.Visits.{roles}
 use Rattle.command_marker.specs.declared.stop.ReplyFault.{ReplyFault}
 use Rattle.command_marker.specs.declared.stop.ReplyFault.TheVariants as faults
 use Rattle.command_marker.specs.Commands.{passes}

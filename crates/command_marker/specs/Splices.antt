@@ -2,7 +2,7 @@
 use Rattle.std.specs.Prelude.{ℕ, ◌+◌, ◌==◌, Bool, false, nat_lt, List, [], ◌∷◌, length, Option, Some, None, if◌then◌else◌}
 use Rattle.bson_tree.specs.Tree.{Tree, leaf, node, Items, no_items, item}
 use Rattle.bson_tree.specs.Spelling.{value_bytes}
-use Rattle.encrypt_schema.specs.declared.marks.Mark.{Mark}
+use Rattle.encrypt_schema.specs.declared.command.marks.Mark.{Mark}
 
 -- the next mark begins at this offset
 abbrev pub begins : ℕ → List Mark → Bool

@@ -2,8 +2,8 @@
 use Rattle.std.specs.Prelude.{◌≡◌, ℕ, ◌+◌, ◌<◌, List, length, drop}
 use Rattle.bson_tree.specs.Tree.{node, tag_of}
 use Rattle.bson_codec.specs.Borrowed.{Elem}
-use Rattle.encrypt_schema.specs.declared.marks.Mark.{Mark}
-use Rattle.encrypt_schema.specs.Row.{Row}
+use Rattle.encrypt_schema.specs.declared.command.marks.Mark.{Mark}
+use Rattle.encrypt_schema.specs.Language.Row.{Row}
 use Rattle.command_marker.specs.declared.splicing.Step.{Step}
 use Rattle.command_marker.specs.declared.splicing.Step.TheVariants as steps
 use Rattle.command_marker.specs.Splices.{left, left_in, spliced, spliced_in}

@@ -2,11 +2,11 @@
 use Rattle.std.specs.Prelude.{ℕ, List, [], ◌∷◌, Option, Some, None}
 use Rattle.bson_tree.specs.Tree.{Items}
 use Rattle.bson_tree.specs.Places.{place_of}
-use Rattle.encrypt_schema.specs.declared.reason.Reason.{Reason}
-use Rattle.encrypt_schema.specs.Chains.{refusal_at}
-use Rattle.encrypt_schema.specs.Collection.{Collection}
-use Rattle.encrypt_schema.specs.Row.{Row}
-use Rattle.encrypt_schema.specs.Visits.{Visit, Refusal, target_of, view_of, content_of}
+use Rattle.encrypt_schema.specs.declared.command.reason.Reason.{Reason}
+use Rattle.encrypt_schema.specs.Commands.Chains.{refusal_at}
+use Rattle.encrypt_schema.specs.Language.Collection.{Collection}
+use Rattle.encrypt_schema.specs.Language.Row.{Row}
+use Rattle.encrypt_schema.specs.Commands.Visits.{Visit, Refusal, target_of, view_of, content_of}
 
 -- where a refusal is told, and why: at the place whose value begins at its offset
 abbrev pub told : Items → Refusal → List ℕ × Reason

@@ -4,10 +4,10 @@ use Rattle.std.specs.Int.{to_le_bytes, w32}
 use Rattle.bson_tree.specs.Tree.{Tree, no_items, item}
 use Rattle.bson_tree.specs.Spelling.{items_bytes, doc_bytes}
 use Rattle.bson_codec.specs.Borrowed.{At}
-use Rattle.encrypt_schema.specs.declared.marks.Mark.{Mark}
-use Rattle.encrypt_schema.specs.declared.policy.Policy.{Policy}
-use Rattle.encrypt_schema.specs.Policies.{policy_at}
-use Rattle.encrypt_schema.specs.Row.{Row}
+use Rattle.encrypt_schema.specs.declared.command.marks.Mark.{Mark}
+use Rattle.encrypt_schema.specs.declared.schema.policy.Policy.{Policy}
+use Rattle.encrypt_schema.specs.Language.Policies.{policy_at}
+use Rattle.encrypt_schema.specs.Language.Row.{Row}
 use Rattle.payload6.specs.Marking.{key_id}
 use Rattle.command_marker.specs.Marking.{marked_value}
 use Rattle.command_marker.specs.Marked.{marked}

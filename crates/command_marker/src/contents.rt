@@ -1,12 +1,12 @@
 //! The contents of commands: what their places are, and why one is refused.
 
 ghost use Rattle.std.specs.Prelude.{◌≡◌, ℕ, List, take};
-ghost use Rattle.encrypt_schema.specs.Names.{is_among};
-ghost use Rattle.encrypt_schema.specs.Offences.{ruled_offence};
-ghost use Rattle.encrypt_schema.specs.Row.{Row};
-ghost use Rattle.encrypt_schema.specs.Stations.{Insert, Inserts, station};
-ghost use Rattle.encrypt_schema.specs.Visits.{command_visits, entry, names_of};
-ghost use Rattle.encrypt_schema.specs.Walking.{MarksPlaces, station_by};
+ghost use Rattle.encrypt_schema.specs.Language.Names.{is_among};
+ghost use Rattle.encrypt_schema.specs.Commands.Offences.{ruled_offence};
+ghost use Rattle.encrypt_schema.specs.Language.Row.{Row};
+ghost use Rattle.encrypt_schema.specs.Commands.Stations.{Insert, Inserts, station};
+ghost use Rattle.encrypt_schema.specs.Commands.Visits.{command_visits, entry, names_of};
+ghost use Rattle.encrypt_schema.specs.Views.Walking.{MarksPlaces, station_by};
 ghost use Rattle.command_marker.specs.Commands.{IsCovered, is_command};
 ghost use Rattle.std.specs.Prelude.{codes, true};
 
@@ -31,7 +31,7 @@ fn step_insert(item: &RawItem<'_>) -> Place
 }
 
 /// Why field `k` of an insert is refused: `documents` stands for the second time, or is no array.
-#[tactic(auto, unfolding(encrypt_schema::specs::Offences::ruled_offence, encrypt_schema::specs::Offences::is_again), using(crate::proofs::FieldReasons::insert_reasons))]
+#[tactic(auto, unfolding(encrypt_schema::specs::Commands::Offences::ruled_offence, encrypt_schema::specs::Commands::Offences::is_again), using(crate::proofs::FieldReasons::insert_reasons))]
 fn offence_insert(document: &RawDoc<'_>, k: usize, item: &RawItem<'_>) -> Option<Reason>
     ensures offence { (rows : List Row) → result ≡ ruled_offence rows Insert (take k (names_of document.now.tree)) (entry item.now.name item.now.tree) }
 {
@@ -58,7 +58,7 @@ fn step_inserts(rows: &Rows, item: &RawItem<'_>) -> Place
 }
 
 /// Why an element of `documents` is refused: it is no document.
-#[tactic(auto, unfolding(encrypt_schema::specs::Offences::ruled_offence))]
+#[tactic(auto, unfolding(encrypt_schema::specs::Commands::Offences::ruled_offence))]
 fn offence_inserts(item: &RawItem<'_>) -> Option<Reason>
     ensures offence { (rows : List Row) (elder : List (List ℕ)) → result ≡ ruled_offence rows Inserts elder (entry item.now.name item.now.tree) }
 {
@@ -85,7 +85,7 @@ impl Table for Contents {
         }
     }
 
-    #[tactic(auto, unfolding(encrypt_schema::specs::Offences::ruled_offence))]
+    #[tactic(auto, unfolding(encrypt_schema::specs::Commands::Offences::ruled_offence))]
     fn offence(
         &self,
         rows: &Rows,

@@ -1,7 +1,7 @@
 //! Commands with the marks of their protected values.
 
 ghost use Rattle.std.specs.Prelude.{◌≡◌, None, codes, false, true};
-ghost use Rattle.encrypt_schema.specs.Visits.{content_verdict, roles};
+ghost use Rattle.encrypt_schema.specs.Commands.Visits.{content_verdict, roles};
 ghost use Rattle.command_marker.specs.Commands.{MarksAs, TellsMarks, is_command, passes};
 
 use crate::contents::mark_contents;
@@ -20,7 +20,7 @@ pub struct Marked<'a> {
 
 impl<'a> Model for Marked<'a> {
     ghost use Rattle.std.specs.Prelude.{◌≡◌, false};
-    ghost use Rattle.encrypt_schema.specs.Visits.{content_verdict, roles};
+    ghost use Rattle.encrypt_schema.specs.Commands.Visits.{content_verdict, roles};
     ghost use Rattle.command_marker.specs.Commands.{Command, passes};
 
     ghost Value = { Command };
@@ -28,8 +28,8 @@ impl<'a> Model for Marked<'a> {
     ghost use Rattle.std.specs.Prelude.{List, None, refl};
     ghost use Rattle.std.specs.Coded.{code_by, coded×};
     ghost use Rattle.bson_codec.specs.Borrowed.{At, coded_at};
-    ghost use Rattle.encrypt_schema.specs.Row.{Row};
-    ghost use Rattle.encrypt_schema.specs.contracts.rows.Rows as rules;
+    ghost use Rattle.encrypt_schema.specs.Language.Row.{Row};
+    ghost use Rattle.encrypt_schema.specs.contracts.path.rows.Rows as rules;
 
     ghost coded = { code_by (List Row × At) (coded× rules.the_row.coded coded_at) (λ m. (m.rows, m.command)) (λ p. record { rows = p.0; command = p.1 }) (λ _. refl) };
 

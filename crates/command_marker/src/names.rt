@@ -1,9 +1,9 @@
 //! Names of commands and of their fields.
 
 ghost use Rattle.std.specs.Prelude.{◌≡◌, codes};
-ghost use Rattle.encrypt_schema.specs.Names.{named};
-ghost use Rattle.encrypt_schema.specs.Offences.{is_db};
-ghost use Rattle.encrypt_schema.specs.Stations.{is_passed};
+ghost use Rattle.encrypt_schema.specs.Language.Names.{named};
+ghost use Rattle.encrypt_schema.specs.Commands.Offences.{is_db};
+ghost use Rattle.encrypt_schema.specs.Commands.Stations.{is_passed};
 ghost use Rattle.command_marker.specs.Commands.{is_unbuilt};
 ghost use Rattle.command_marker.specs.Fields.{is_marked_name};
 
@@ -28,7 +28,7 @@ pub(crate) fn is_marked(name: &[u8]) -> bool
 }
 
 /// Whether this is the name of a command that passes unchanged.
-#[tactic(auto, unfolding(encrypt_schema::specs::Stations::is_passed))]
+#[tactic(auto, unfolding(encrypt_schema::specs::Commands::Stations::is_passed))]
 pub(crate) fn is_passed(name: &[u8]) -> bool
     ensures { result ≡ is_passed name.now }
 {
@@ -67,7 +67,7 @@ pub(crate) fn is_unbuilt(name: &[u8]) -> bool
 }
 
 /// Whether this is the name of the database's field.
-#[tactic(auto, unfolding(encrypt_schema::specs::Offences::is_db))]
+#[tactic(auto, unfolding(encrypt_schema::specs::Commands::Offences::is_db))]
 pub(crate) fn is_db(name: &[u8]) -> bool
     ensures { result ≡ is_db name.now }
 {

@@ -4,7 +4,7 @@
 ghost use Rattle.std.specs.Prelude.{◌≡◌, ◌+◌, ◌<◌, ◌≤◌, ◌^◌, ◌++◌, [], ◌∷◌, length, drop, IfOk, IfSome, MatchOption, OnOk};
 ghost use Rattle.bson_tree.specs.Spelling.{doc_bytes, items_bytes};
 ghost use Rattle.bson_tree.specs.Tree.{item as element, no_items};
-ghost use Rattle.encrypt_schema.specs.Policies.{policy_at};
+ghost use Rattle.encrypt_schema.specs.Language.Policies.{policy_at};
 ghost use Rattle.payload6.specs.Marking.{key_id};
 ghost use Rattle.command_marker.specs.Marking.{marked_value};
 ghost use Rattle.command_marker.specs.Splices.{left, left_in, spliced, spliced_in};

@@ -1,9 +1,9 @@
 //! Which command it is, on which collection.
 
 ghost use Rattle.std.specs.Prelude.{◌≡◌, ◌||◌, ◌&&◌, not, true, false};
-ghost use Rattle.encrypt_schema.specs.Names.{named};
-ghost use Rattle.encrypt_schema.specs.Offences.{is_empty, is_string, least, text_of};
-ghost use Rattle.encrypt_schema.specs.Visits.{entry, raw_of};
+ghost use Rattle.encrypt_schema.specs.Language.Names.{named};
+ghost use Rattle.encrypt_schema.specs.Commands.Offences.{is_empty, is_string, least, text_of};
+ghost use Rattle.encrypt_schema.specs.Commands.Visits.{entry, raw_of};
 ghost use Rattle.command_marker.specs.Commands.{AimsAt, Refuses};
 ghost use Rattle.command_marker.specs.Fields.{first_reasons, later_reasons, later_refusal};
 

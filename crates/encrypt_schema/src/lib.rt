@@ -16,53 +16,19 @@
 //! and why they are refused is defined in specs/, and read by the crates above.
 #![tactic(auto)]
 
-mod class;
-mod collections;
-mod context;
-mod cursor;
-mod distinct;
-mod dotted;
-mod faults;
-mod field;
-mod info_fields;
-mod keyword;
-mod marks;
-mod names;
-mod policy;
-mod reading;
-mod reason;
-mod rows;
-mod rules;
-mod settings;
-mod shape;
-mod spots;
-mod stored;
-mod types;
-mod values;
-mod walking;
+mod command;
+mod path;
+mod schema;
 
-pub use class::Class;
-pub use collections::{Info, Infos};
-pub use cursor::Cursor;
-pub use dotted::{Walk, is_dollar, is_position};
-pub use faults::{InfoFault, InfoKind, SchemaFault};
-pub use marks::{Mark, MarkFault, Marks, Role};
-pub use names::is_named;
-pub use policy::{Algorithm, KeyRef, Policy, TypeSet};
-pub use reason::Reason;
-pub use rows::Rows;
-pub use stored::{type_allowed, type_allowed_under};
-pub use walking::{Place, Table, has_name, mark_elements, stands_before};
-
-#[cfg(test)]
-mod collections_tests;
-#[cfg(test)]
-mod rows_tests;
-#[cfg(test)]
-mod rules_tests;
-#[cfg(test)]
-mod schema_tests;
-#[cfg(test)]
-mod stored_tests;
-#[cfg(test)]
-mod test_documents;
+pub use command::marks::{Mark, MarkFault, Marks, Role};
+pub use command::reason::Reason;
+pub use command::stored::{type_allowed, type_allowed_under};
+pub use command::walking::{Place, Table, has_name, mark_elements, stands_before};
+pub use path::class::Class;
+pub use path::cursor::Cursor;
+pub use path::dotted::{Walk, is_dollar, is_position};
+pub use path::rows::Rows;
+pub use schema::collections::{Info, Infos};
+pub use schema::faults::{InfoFault, InfoKind, SchemaFault};
+pub use schema::names::is_named;
+pub use schema::policy::{Algorithm, KeyRef, Policy, TypeSet};

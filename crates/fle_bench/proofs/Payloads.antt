@@ -1,7 +1,7 @@
 -- Payloads of binaries.
 use Rattle.std.proofs.Common.{◌≡◌, ◌∙◌, ℕ, ◌+◌, ◌/◌, ◌≤◌, List, ◌++◌, length, arith, ap, sym, subst, refl}
-use Rattle.encrypt_schema.specs.declared.policy.Algorithm.{Algorithm}
-use Rattle.encrypt_schema.specs.declared.policy.Algorithm.TheVariants.{Deterministic, Random}
+use Rattle.encrypt_schema.specs.declared.schema.policy.Algorithm.{Algorithm}
+use Rattle.encrypt_schema.specs.declared.schema.policy.Algorithm.TheVariants.{Deterministic, Random}
 use Rattle.bson_tree.specs.Tree.{leaf}
 use Rattle.bson_codec.specs.Table.{layout_of}
 use Rattle.payload6.specs.Opening.{IsOriginal}

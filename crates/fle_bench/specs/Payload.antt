@@ -1,8 +1,8 @@
 -- One payload (MongoDB Client Side Encryption, BSON binary subtype 6) of a binary.
 use Rattle.std.specs.Prelude.{◌≡◌, ℕ, List, ◌++◌, length, take}
 use Rattle.bson_codec.specs.Layout.{binary_bytes}
-use Rattle.encrypt_schema.specs.declared.policy.Algorithm.{Algorithm}
-use Rattle.encrypt_schema.specs.declared.policy.Algorithm.TheVariants.{Deterministic, Random}
+use Rattle.encrypt_schema.specs.declared.schema.policy.Algorithm.{Algorithm}
+use Rattle.encrypt_schema.specs.declared.schema.policy.Algorithm.TheVariants.{Deterministic, Random}
 use Rattle.fle_aead.specs.Sealed.{body, derived_iv}
 use Rattle.payload6.specs.Opening.{IsOriginal}
 use Rattle.payload6.specs.Payload.{algorithm_number, head, IsKind, IsSealedPayload}

@@ -1,10 +1,10 @@
 -- Names that are those of rules.
 use Rattle.std.specs.Prelude.{ℕ, ◌+◌, Bool, true, false, List, [], ◌∷◌, if◌then◌else◌}
 use Rattle.bson_tree.specs.Tree.{Items, no_items, item}
-use Rattle.encrypt_schema.specs.declared.class.Class.{Class}
-use Rattle.encrypt_schema.specs.declared.class.Class.TheVariants as classes
-use Rattle.encrypt_schema.specs.Classes.{class}
-use Rattle.encrypt_schema.specs.Row.{Row}
+use Rattle.encrypt_schema.specs.declared.path.class.Class.{Class}
+use Rattle.encrypt_schema.specs.declared.path.class.Class.TheVariants as classes
+use Rattle.encrypt_schema.specs.Paths.Classes.{class}
+use Rattle.encrypt_schema.specs.Language.Row.{Row}
 
 abbrev pub is_rule : Class → Bool
 is_rule (classes.Protected i) = true

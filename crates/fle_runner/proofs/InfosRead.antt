@@ -1,8 +1,8 @@
 -- A file of collection infos is read by what it is.
 use Rattle.std.proofs.Common.{◌≡◌, ℕ, ◌≤◌, Bool, true, false, cond, nat_lt, Some, Result, Ok, Err, List, length, refl, sym, ap, ◌∙◌, subst, arith}
 use Rattle.std.proofs.lemmas.Bool.Decides.{nat_tests}
-use Rattle.encrypt_schema.specs.Collection.{Collection}
-use Rattle.encrypt_schema.specs.Collections.{Faulty, collections}
+use Rattle.encrypt_schema.specs.Language.Collection.{Collection}
+use Rattle.encrypt_schema.specs.Language.Collections.{Faulty, collections}
 use Rattle.ext_json.specs.Infos.{json_infos}
 use Rattle.ext_json.proofs.Wants.{json_never}
 use Rattle.ext_json.specs.declared.fault.JsonFault.{JsonFault}

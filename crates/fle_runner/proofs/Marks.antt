@@ -3,9 +3,9 @@ use Rattle.std.proofs.Common.{◌≡◌, ◌<◌, ◌≤◌, ℕ, Bool, true, fa
 use Rattle.std.proofs.lemmas.Bool.Decides.{nat_tests}
 use Rattle.bson_tree.specs.Tree.{Items}
 use Rattle.command_marker.specs.Reply.{reply_limit, reply_to}
-use Rattle.encrypt_schema.specs.Collection.{Collection}
-use Rattle.encrypt_schema.specs.Targets.{rows_of}
-use Rattle.encrypt_schema.specs.Visits.{Refusal}
+use Rattle.encrypt_schema.specs.Language.Collection.{Collection}
+use Rattle.encrypt_schema.specs.Commands.Targets.{rows_of}
+use Rattle.encrypt_schema.specs.Commands.Visits.{Refusal}
 use Rattle.fle_outside.specs.Seen.{EntropySeen, SinkSeen}
 use Rattle.fle_outside.proofs.Drawings.{draws_none}
 use Rattle.fle_runner.specs.Mark.{infos_task, infos_why, mark_refusal, mark_verdict, plain_plan, sized, verdict_by}

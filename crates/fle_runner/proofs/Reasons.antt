@@ -1,19 +1,19 @@
 -- That a collection is a view is told by the target pass alone: no content is refused for it.
 use Rattle.std.proofs.Common.{◌≡◌, ℕ, Bool, true, false, cond, not, ◌&&◌, ◌||◌, ◌==◌, codes, option_map, List, [], ◌∷◌, ◌++◌, nat_lt, Option, Some, None, refl, ap}
 use Rattle.bson_tree.specs.Tree.{Items}
-use Rattle.encrypt_schema.specs.declared.class.Class.{Class}
-use Rattle.encrypt_schema.specs.declared.class.Class.TheVariants.{Protected, Below, Above, Clear}
-use Rattle.encrypt_schema.specs.declared.reason.Reason.{Reason}
-use Rattle.encrypt_schema.specs.declared.reason.Reason.TheVariants.{NotACommand, BadField, WrongDb, TypeNotAllowed, AlreadyEncrypted, ArrayOnPath, BelowProtected, PositionalOnPath, RandomCompared, OperatorOnProtected, PrefixCompared, Pipeline, FieldNotAllowed, RenameMixed, NotBuilt}
-use Rattle.encrypt_schema.specs.Reasons.{reason_code}
-use Rattle.encrypt_schema.specs.Row.{Row}
-use Rattle.encrypt_schema.specs.Classes.{class}
-use Rattle.encrypt_schema.specs.Dotted.{split, is_dollar, positional}
-use Rattle.encrypt_schema.specs.Names.{named, is_among}
-use Rattle.encrypt_schema.specs.Policies.{policy_at, is_random, has_type}
-use Rattle.encrypt_schema.specs.Stations.{Entry, Subject, Field, Prefix, Station, Outside, Insert, Update, Delete, Find, Inserts, Updates, Deletes, UpdateItem, DeleteItem, Filter, Cases, Projection, Test, Operators, Sets, Argument, Document, Store, Compare, Bare, Unknown, dotted, station, is_document, is_array, is_operators, has_name, is_logical, is_equality, is_membership, is_random_field}
-use Rattle.encrypt_schema.specs.Offences.{when, again, by_class, has_none, is_again, is_db, is_empty, is_never_allowed, is_slice_or_meta, is_string, lacks, may_rename, text_of, stored, command_lacks, not_value, of_field, of_role, of_row, of_target, positional_path, renamed, argument_value, reasons_at, ruled_offence, target_offence, unusable, want_array, want_document, lesser, least}
-use Rattle.encrypt_schema.specs.Visits.{Visit, target_of, content_of, Refusal, refused_at, or_else, first_refusal, command_visits, target_verdict, content_verdict}
+use Rattle.encrypt_schema.specs.declared.path.class.Class.{Class}
+use Rattle.encrypt_schema.specs.declared.path.class.Class.TheVariants.{Protected, Below, Above, Clear}
+use Rattle.encrypt_schema.specs.declared.command.reason.Reason.{Reason}
+use Rattle.encrypt_schema.specs.declared.command.reason.Reason.TheVariants.{NotACommand, BadField, WrongDb, TypeNotAllowed, AlreadyEncrypted, ArrayOnPath, BelowProtected, PositionalOnPath, RandomCompared, OperatorOnProtected, PrefixCompared, Pipeline, FieldNotAllowed, RenameMixed, NotBuilt}
+use Rattle.encrypt_schema.specs.Commands.Reasons.{reason_code}
+use Rattle.encrypt_schema.specs.Language.Row.{Row}
+use Rattle.encrypt_schema.specs.Paths.Classes.{class}
+use Rattle.encrypt_schema.specs.Paths.Dotted.{split, is_dollar, positional}
+use Rattle.encrypt_schema.specs.Language.Names.{named, is_among}
+use Rattle.encrypt_schema.specs.Language.Policies.{policy_at, is_random, has_type}
+use Rattle.encrypt_schema.specs.Commands.Stations.{Entry, Subject, Field, Prefix, Station, Outside, Insert, Update, Delete, Find, Inserts, Updates, Deletes, UpdateItem, DeleteItem, Filter, Cases, Projection, Test, Operators, Sets, Argument, Document, Store, Compare, Bare, Unknown, dotted, station, is_document, is_array, is_operators, has_name, is_logical, is_equality, is_membership, is_random_field}
+use Rattle.encrypt_schema.specs.Commands.Offences.{when, again, by_class, has_none, is_again, is_db, is_empty, is_never_allowed, is_slice_or_meta, is_string, lacks, may_rename, text_of, stored, command_lacks, not_value, of_field, of_role, of_row, of_target, positional_path, renamed, argument_value, reasons_at, ruled_offence, target_offence, unusable, want_array, want_document, lesser, least}
+use Rattle.encrypt_schema.specs.Commands.Visits.{Visit, target_of, content_of, Refusal, refused_at, or_else, first_refusal, command_visits, target_verdict, content_verdict}
 use Rattle.fle_runner.specs.Mark.{is_view_reason, as_built}
 
 -- the reason of a view isn't among these

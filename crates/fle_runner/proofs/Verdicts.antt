@@ -4,18 +4,18 @@ use Rattle.std.proofs.lemmas.Bool.{false≢true}
 use Rattle.bson_tree.specs.Tree.{Tree, Items, no_items, item}
 use Rattle.bson_tree.specs.Places.{place_of}
 use Rattle.bson_codec.specs.Borrowed.{At}
-use Rattle.encrypt_schema.specs.declared.marks.MarkFault.{MarkFault}
-use Rattle.encrypt_schema.specs.declared.marks.MarkFault.TheVariants as faults
-use Rattle.encrypt_schema.specs.declared.reason.Reason.{Reason}
-use Rattle.encrypt_schema.specs.declared.reason.Reason.TheVariants.{NotACommand, BadField, NotBuilt, View}
-use Rattle.encrypt_schema.specs.Collection.{Collection, collection_of}
-use Rattle.encrypt_schema.specs.Names.{named}
-use Rattle.encrypt_schema.specs.Stations.{Station, Insert, Update, Delete, Find, Passed, Unknown, is_passed, command_of}
-use Rattle.encrypt_schema.specs.Offences.{when, least, text_of, is_empty, is_marked, is_string, is_view}
-use Rattle.encrypt_schema.specs.Targets.{info_of, rows_in, rows_of, verdict}
-use Rattle.encrypt_schema.specs.Visits.{names_of, entry, raw_of, view_of, command_visits, Refusal, refused_at, or_else, first_refusal, target_verdict, content_verdict}
-use Rattle.encrypt_schema.proofs.Fields.{target_anyhow, view_alone}
-use Rattle.encrypt_schema.proofs.Parts.{unruled}
+use Rattle.encrypt_schema.specs.declared.command.marks.MarkFault.{MarkFault}
+use Rattle.encrypt_schema.specs.declared.command.marks.MarkFault.TheVariants as faults
+use Rattle.encrypt_schema.specs.declared.command.reason.Reason.{Reason}
+use Rattle.encrypt_schema.specs.declared.command.reason.Reason.TheVariants.{NotACommand, BadField, NotBuilt, View}
+use Rattle.encrypt_schema.specs.Language.Collection.{Collection, collection_of}
+use Rattle.encrypt_schema.specs.Language.Names.{named}
+use Rattle.encrypt_schema.specs.Commands.Stations.{Station, Insert, Update, Delete, Find, Passed, Unknown, is_passed, command_of}
+use Rattle.encrypt_schema.specs.Commands.Offences.{when, least, text_of, is_empty, is_marked, is_string, is_view}
+use Rattle.encrypt_schema.specs.Commands.Targets.{info_of, rows_in, rows_of, verdict}
+use Rattle.encrypt_schema.specs.Commands.Visits.{names_of, entry, raw_of, view_of, command_visits, Refusal, refused_at, or_else, first_refusal, target_verdict, content_verdict}
+use Rattle.encrypt_schema.proofs.Commands.Fields.{target_anyhow, view_alone}
+use Rattle.encrypt_schema.proofs.Commands.Parts.{unruled}
 use Rattle.command_marker.specs.Commands.{AimsAt, collection_in, is_command, is_unbuilt, target_refusal, unbuilt}
 use Rattle.command_marker.specs.Fields.{is_marked_name, first_reasons}
 use Rattle.command_marker.specs.Marked.{marked}

@@ -1,7 +1,7 @@
 -- A file of collection infos: BSON documents one after another, or a JSON text (RFC 8259), an array of them.
 use Rattle.std.specs.Prelude.{◌≡◌, ℕ, Bool, nat_lt, Result, Ok, Err, List, length, slice_index, if◌then◌else◌}
-use Rattle.encrypt_schema.specs.Collection.{Collection}
-use Rattle.encrypt_schema.specs.Collections.{Faulty, collections}
+use Rattle.encrypt_schema.specs.Language.Collection.{Collection}
+use Rattle.encrypt_schema.specs.Language.Collections.{Faulty, collections}
 use Rattle.ext_json.specs.Infos.{json_infos}
 use Rattle.ext_json.specs.declared.fault.JsonFault.{JsonFault}
 use Rattle.ext_json.specs.declared.fault.JsonFault.TheVariants as faults

@@ -1,19 +1,19 @@
 -- `mark DB SCHEMAS`: the marking reply to each command.
 use Rattle.std.specs.Prelude.{◌≡◌, ℕ, Bool, true, false, nat_lt, Option, Some, None, option_map, Result, Ok, Err, List, length, if◌then◌else◌}
 use Rattle.bson_tree.specs.Tree.{Items}
-use Rattle.encrypt_schema.specs.Collection.{Collection}
-use Rattle.encrypt_schema.specs.Row.{Row}
-use Rattle.encrypt_schema.specs.Offences.{is_view}
-use Rattle.encrypt_schema.specs.Targets.{rows_in, rows_of, verdict}
-use Rattle.encrypt_schema.specs.Visits.{Refusal, or_else, content_verdict}
-use Rattle.encrypt_schema.specs.declared.marks.MarkFault.{MarkFault}
-use Rattle.encrypt_schema.specs.declared.marks.MarkFault.TheVariants as mark_faults
+use Rattle.encrypt_schema.specs.Language.Collection.{Collection}
+use Rattle.encrypt_schema.specs.Language.Row.{Row}
+use Rattle.encrypt_schema.specs.Commands.Offences.{is_view}
+use Rattle.encrypt_schema.specs.Commands.Targets.{rows_in, rows_of, verdict}
+use Rattle.encrypt_schema.specs.Commands.Visits.{Refusal, or_else, content_verdict}
+use Rattle.encrypt_schema.specs.declared.command.marks.MarkFault.{MarkFault}
+use Rattle.encrypt_schema.specs.declared.command.marks.MarkFault.TheVariants as mark_faults
 use Rattle.command_marker.specs.Commands.{unbuilt}
 use Rattle.command_marker.specs.Reply.{reply_limit, reply_to}
 use Rattle.fle_stream.specs.Plan.{Plan, Verdict, writes, refused, too_long}
 use Rattle.fle_stream.specs.Task.{Task, fails, each, with_file}
-use Rattle.encrypt_schema.specs.declared.reason.Reason.{Reason}
-use Rattle.encrypt_schema.specs.declared.reason.Reason.TheVariants as reasons
+use Rattle.encrypt_schema.specs.declared.command.reason.Reason.{Reason}
+use Rattle.encrypt_schema.specs.declared.command.reason.Reason.TheVariants as reasons
 use Rattle.bson_tree.specs.Places.{place_of}
 use Rattle.fle_stream.specs.declared.why.Why.{Why}
 use Rattle.fle_stream.specs.declared.why.Why.TheVariants as whys

@@ -1,11 +1,11 @@
 -- The numbers of reasons and of faults of named files, for the diagnostic line.
 use Rattle.std.specs.Prelude.{ℕ, ◌+◌}
-use Rattle.encrypt_schema.specs.Reasons.{reason_code}
-use Rattle.encrypt_schema.specs.declared.reason.Reason.{Reason}
-use Rattle.encrypt_schema.specs.declared.faults.InfoKind.{InfoKind}
-use Rattle.encrypt_schema.specs.declared.faults.InfoKind.TheVariants as kinds
-use Rattle.encrypt_schema.specs.declared.faults.SchemaFault.{SchemaFault}
-use Rattle.encrypt_schema.specs.declared.faults.SchemaFault.TheVariants as schemas
+use Rattle.encrypt_schema.specs.Commands.Reasons.{reason_code}
+use Rattle.encrypt_schema.specs.declared.command.reason.Reason.{Reason}
+use Rattle.encrypt_schema.specs.declared.schema.faults.InfoKind.{InfoKind}
+use Rattle.encrypt_schema.specs.declared.schema.faults.InfoKind.TheVariants as kinds
+use Rattle.encrypt_schema.specs.declared.schema.faults.SchemaFault.{SchemaFault}
+use Rattle.encrypt_schema.specs.declared.schema.faults.SchemaFault.TheVariants as schemas
 use Rattle.fle_stream.specs.declared.why.Number.{Number}
 
 -- the number of a reason

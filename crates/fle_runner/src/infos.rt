@@ -1,7 +1,7 @@
 //! A file of collection infos: BSON documents one after another, or a JSON text (RFC 8259), an array of them.
 
 ghost use Rattle.std.specs.Prelude.{◌≡◌, ◌≤◌, length};
-ghost use Rattle.encrypt_schema.specs.Collections.{collections};
+ghost use Rattle.encrypt_schema.specs.Language.Collections.{collections};
 ghost use Rattle.ext_json.specs.Infos.{json_infos};
 ghost use Rattle.fle_runner.specs.Infos as spec;
 ghost use Rattle.fle_runner.specs.Infos.{ReadsAs, bson_read, infos_read, json_read};

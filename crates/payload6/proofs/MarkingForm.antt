@@ -4,7 +4,7 @@ use Rattle.std.specs.Prelude.{codes}
 use Rattle.std.specs.Int.{to_le_bytes, w32}
 use Rattle.bson_tree.specs.Tree.{Tree, Items, leaf, no_items, item}
 use Rattle.bson_tree.specs.Spelling.{value_bytes, items_bytes}
-use Rattle.encrypt_schema.specs.declared.policy.Policy.{Policy}
+use Rattle.encrypt_schema.specs.declared.schema.policy.Policy.{Policy}
 use Rattle.payload6.specs.Payload.{algorithm_number}
 use Rattle.payload6.specs.Marking.{binary, key_id, marking, marking_fields}
 

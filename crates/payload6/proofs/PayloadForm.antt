@@ -1,8 +1,8 @@
 -- Payloads taken apart, and put together again.
 use Rattle.std.proofs.Common.{◌≡◌, ◌∙◌, ℕ, ◌+◌, ◌-◌, ◌*◌, ◌/◌, ◌%◌, ◌<◌, List, [], ◌∷◌, ◌++◌, length, get_or, take, drop, arith, ap, sym, subst}
 use Rattle.std.proofs.lemmas.List.{drop_at, take_at, length-append}
-use Rattle.encrypt_schema.specs.declared.policy.Algorithm.{Algorithm}
-use Rattle.encrypt_schema.specs.declared.policy.Algorithm.TheVariants.{Deterministic, Random}
+use Rattle.encrypt_schema.specs.declared.schema.policy.Algorithm.{Algorithm}
+use Rattle.encrypt_schema.specs.declared.schema.policy.Algorithm.TheVariants.{Deterministic, Random}
 use Rattle.fle_aead.specs.Sealed.{body, tag, IsSealed, IsSealedLength}
 use Rattle.fle_aead.proofs.SealedForm.{sealed-determines, sealed-iv, sealed-length}
 use Rattle.payload6.specs.Payload.{algorithm_number, head, payload_iv, HasKind, IsKind, IsPayload, IsPayloadLength, IsSealedPayload, IsVector}

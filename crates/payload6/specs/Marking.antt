@@ -4,9 +4,9 @@ use Rattle.std.specs.Prelude.{ℕ, List, [], ◌∷◌, ◌++◌, length, codes}
 use Rattle.std.specs.Int.{to_le_bytes, w32}
 use Rattle.bson_tree.specs.Tree.{Tree, Items, leaf, no_items, item}
 use Rattle.bson_tree.specs.Spelling.{doc_bytes}
-use Rattle.encrypt_schema.specs.declared.policy.KeyRef.{KeyRef}
-use Rattle.encrypt_schema.specs.declared.policy.KeyRef.TheVariants.{Id}
-use Rattle.encrypt_schema.specs.declared.policy.Policy.{Policy}
+use Rattle.encrypt_schema.specs.declared.schema.policy.KeyRef.{KeyRef}
+use Rattle.encrypt_schema.specs.declared.schema.policy.KeyRef.TheVariants.{Id}
+use Rattle.encrypt_schema.specs.declared.schema.policy.Policy.{Policy}
 use Rattle.payload6.specs.Payload.{algorithm_number}
 
 -- the 16 bytes of a key id

@@ -1,8 +1,8 @@
 -- MongoDB Client Side Encryption, BSON binary subtype 6: payloads, the contents of a binary that
 -- stands for a sealed value. Bytes are numbers below 256.
 use Rattle.std.specs.Prelude.{◌≡◌, ℕ, ◌+◌, ◌*◌, ◌<◌, ◌≤◌, List, [], ◌∷◌, ◌++◌, length, take, drop}
-use Rattle.encrypt_schema.specs.declared.policy.Algorithm.{Algorithm}
-use Rattle.encrypt_schema.specs.declared.policy.Algorithm.TheVariants.{Deterministic, Random}
+use Rattle.encrypt_schema.specs.declared.schema.policy.Algorithm.{Algorithm}
+use Rattle.encrypt_schema.specs.declared.schema.policy.Algorithm.TheVariants.{Deterministic, Random}
 use Rattle.fle_aead.specs.Sealed.{derived_iv, IsSealed}
 
 -- byte 0 of a payload: 01 for a deterministic one, 02 for a random one

@@ -2,8 +2,8 @@
 //! one, or cites it, for the fact that it ensures.
 
 ghost use Rattle.std.specs.Prelude.{◌≡◌, ◌++◌, length, List, ℕ};
-ghost use Rattle.encrypt_schema.specs.declared.policy.Algorithm.{Algorithm};
-ghost use Rattle.encrypt_schema.specs.declared.policy.Algorithm.TheVariants.{Deterministic};
+ghost use Rattle.encrypt_schema.specs.declared.schema.policy.Algorithm.{Algorithm};
+ghost use Rattle.encrypt_schema.specs.declared.schema.policy.Algorithm.TheVariants.{Deterministic};
 ghost use Rattle.payload6.specs.Payload.{head, HasKind, IsPayload, IsPayloadLength, IsSealedPayload};
 
 /// Bytes are joined of a head and what stands behind it in one way.

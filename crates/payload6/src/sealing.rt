@@ -1,7 +1,7 @@
 //! Payloads made from values.
 
 ghost use Rattle.std.specs.Prelude.{◌≡◌, ◌+◌, ◌*◌, ◌/◌, ◌^◌, ◌<◌, length};
-ghost use Rattle.encrypt_schema.specs.declared.policy.Algorithm.{Algorithm};
+ghost use Rattle.encrypt_schema.specs.declared.schema.policy.Algorithm.{Algorithm};
 ghost use Rattle.fle_aead.specs.Sealed.{derived_iv};
 ghost use Rattle.payload6.specs.Payload.{algorithm_number, head, IsKind};
 ghost use Rattle.payload6.specs.Payload.{IsPayload, IsSealedPayload, IsVector};

@@ -1,9 +1,9 @@
 -- Which places the tables of this crate cover.
 use Rattle.std.specs.Prelude.{List, ⊤}
-use Rattle.encrypt_schema.specs.declared.walking.Place.{Place}
-use Rattle.encrypt_schema.specs.declared.walking.Place.TheVariants as places
-use Rattle.encrypt_schema.specs.Row.{Row}
-use Rattle.encrypt_schema.specs.Cursors.{StandsForPath}
+use Rattle.encrypt_schema.specs.declared.command.walking.Place.{Place}
+use Rattle.encrypt_schema.specs.declared.command.walking.Place.TheVariants as places
+use Rattle.encrypt_schema.specs.Language.Row.{Row}
+use Rattle.encrypt_schema.specs.Views.Cursors.{StandsForPath}
 
 -- stored documents, and what stands in them
 abbrev pub IsStored : List Row → Place → Type 0

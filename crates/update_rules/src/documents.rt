@@ -1,12 +1,12 @@
 //! Stored documents.
 
 ghost use Rattle.std.specs.Prelude.{◌≡◌, ◌+◌, ◌++◌, ◌∷◌, [], ℕ, List, take};
-ghost use Rattle.encrypt_schema.specs.Classes.{class};
-ghost use Rattle.encrypt_schema.specs.Cursors.{Stands, StandsForPath, path_of};
-ghost use Rattle.encrypt_schema.specs.Offences.{ruled_offence};
-ghost use Rattle.encrypt_schema.specs.Stations.{Document, station};
-ghost use Rattle.encrypt_schema.specs.Visits.{entry, names_of, visits};
-ghost use Rattle.encrypt_schema.specs.Walking.{Begins, MarksPlaces, station_by};
+ghost use Rattle.encrypt_schema.specs.Paths.Classes.{class};
+ghost use Rattle.encrypt_schema.specs.Views.Cursors.{Stands, StandsForPath, path_of};
+ghost use Rattle.encrypt_schema.specs.Commands.Offences.{ruled_offence};
+ghost use Rattle.encrypt_schema.specs.Commands.Stations.{Document, station};
+ghost use Rattle.encrypt_schema.specs.Commands.Visits.{entry, names_of, visits};
+ghost use Rattle.encrypt_schema.specs.Views.Walking.{Begins, MarksPlaces, station_by};
 ghost use Rattle.update_rules.specs.Covered.{IsStored};
 
 use bson_codec::{RawDoc, RawItem};
@@ -16,7 +16,7 @@ use encrypt_schema::{
 };
 
 /// What an element is of a stored document at this path.
-#[tactic(auto, using(encrypt_schema::proofs::Steps::above_path, encrypt_schema::proofs::Steps::above_stands))]
+#[tactic(auto, using(encrypt_schema::proofs::Paths::Steps::above_path, encrypt_schema::proofs::Paths::Steps::above_stands))]
 pub fn step_document(rows: &Rows, at: Cursor, item: &RawItem<'_>) -> Place
     requires cursor { StandsForPath rows.now at }
     ensures station { station_by rows.now result ≡ station rows.now (Document (path_of rows.now at)) (entry item.now.name item.now.tree) }
@@ -37,7 +37,7 @@ pub fn step_document(rows: &Rows, at: Cursor, item: &RawItem<'_>) -> Place
 
 /// Why an element of a stored document at this path is refused: a value that its rule doesn't allow, and an
 /// array on the way to a protected field.
-#[tactic(auto, unfolding(encrypt_schema::specs::Offences::ruled_offence))]
+#[tactic(auto, unfolding(encrypt_schema::specs::Commands::Offences::ruled_offence))]
 pub fn offence_document(rows: &Rows, at: Cursor, item: &RawItem<'_>) -> Option<Reason>
     requires cursor { StandsForPath rows.now at }
     ensures offence { (elder : List (List ℕ)) → result ≡ ruled_offence rows.now (Document (path_of rows.now at)) elder (entry item.now.name item.now.tree) }
@@ -69,7 +69,7 @@ impl Table for Documents {
         }
     }
 
-    #[tactic(auto, unfolding(encrypt_schema::specs::Offences::ruled_offence))]
+    #[tactic(auto, unfolding(encrypt_schema::specs::Commands::Offences::ruled_offence))]
     fn offence(
         &self,
         rows: &Rows,
@@ -92,7 +92,7 @@ impl Table for Documents {
 ///
 /// The cursor is of these rules, and its class is Above, so that there are rules. With `Refused` and `Memory`
 /// too the marks begin with those that were there before.
-#[tactic(auto, using(encrypt_schema::proofs::Steps::above_path, encrypt_schema::proofs::Steps::above_stands))]
+#[tactic(auto, using(encrypt_schema::proofs::Paths::Steps::above_path, encrypt_schema::proofs::Paths::Steps::above_stands))]
 pub fn mark_document(
     marks: &mut Marks,
     rows: &Rows,

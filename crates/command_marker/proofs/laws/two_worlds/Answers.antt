@@ -1,7 +1,7 @@
 -- What is said of a command is read from its skeleton.
-use Rattle.encrypt_schema.specs.Targets.{info_of, rows_of}
-use Rattle.encrypt_schema.proofs.TwoWorlds.{equal_roles, equal_content_verdicts, equal_infos, equal_verdicts}
-use Rattle.encrypt_schema.proofs.EqualOffences.{equal_shown, equal_offences, equal_starts}
+use Rattle.encrypt_schema.specs.Commands.Targets.{info_of, rows_of}
+use Rattle.encrypt_schema.proofs.Commands.TwoWorlds.{equal_roles, equal_content_verdicts, equal_infos, equal_verdicts}
+use Rattle.encrypt_schema.proofs.Commands.EqualOffences.{equal_shown, equal_offences, equal_starts}
 use Rattle.command_marker.proofs.ToldPlaces.{equal_told}
 use Rattle.command_marker.proofs.laws.two_worlds.Goals as goal
 

@@ -1,5 +1,5 @@
 use Rattle.std.proofs.Common.{sym}
-use Rattle.encrypt_schema.proofs.PolicyAt.{policy_found}
+use Rattle.encrypt_schema.proofs.Language.PolicyAt.{policy_found}
 use Rattle.command_marker.proofs.splicing.policy_of.Goals as goal
 
 pub returns : goal.returns

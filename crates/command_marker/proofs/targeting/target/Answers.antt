@@ -1,9 +1,9 @@
 use Rattle.std.proofs.Common.{◌≡◌, ◌∙◌, ℕ, false, codes, Option, Some, sym, ap}
 use Rattle.bson_codec.specs.Borrowed.{At}
-use Rattle.encrypt_schema.specs.declared.reason.Reason.{Reason}
-use Rattle.encrypt_schema.specs.Names.{named}
-use Rattle.encrypt_schema.specs.Stations.{is_passed}
-use Rattle.encrypt_schema.specs.Visits.{refused_at, or_else}
+use Rattle.encrypt_schema.specs.declared.command.reason.Reason.{Reason}
+use Rattle.encrypt_schema.specs.Language.Names.{named}
+use Rattle.encrypt_schema.specs.Commands.Stations.{is_passed}
+use Rattle.encrypt_schema.specs.Commands.Visits.{refused_at, or_else}
 use Rattle.command_marker.specs.Commands.{is_unbuilt, is_command, collection_in}
 use Rattle.command_marker.specs.Fields.{is_marked_name, later_refusal}
 use Rattle.command_marker.proofs.Targets.{target_none, target_built, insert_left, string_left, aims_err}

@@ -27,6 +27,7 @@ returns-in-Show-clause-did g c = λ all told has is.
 pub returns-in-Show-clause-placed : goal.returns-in-Show-clause-placed
 returns-in-Show-clause-placed g c = λ all has.
     ends_task _ (ap (λ (f : Option Form). task_of f all) (sym c.in-Show.ensures.asked)) (ends_each show_verdict _ c.show.ensures.kind)
+
 pub returns-in-Keys-clause-did : goal.returns-in-Keys-clause-did
 returns-in-Keys-clause-did g c = λ all told has is.
     did_task (ap (λ (f : Option Form). task_of f all) (sym c.in-Keys.ensures.asked)) (c.keys.ensures.did all told _ _ has is)

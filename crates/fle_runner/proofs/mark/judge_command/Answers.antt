@@ -1,6 +1,6 @@
 -- What is answered about a command's fields says what it comes to.
 use Rattle.std.proofs.Common.{Option, ap, subst, sym, ◌∙◌}
-use Rattle.encrypt_schema.specs.Collection.{Collection}
+use Rattle.encrypt_schema.specs.Language.Collection.{Collection}
 use Rattle.fle_stream.specs.Judge.{JudgeIs}
 use Rattle.fle_runner.specs.Mark.{mark_verdict, verdict_into}
 use Rattle.fle_stream.specs.Plan.{Verdict}

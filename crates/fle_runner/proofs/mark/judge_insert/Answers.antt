@@ -1,7 +1,7 @@
 -- A collection without an info has no rules.
 use Rattle.std.proofs.Common.{◌≡◌, true, Option, sym, ap, subst}
 use Rattle.std.specs.Prelude.{option_copied}
-use Rattle.encrypt_schema.specs.Collection.{Collection}
+use Rattle.encrypt_schema.specs.Language.Collection.{Collection}
 use Rattle.fle_stream.specs.Judge.{JudgeIs}
 use Rattle.fle_stream.specs.Plan.{Verdict}
 use Rattle.fle_runner.specs.Mark.{verdict_into}

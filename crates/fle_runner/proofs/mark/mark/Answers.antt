@@ -1,6 +1,6 @@
 -- The file is loaded and read, and then the stream is judged.
 use Rattle.std.proofs.Common.{List, ℕ, Result, Err, ◌∙◌, ap, subst}
-use Rattle.encrypt_schema.specs.Collection.{Collection}
+use Rattle.encrypt_schema.specs.Language.Collection.{Collection}
 use Rattle.fle_outside.specs.Files.{file_of}
 use Rattle.fle_runner.specs.Infos.{ReadsAs, infos_read}
 use Rattle.fle_runner.specs.Mark.{infos_limit, infos_task, mark_verdict}

@@ -1,8 +1,8 @@
 use Rattle.std.proofs.Common.{◌∙◌, ap, sym, take}
-use Rattle.encrypt_schema.specs.declared.walking.Place.{Place}
-use Rattle.encrypt_schema.specs.Offences.{ruled_offence}
-use Rattle.encrypt_schema.specs.Visits.{entry, names_of}
-use Rattle.encrypt_schema.specs.Walking.{station_by}
+use Rattle.encrypt_schema.specs.declared.command.walking.Place.{Place}
+use Rattle.encrypt_schema.specs.Commands.Offences.{ruled_offence}
+use Rattle.encrypt_schema.specs.Commands.Visits.{entry, names_of}
+use Rattle.encrypt_schema.specs.Views.Walking.{station_by}
 use Rattle.command_marker.proofs.contents.ContentsTable.offence.Goals as goal
 
 pub returns-in-Insert : goal.returns-in-Insert

@@ -1,0 +1,10 @@
+pub mod Sets
+pub mod Texts
+pub mod TypeLists
+pub mod Events
+pub mod Flags
+pub mod Maps
+pub mod Standing
+pub mod Numbered
+pub mod Files
+pub mod PolicyAt

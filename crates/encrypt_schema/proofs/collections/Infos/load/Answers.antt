@@ -1,7 +1,0 @@
-use Rattle.std.proofs.Common.{sym, subst}
-use Rattle.encrypt_schema.specs.Collections.{Left}
-use Rattle.encrypt_schema.proofs.Files.{all_left}
-use Rattle.encrypt_schema.proofs.collections.Infos.load.Goals as goal
-
-pub loop-rest-init : goal.loop-rest-init
-loop-rest-init c = subst (λ cs. Left c.args.bytes.now cs c.args.bytes.now) (sym c.none-infos.ensures.empty) (all_left c.args.bytes.now)

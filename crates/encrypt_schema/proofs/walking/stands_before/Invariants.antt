@@ -1,7 +1,0 @@
-use Rattle.std.proofs.Common.{◌≡◌, take}
-use Rattle.encrypt_schema.specs.Names.{is_among}
-use Rattle.encrypt_schema.specs.Visits.{names_of}
-use Rattle.encrypt_schema.proofs.walking.stands_before.Given as goal
-
-abbrev pub invariant-loop-item : goal.invariant-loop-item
-invariant-loop-item l = is_among l.name (take l.left (names_of l.item-iterator.tree)) ≡ is_among l.name (take l.k (names_of l.document.tree))

@@ -1,0 +1,12 @@
+pub mod Names
+pub mod Values
+pub mod TypeNames
+pub mod Keywords
+pub mod Shapes
+pub mod Policies
+pub mod Row
+pub mod Rules
+pub mod Schemas
+pub mod Standings
+pub mod Collection
+pub mod Collections

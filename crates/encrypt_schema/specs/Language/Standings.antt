@@ -1,0 +1,26 @@
+-- BSON 1.1: how a name stands in a document, whose names need not be distinct
+use Rattle.std.specs.Prelude.{ℕ, List, if◌then◌else◌}
+use Rattle.bson_tree.specs.Tree.{Tree, Items, no_items, item}
+use Rattle.encrypt_schema.specs.Language.Names.{named}
+
+-- not at all, once with this value, or several times
+pub data Standing : Type 0 where
+  absent : Standing
+  once : Tree → Standing
+  repeated : Standing
+
+-- one more value of the name, before the others
+abbrev pub stands_too : Tree → Standing → Standing
+stands_too t absent = once t
+stands_too t (once u) = repeated
+stands_too t repeated = repeated
+
+unfoldable pub standing : List ℕ → Items → Standing
+standing word no_items = absent
+standing word (item name t is) = if named name word then stands_too t (standing word is) else standing word is
+
+-- a value of the name, behind the others
+abbrev pub stands_last : Standing → Tree → Standing
+stands_last absent t = once t
+stands_last (once u) t = repeated
+stands_last repeated t = repeated

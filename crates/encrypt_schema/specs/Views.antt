@@ -1,0 +1,9 @@
+pub mod Borrowed
+pub mod Seen
+pub mod Fronts
+pub mod Trees
+pub mod Spots
+pub mod Places
+pub mod Cursors
+pub mod Parts
+pub mod Walking

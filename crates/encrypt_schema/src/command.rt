@@ -1,0 +1,8 @@
+//! What stands in commands: why one is refused, which values are protected, and the walk that finds them.
+
+pub(crate) mod marks;
+pub(crate) mod reason;
+pub(crate) mod stored;
+#[cfg(test)]
+mod stored_tests;
+pub(crate) mod walking;

@@ -1,0 +1,44 @@
+//! How a name stands in a document.
+
+ghost use Rattle.std.specs.Prelude.{◌≡◌};
+ghost use Rattle.encrypt_schema.specs.Views.Seen.{seen};
+ghost use Rattle.encrypt_schema.specs.Language.Standings.{standing, stands_last};
+
+use crate::schema::names::is_named;
+use bson_codec::{RawDoc, RawItem};
+
+/// How a name stands in a document.
+#[derive(Drop)]
+pub(crate) enum Field<'a> {
+    /// Not at all.
+    Absent,
+    /// Once, with this value.
+    Once(RawItem<'a>),
+    /// Several times.
+    Repeated,
+}
+
+/// How the name stands among the fields.
+#[tactic(auto, unfolding(crate::specs::Language::Standings::standing), using(crate::proofs::Language::Standing::combined_stands_last, crate::proofs::Language::Standing::combined_absent))]
+pub(crate) fn find_field<'a>(document: &RawDoc<'a>, word: &[u8]) -> Field<'a>
+    ensures { seen result ≡ standing word.now document.now.tree }
+{
+    let mut found = Field::Absent;
+    for item in document.items() {
+        if is_named(item.name(), word) {
+            found = joined(found, item);
+        }
+    }
+    found
+}
+
+/// One more value of a name that stands like this.
+fn joined<'a>(found: Field<'a>, item: RawItem<'a>) -> Field<'a>
+    ensures { seen result ≡ stands_last (seen found.entry) item.entry.tree }
+{
+    match found {
+        Field::Absent => Field::Once(item),
+        Field::Once(_) => Field::Repeated,
+        Field::Repeated => Field::Repeated,
+    }
+}
