@@ -1,6 +1,7 @@
 //! What stands in commands: why one is refused, which values are protected, and the walk that finds them.
 
 pub(crate) mod marks;
+pub(crate) mod operators;
 pub(crate) mod reason;
 pub(crate) mod stored;
 #[cfg(test)]

@@ -21,9 +21,10 @@ mod path;
 mod schema;
 
 pub use command::marks::{Mark, MarkFault, Marks, Role};
+pub use command::operators::{Operator, Subject};
 pub use command::reason::Reason;
 pub use command::stored::{type_allowed, type_allowed_under};
-pub use command::walking::{Place, Table, has_name, mark_elements, stands_before};
+pub use command::walking::{Next, Place, has_name, mark_elements, stands_before};
 pub use path::class::Class;
 pub use path::cursor::Cursor;
 pub use path::dotted::{Walk, is_dollar, is_position};

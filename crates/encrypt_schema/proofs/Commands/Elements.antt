@@ -1,5 +1,6 @@
 -- The places of the elements that are left, one element after the other.
-use Rattle.std.proofs.Common.{◌≡◌, ℕ, zero, suc, ◌+◌, ◌-◌, ◌≤◌, Bool, true, false, ◌||◌, List, [], ◌∷◌, ◌++◌, length, take, drop, Option, Some, None, Result, Err, sym, ap, ◌∙◌, subst, arith}
+use Rattle.std.proofs.Common.{◌≡◌, ℕ, zero, suc, ◌+◌, ◌-◌, ◌≤◌, Bool, true, false, ◌||◌, List, [], ◌∷◌, ◌++◌, length, take, drop, Option, Some, None, Result, Err, refl, sym, ap, ◌∙◌, subst, arith}
+use Rattle.std.proofs.lemmas.Bool.{false≢true}
 use Rattle.std.proofs.lemmas.List.{append_assoc, append-nil}
 use Rattle.bson_tree.specs.Spelling.{value_bytes}
 use Rattle.bson_codec.specs.Borrowed.{At, Elem}
@@ -9,7 +10,7 @@ use Rattle.encrypt_schema.specs.declared.command.marks.MarkFault.{MarkFault}
 use Rattle.encrypt_schema.specs.declared.command.marks.MarkFault.TheVariants as faults
 use Rattle.encrypt_schema.specs.Language.Row.{Row}
 use Rattle.encrypt_schema.specs.Language.Names.{named, is_among}
-use Rattle.encrypt_schema.specs.Commands.Stations.{Station, station, is_silent}
+use Rattle.encrypt_schema.specs.Commands.Stations.{Station, Store, Compare, station, has_role, is_silent}
 use Rattle.encrypt_schema.specs.Commands.Offences.{ruled_offence}
 use Rattle.encrypt_schema.specs.declared.command.reason.Reason.{Reason}
 use Rattle.encrypt_schema.specs.Commands.Visits.{entry, Visit, visits_in, visits, mark_at, marks, ruled_of, Refusal, refused_at, first_refusal, or_else}
@@ -69,6 +70,26 @@ own_told rows s u elder e before after result stands free quiet told =
     ∙ ap (λ (x : Station). mark_at x v ++ marks rows (visits_in rows x e.start e.tree)) stands)
     (sym inside.1
     ∙ ap (λ (x : Station). first_refusal (ruled_of rows) (visits_in rows x e.start e.tree)) stands
+    ∙ ap (λ (r : Option Reason). or_else (refused_at e.start r) (first_refusal (ruled_of rows) (visits_in rows (station rows s (entry e.name e.tree)) e.start e.tree))) free)
+    told
+
+-- a place that isn't protected has no mark of its own
+no_mark : (s : Station) (v : Visit) → has_role s ≡ false → mark_at s v ≡ []
+no_mark (Store i) v h = absurd (false≢true (sym h))
+no_mark (Compare i) v h = absurd (false≢true (sym h))
+no_mark _ v h = refl
+
+-- an element that is looked into has the marks and the refusal of what stands in it
+pub inside_told : (rows : List Row) (s u : Station) (elder : List (List ℕ)) (e : Elem) (before after : List Mark) (result : Result _ MarkFault)
+    → u ≡ station rows s (entry e.name e.tree) → None ≡ ruled_offence rows s elder (entry e.name e.tree) → has_role u ≡ false
+    → MarksPlaces rows (visits_in rows u e.start e.tree) before after result
+    → MarksPlaces rows (element_visits rows s elder e) before after result
+inside_told rows s u elder e before after result stands free plain told =
+    let v : Visit = element_visit s elder e in
+    told_as (marks rows (visits_in rows u e.start e.tree)) _ (first_refusal (ruled_of rows) (visits_in rows u e.start e.tree)) _ before after result
+    (ap (λ (ms : List Mark). ms ++ marks rows (visits_in rows u e.start e.tree)) (sym (no_mark u v plain))
+    ∙ ap (λ (x : Station). mark_at x v ++ marks rows (visits_in rows x e.start e.tree)) stands)
+    (ap (λ (x : Station). first_refusal (ruled_of rows) (visits_in rows x e.start e.tree)) stands
     ∙ ap (λ (r : Option Reason). or_else (refused_at e.start r) (first_refusal (ruled_of rows) (visits_in rows (station rows s (entry e.name e.tree)) e.start e.tree))) free)
     told
 

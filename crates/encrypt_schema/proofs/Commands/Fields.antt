@@ -3,6 +3,8 @@ use Rattle.std.proofs.Common.{◌≡◌, ℕ, ◌+◌, Bool, true, false, cond, 
 use Rattle.std.proofs.lemmas.Bool.{false≢true}
 use Rattle.bson_tree.specs.Tree.{Tree, leaf, node, Items, no_items, item}
 use Rattle.bson_tree.specs.Spelling.{value_bytes}
+use Rattle.encrypt_schema.specs.declared.command.operators.Subject.{Subject}
+use Rattle.encrypt_schema.specs.declared.command.operators.Subject.TheVariants.{Field, Prefix}
 use Rattle.encrypt_schema.specs.declared.path.class.Class.{Class}
 use Rattle.encrypt_schema.specs.declared.path.class.Class.TheVariants.{Protected, Below, Above, Clear}
 use Rattle.encrypt_schema.specs.declared.command.reason.Reason.{Reason}
@@ -12,7 +14,7 @@ use Rattle.encrypt_schema.specs.Language.Names.{named}
 use Rattle.encrypt_schema.specs.Language.Row.{Row}
 use Rattle.encrypt_schema.specs.Paths.Classes.{class}
 use Rattle.encrypt_schema.specs.Paths.Dotted.{split, is_dollar}
-use Rattle.encrypt_schema.specs.Commands.Stations.{Entry, Subject, Field, Prefix, Station, Outside, Insert, Update, Delete, Find, Unknown, Inserts, Updates, Deletes, UpdateItem, DeleteItem, Filter, Cases, Projection, Test, Elements, Operators, Sets, Argument, Document, Compare, Bare, Passed, is_passed, is_document, is_array, is_operators, is_dollar_first, has_name, is_logical, is_equality, is_membership, is_set, is_random_field, dotted, stored_at, tested_at, compared_with, command_of, station}
+use Rattle.encrypt_schema.specs.Commands.Stations.{Entry, Station, Outside, Insert, Update, Delete, Find, Unknown, Inserts, Updates, Deletes, UpdateItem, DeleteItem, Filter, Cases, Projection, Test, Elements, Operators, Sets, Argument, operator_of, Document, Compare, Bare, Passed, is_passed, is_document, is_array, is_operators, is_dollar_first, has_name, is_logical, is_equality, is_membership, is_set, is_random_field, dotted, stored_at, tested_at, compared_with, command_of, station}
 use Rattle.encrypt_schema.specs.Commands.Offences.{is_marked, is_view, when, least, target_offence, view_offence}
 use Rattle.encrypt_schema.specs.Commands.Visits.{names_of, entry, Visit, visit, visits_in, visits, command_visit, command_visits, target_of, view_of, Refusal, refused_at, or_else, first_refusal, target_verdict}
 use Rattle.encrypt_schema.proofs.Commands.Silence.{refusal, refusal_append}
@@ -78,7 +80,7 @@ inner_child rows (Test x) e h =
     (inner_cond (has_name (codes "$not") e && is_operators e) (Test x) Passed refl refl))
 inner_child rows (Elements x) e h = inner_compared x
 inner_child rows Operators e h =
-    inner_cond (is_set e.name && is_document e) Sets _ refl (inner_cond (is_dollar e.name && is_document e) (Argument e.name) Passed refl refl)
+    inner_cond (is_set e.name && is_document e) Sets _ refl (inner_cond (is_dollar e.name && is_document e) (Argument (operator_of e.name)) Passed refl refl)
 inner_child rows Sets e h = inner_stored (dotted rows e.name) (split e.name) (is_document e)
 inner_child rows _ e h = refl
 

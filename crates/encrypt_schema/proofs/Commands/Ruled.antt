@@ -2,6 +2,8 @@
 use Rattle.std.proofs.Common.{◌≡◌, ℕ, ◌+◌, ◌<◌, Bool, true, false, cond, ◌&&◌, not, codes, List, [], ◌∷◌, ◌++◌, length, refl, subst, sym}
 use Rattle.bson_tree.specs.Tree.{Tree, leaf, node, Items, no_items, item}
 use Rattle.bson_tree.specs.Spelling.{value_bytes}
+use Rattle.encrypt_schema.specs.declared.command.operators.Subject.{Subject}
+use Rattle.encrypt_schema.specs.declared.command.operators.Subject.TheVariants.{Field, Prefix}
 use Rattle.encrypt_schema.specs.declared.path.class.Class.{Class}
 use Rattle.encrypt_schema.specs.declared.path.class.Class.TheVariants.{Protected, Below, Above, Clear}
 use Rattle.encrypt_schema.specs.declared.command.marks.Mark.{Mark}
@@ -9,7 +11,7 @@ use Rattle.encrypt_schema.specs.Language.Names.{named}
 use Rattle.encrypt_schema.specs.Language.Row.{Row}
 use Rattle.encrypt_schema.specs.Paths.Classes.{class}
 use Rattle.encrypt_schema.specs.Paths.Dotted.{split, is_dollar, positional}
-use Rattle.encrypt_schema.specs.Commands.Stations.{Entry, Subject, Field, Prefix, Station, Outside, Insert, Update, Delete, Find, Inserts, Updates, Deletes, UpdateItem, DeleteItem, Filter, Cases, Projection, Test, Elements, Operators, Sets, Argument, Document, Store, Compare, Bare, Passed, Unknown, is_passed, is_document, is_array, is_operators, is_dollar_first, has_name, is_logical, is_equality, is_membership, is_set, is_random_field, dotted, command_of, update_of, stored_at, tested_at, compared_with, station}
+use Rattle.encrypt_schema.specs.Commands.Stations.{Entry, Station, Outside, Insert, Update, Delete, Find, Inserts, Updates, Deletes, UpdateItem, DeleteItem, Filter, Cases, Projection, Test, Elements, Operators, Sets, Argument, operator_of, Document, Store, Compare, Bare, Passed, Unknown, is_passed, is_document, is_array, is_operators, is_dollar_first, has_name, is_logical, is_equality, is_membership, is_set, is_random_field, dotted, command_of, update_of, stored_at, tested_at, compared_with, station}
 use Rattle.encrypt_schema.specs.Commands.Visits.{entry, command_entry, Visit, visit, visits_in, visits, command_visit, mark_at, marks, roles}
 use Rattle.encrypt_schema.proofs.Commands.Silence.{marks_append}
 use Rattle.encrypt_schema.proofs.Paths.Steps.{protected_inside}
@@ -111,7 +113,7 @@ station_ruled rows (Test x) e h =
 station_ruled rows (Elements x) e h = compared_ruled (length rows) x h
 station_ruled rows Operators e h =
     either (length rows) (is_set e.name && is_document e) Sets _ tt
-    (either (length rows) (is_dollar e.name && is_document e) (Argument e.name) Passed tt tt)
+    (either (length rows) (is_dollar e.name && is_document e) (Argument (operator_of e.name)) Passed tt tt)
 station_ruled rows Sets e h =
     stored_ruled (length rows) (dotted rows e.name) (split e.name) (is_document e) (dotted_ruled rows e.name)
 station_ruled rows (Argument name) e h = tt

@@ -1,13 +1,14 @@
 -- Where a place is protected, the tables read of it no child's name and no raw byte.
 use Rattle.std.proofs.Common.{◌≡◌, ℕ, Bool, true, false, cond, ◌&&◌, List, [], ◌∷◌, ◌++◌, codes, refl, sym, ap, ◌∙◌}
 use Rattle.std.proofs.lemmas.Bool.{false≢true}
+use Rattle.encrypt_schema.specs.declared.command.operators.Subject.{Subject}
 use Rattle.encrypt_schema.specs.declared.path.class.Class.{Class}
 use Rattle.encrypt_schema.specs.declared.path.class.Class.TheVariants.{Protected, Below, Above, Clear}
 use Rattle.encrypt_schema.specs.declared.command.reason.Reason.{Reason}
 use Rattle.encrypt_schema.specs.Language.Names.{named}
 use Rattle.encrypt_schema.specs.Language.Row.{Row}
 use Rattle.encrypt_schema.specs.Paths.Dotted.{is_dollar}
-use Rattle.encrypt_schema.specs.Commands.Stations.{Entry, Subject, Station, Outside, Store, is_passed, Updates, Deletes, UpdateItem, Filter, Projection, Test, Argument, Compare, Passed, is_document, is_operators, is_dollar_first, has_name, is_logical, is_equality, is_membership, dotted, station, has_role, command_of, tested_at}
+use Rattle.encrypt_schema.specs.Commands.Stations.{Entry, Station, Outside, Store, is_passed, Updates, Deletes, UpdateItem, Filter, Projection, Test, Argument, Compare, Passed, is_document, is_operators, is_dollar_first, has_name, is_logical, is_equality, is_membership, dotted, station, has_role, command_of, tested_at}
 use Rattle.encrypt_schema.specs.Commands.Offences.{of_role, of_row, reasons_at}
 
 -- an entry without what a hole doesn't tell

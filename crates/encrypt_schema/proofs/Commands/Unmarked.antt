@@ -11,7 +11,7 @@ use Rattle.encrypt_schema.specs.Language.Names.{named, is_among}
 use Rattle.encrypt_schema.specs.Language.Row.{Row}
 use Rattle.encrypt_schema.specs.Paths.Classes.{class}
 use Rattle.encrypt_schema.specs.Paths.Dotted.{split, is_dollar, positional}
-use Rattle.encrypt_schema.specs.Commands.Stations.{Entry, Station, Outside, Insert, Update, Delete, Find, Inserts, Updates, Deletes, UpdateItem, DeleteItem, Filter, Cases, Projection, Test, Elements, Operators, Sets, Argument, Document, Store, Compare, Passed, Unknown, is_document, is_array, is_operators, is_dollar_first, has_name, is_logical, is_set, dotted, station, stored_at, tested_at, command_of, passed_names, is_passed}
+use Rattle.encrypt_schema.specs.Commands.Stations.{Entry, Station, Outside, Insert, Update, Delete, Find, Inserts, Updates, Deletes, UpdateItem, DeleteItem, Filter, Cases, Projection, Test, Elements, Operators, Sets, Argument, operator_of, Document, Store, Compare, Passed, Unknown, is_document, is_array, is_operators, is_dollar_first, has_name, is_logical, is_set, dotted, station, stored_at, tested_at, command_of, passed_names, is_passed}
 use Rattle.encrypt_schema.specs.Commands.Offences.{least, target_offence, view_offence, ruled_offence, of_role, command_lacks}
 use Rattle.encrypt_schema.specs.Language.Collection.{Collection}
 use Rattle.encrypt_schema.specs.declared.command.reason.Reason.{Reason}
@@ -67,7 +67,7 @@ free_child Filter e h =
     (free_cond (is_dollar e.name) Passed _ refl (ap (λ (c : Class). is_free (tested_at c (is_operators e))) (dotted_none e.name)))
 free_child Cases e h = free_cond (is_document e) Filter Passed refl refl
 free_child Operators e h =
-    free_cond (is_set e.name && is_document e) Sets _ refl (free_cond (is_dollar e.name && is_document e) (Argument e.name) Passed refl refl)
+    free_cond (is_set e.name && is_document e) Sets _ refl (free_cond (is_dollar e.name && is_document e) (Argument (operator_of e.name)) Passed refl refl)
 free_child Sets e h =
     ap (λ (c : Class). is_free (stored_at c (split e.name) (is_document e))) (dotted_none e.name)
 free_child (Test x) e h = absurd (false≢true h)

@@ -8,7 +8,7 @@ use Rattle.encrypt_schema.specs.Language.Names.{named}
 use Rattle.encrypt_schema.specs.Language.Policies.{is_same_policy, policy_at}
 use Rattle.encrypt_schema.specs.Paths.Classes.{class}
 use Rattle.encrypt_schema.specs.Paths.Dotted.{is_dollar, is_position, positional, split}
-use Rattle.encrypt_schema.specs.Commands.Stations.{is_set}
+use Rattle.encrypt_schema.specs.Commands.Stations.{is_set, operator_of}
 use Rattle.encrypt_schema.specs.Commands.Offences.{is_again, ruled_offence, renamed}
 use Rattle.encrypt_schema.specs.Commands.Visits.{is_payload, roles, content_verdict}
 use Rattle.encrypt_schema.proofs.Commands.Examples.{text, int, empty, one, update_by, update_with, mark_at, refusal, staff, pair}
@@ -19,11 +19,11 @@ dotted_set =
     update_by (text (codes "staff")) (node 3 (one (codes "$set") (node 3 (one (codes "a.b") (int 1)))))
 
 pub dotted_set_accepted : content_verdict staff 0 dotted_set ≡ None
-unfolding class is_again is_dollar is_payload is_position is_set named ruled_offence policy_at positional split
+unfolding class is_again is_dollar is_payload is_position is_set operator_of named ruled_offence policy_at positional split
 dotted_set_accepted = refl
 
 pub dotted_set_roles : roles staff 0 dotted_set ≡ mark_at 72 76 16 0 role.Store ∷ []
-unfolding class is_dollar is_position is_set named positional split
+unfolding class is_dollar is_position is_set operator_of named positional split
 dotted_set_roles = refl
 
 -- update staff {$set: {a: {b: 1}}}
@@ -32,11 +32,11 @@ nested_set =
     update_by (text (codes "staff")) (node 3 (one (codes "$set") (node 3 (one (codes "a") (node 3 (one (codes "b") (int 1)))))))
 
 pub nested_set_accepted : content_verdict staff 0 nested_set ≡ None
-unfolding class is_again is_dollar is_payload is_position is_set named ruled_offence policy_at positional split
+unfolding class is_again is_dollar is_payload is_position is_set operator_of named ruled_offence policy_at positional split
 nested_set_accepted = refl
 
 pub nested_set_roles : roles staff 0 nested_set ≡ mark_at 77 81 16 0 role.Store ∷ []
-unfolding class is_dollar is_position is_set named positional split
+unfolding class is_dollar is_position is_set operator_of named positional split
 nested_set_roles = refl
 
 -- update staff {a: {b: 1}}
@@ -57,7 +57,7 @@ positional_set =
     update_by (text (codes "staff")) (node 3 (one (codes "$set") (node 3 (one (codes "a.0.b") (int 1)))))
 
 pub positional_set_refused : content_verdict staff 0 positional_set ≡ refusal PositionalOnPath 74
-unfolding class is_again is_dollar is_position is_set named ruled_offence positional split
+unfolding class is_again is_dollar is_position is_set operator_of named ruled_offence positional split
 positional_set_refused = refl
 
 -- update staff {$setOnInsert: {"a.b": "t"}}, refused at 1.0.1.0.0
@@ -66,7 +66,7 @@ text_set =
     update_by (text (codes "staff")) (node 3 (one (codes "$setOnInsert") (node 3 (one (codes "a.b") (text (codes "t"))))))
 
 pub text_set_refused : content_verdict staff 0 text_set ≡ refusal TypeNotAllowed 80
-unfolding class is_again is_dollar is_payload is_position is_set named ruled_offence policy_at positional split
+unfolding class is_again is_dollar is_payload is_position is_set operator_of named ruled_offence policy_at positional split
 text_set_refused = refl
 
 -- update staff {$set: {a: []}}, refused at 1.0.1.0.0
@@ -75,7 +75,7 @@ array_set =
     update_by (text (codes "staff")) (node 3 (one (codes "$set") (node 3 (one (codes "a") (node 4 no_items)))))
 
 pub array_set_refused : content_verdict staff 0 array_set ≡ refusal ArrayOnPath 70
-unfolding class is_again is_dollar is_position is_set named ruled_offence positional split
+unfolding class is_again is_dollar is_position is_set operator_of named ruled_offence positional split
 array_set_refused = refl
 
 -- update staff {$set: 1}, refused at 1.0.1.0
@@ -83,7 +83,7 @@ abbrev pub number_set : Items
 number_set = update_by (text (codes "staff")) (node 3 (one (codes "$set") (int 1)))
 
 pub number_set_refused : content_verdict staff 0 number_set ≡ refusal BadField 63
-unfolding is_again is_dollar is_set named ruled_offence
+unfolding is_again is_dollar is_set operator_of named ruled_offence
 number_set_refused = refl
 
 -- update staff {$set: {c: 1}, x: 1}, refused at 1.0.1.1
@@ -92,7 +92,7 @@ plain_name =
     update_by (text (codes "staff")) (node 3 (item (codes "$set") (node 3 (one (codes "c") (int 1))) (one (codes "x") (int 1))))
 
 pub plain_name_refused : content_verdict staff 0 plain_name ≡ refusal BadField 78
-unfolding class is_again is_dollar is_position is_set named ruled_offence positional split
+unfolding class is_again is_dollar is_position is_set operator_of named ruled_offence positional split
 plain_name_refused = refl
 
 -- update staff with the update [], refused at 1.0.1
@@ -135,11 +135,11 @@ unset =
     update_by (text (codes "staff")) (node 3 (one (codes "$unset") (node 3 (one (codes "a.b") (text [])))))
 
 pub unset_accepted : content_verdict staff 0 unset ≡ None
-unfolding class is_again is_dollar is_position is_set named ruled_offence positional split
+unfolding class is_again is_dollar is_position is_set operator_of named ruled_offence positional split
 unset_accepted = refl
 
 pub unset_roles : roles staff 0 unset ≡ []
-unfolding is_dollar is_set named
+unfolding is_dollar is_set operator_of named
 unset_roles = refl
 
 -- update staff {$unset: {"a.b.c": ""}}, refused at 1.0.1.0.0
@@ -148,7 +148,7 @@ unset_below =
     update_by (text (codes "staff")) (node 3 (one (codes "$unset") (node 3 (one (codes "a.b.c") (text [])))))
 
 pub unset_below_refused : content_verdict staff 0 unset_below ≡ refusal BelowProtected 76
-unfolding class is_again is_dollar is_position is_set named ruled_offence positional split
+unfolding class is_again is_dollar is_position is_set operator_of named ruled_offence positional split
 unset_below_refused = refl
 
 -- update staff {$inc: {"a.b": 1}}, refused at 1.0.1.0.0
@@ -157,7 +157,7 @@ increased =
     update_by (text (codes "staff")) (node 3 (one (codes "$inc") (node 3 (one (codes "a.b") (int 1)))))
 
 pub increased_refused : content_verdict staff 0 increased ≡ refusal OperatorOnProtected 72
-unfolding class is_again is_dollar is_position is_set named ruled_offence positional split
+unfolding class is_again is_dollar is_position is_set operator_of named ruled_offence positional split
 increased_refused = refl
 
 -- update staff {$inc: {"a.b.c": 1}}, refused at 1.0.1.0.0
@@ -166,7 +166,7 @@ increased_below =
     update_by (text (codes "staff")) (node 3 (one (codes "$inc") (node 3 (one (codes "a.b.c") (int 1)))))
 
 pub increased_below_refused : content_verdict staff 0 increased_below ≡ refusal OperatorOnProtected 74
-unfolding class is_again is_dollar is_position is_set named ruled_offence positional split
+unfolding class is_again is_dollar is_position is_set operator_of named ruled_offence positional split
 increased_below_refused = refl
 
 -- update staff {$rename: {"a.b": "c"}}, refused at 1.0.1.0.0
@@ -175,7 +175,7 @@ renamed_to_clear =
     update_by (text (codes "staff")) (node 3 (one (codes "$rename") (node 3 (one (codes "a.b") (text (codes "c"))))))
 
 pub renamed_to_clear_refused : content_verdict staff 0 renamed_to_clear ≡ refusal RenameMixed 75
-unfolding class is_again is_dollar is_position is_set named ruled_offence positional renamed split
+unfolding class is_again is_dollar is_position is_set operator_of named ruled_offence positional renamed split
 renamed_to_clear_refused = refl
 
 -- update staff {$rename: {"a.b.c": "d"}}, refused at 1.0.1.0.0
@@ -184,7 +184,7 @@ renamed_below =
     update_by (text (codes "staff")) (node 3 (one (codes "$rename") (node 3 (one (codes "a.b.c") (text (codes "d"))))))
 
 pub renamed_below_refused : content_verdict staff 0 renamed_below ≡ refusal RenameMixed 77
-unfolding class is_again is_dollar is_position is_set named ruled_offence positional renamed split
+unfolding class is_again is_dollar is_position is_set operator_of named ruled_offence positional renamed split
 renamed_below_refused = refl
 
 -- update staff {$rename: {"a.0.b": 1}}, refused at 1.0.1.0.0
@@ -193,7 +193,7 @@ renamed_to_number =
     update_by (text (codes "staff")) (node 3 (one (codes "$rename") (node 3 (one (codes "a.0.b") (int 1)))))
 
 pub renamed_to_number_refused : content_verdict staff 0 renamed_to_number ≡ refusal BadField 77
-unfolding class is_again is_dollar is_position is_set named ruled_offence positional renamed split
+unfolding class is_again is_dollar is_position is_set operator_of named ruled_offence positional renamed split
 renamed_to_number_refused = refl
 
 -- update staff {$rename: {c: "a.0.b"}}, refused at 1.0.1.0.0
@@ -202,7 +202,7 @@ renamed_to_position =
     update_by (text (codes "staff")) (node 3 (one (codes "$rename") (node 3 (one (codes "c") (text (codes "a.0.b"))))))
 
 pub renamed_to_position_refused : content_verdict staff 0 renamed_to_position ≡ refusal PositionalOnPath 73
-unfolding class is_again is_dollar is_position is_set named ruled_offence positional renamed split
+unfolding class is_again is_dollar is_position is_set operator_of named ruled_offence positional renamed split
 renamed_to_position_refused = refl
 
 -- update pair {$rename: {x: "y"}}
@@ -211,11 +211,11 @@ renamed_alike =
     update_by (text (codes "pair")) (node 3 (one (codes "$rename") (node 3 (one (codes "x") (text (codes "y"))))))
 
 pub renamed_alike_accepted : content_verdict pair 0 renamed_alike ≡ None
-unfolding class is_again is_dollar is_same_policy is_position is_set named ruled_offence policy_at positional renamed split
+unfolding class is_again is_dollar is_same_policy is_position is_set operator_of named ruled_offence policy_at positional renamed split
 renamed_alike_accepted = refl
 
 pub renamed_alike_roles : roles pair 0 renamed_alike ≡ []
-unfolding is_dollar is_set named
+unfolding is_dollar is_set operator_of named
 renamed_alike_roles = refl
 
 -- update pair {$rename: {x: "z"}}, refused at 1.0.1.0.0
@@ -224,5 +224,5 @@ renamed_otherwise =
     update_by (text (codes "pair")) (node 3 (one (codes "$rename") (node 3 (one (codes "x") (text (codes "z"))))))
 
 pub renamed_otherwise_refused : content_verdict pair 0 renamed_otherwise ≡ refusal RenameMixed 72
-unfolding class is_again is_dollar is_same_policy is_position is_set named ruled_offence policy_at positional renamed split
+unfolding class is_again is_dollar is_same_policy is_position is_set operator_of named ruled_offence policy_at positional renamed split
 renamed_otherwise_refused = refl

@@ -1,6 +1,10 @@
 -- MongoDB commands insert, update, delete and find: for which reasons a place of a command is refused, read
 -- from what its parent is, from the names of its elder siblings and from itself.
 use Rattle.std.specs.Prelude.{ℕ, ◌==◌, ◌-◌, Bool, true, false, not, ◌&&◌, ◌||◌, nat_lt, List, [], ◌∷◌, ◌++◌, codes, take, drop, length, Option, Some, None, if◌then◌else◌}
+use Rattle.encrypt_schema.specs.declared.command.operators.Operator.{Operator}
+use Rattle.encrypt_schema.specs.declared.command.operators.Operator.TheVariants.{Unset, Rename, Other}
+use Rattle.encrypt_schema.specs.declared.command.operators.Subject.{Subject}
+use Rattle.encrypt_schema.specs.declared.command.operators.Subject.TheVariants.{Field, Prefix}
 use Rattle.encrypt_schema.specs.declared.path.class.Class.{Class}
 use Rattle.encrypt_schema.specs.declared.path.class.Class.TheVariants.{Protected, Below, Above, Clear}
 use Rattle.encrypt_schema.specs.declared.schema.policy.Policy.{Policy}
@@ -13,7 +17,7 @@ use Rattle.encrypt_schema.specs.Language.Collection.{Collection}
 use Rattle.encrypt_schema.specs.Language.Policies.{policy_at, is_random, has_type, is_same_policy}
 use Rattle.encrypt_schema.specs.Paths.Classes.{class}
 use Rattle.encrypt_schema.specs.Paths.Dotted.{split, is_dollar, positional}
-use Rattle.encrypt_schema.specs.Commands.Stations.{Entry, Subject, Field, Prefix, Station, Outside, Insert, Update, Delete, Find, Unknown, Inserts, Updates, Deletes, UpdateItem, DeleteItem, Filter, Cases, Projection, Test, Elements, Operators, Sets, Argument, Document, Store, Compare, Bare, is_document, is_array, is_operators, has_name, is_logical, is_equality, is_membership, is_random_field, dotted, station}
+use Rattle.encrypt_schema.specs.Commands.Stations.{Entry, Station, Outside, Insert, Update, Delete, Find, Unknown, Inserts, Updates, Deletes, UpdateItem, DeleteItem, Filter, Cases, Projection, Test, Elements, Operators, Sets, Argument, Document, Store, Compare, Bare, is_document, is_array, is_operators, has_name, is_logical, is_equality, is_membership, is_random_field, dotted, station}
 
 -- a reason where a test holds, and where it doesn't
 abbrev pub when : Bool → Reason → List Reason
@@ -180,11 +184,11 @@ renamed rows e =
     ++ when (not (may_rename rows (dotted rows e.name) (dotted rows (text_of e.raw)))) RenameMixed
 
 -- an element of the argument of an operator other than `$set` and `$setOnInsert`
-abbrev pub argument_value : List Row → List ℕ → Entry → List Reason
-argument_value rows operator e =
-    if named operator (codes "$unset") then by_class [] [] (BelowProtected ∷ []) (dotted rows e.name)
-    else if named operator (codes "$rename") then renamed rows e
-    else by_class (OperatorOnProtected ∷ []) (OperatorOnProtected ∷ []) (OperatorOnProtected ∷ []) (dotted rows e.name)
+abbrev pub argument_value : List Row → Operator → Entry → List Reason
+argument_value rows Unset e = by_class [] [] (BelowProtected ∷ []) (dotted rows e.name)
+argument_value rows Rename e = renamed rows e
+argument_value rows Other e =
+    by_class (OperatorOnProtected ∷ []) (OperatorOnProtected ∷ []) (OperatorOnProtected ∷ []) (dotted rows e.name)
 
 -- by what the parent is: the first argument behind the rules
 abbrev pub of_row : List Row → Station → List (List ℕ) → Entry → List Reason

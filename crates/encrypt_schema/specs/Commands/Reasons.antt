@@ -26,4 +26,3 @@ reason_code reasons.PayloadShape = 19
 reason_code reasons.TagMismatch = 20
 reason_code reasons.Padding = 21
 reason_code reasons.Plain = 22
-reason_code reasons.NotBuilt = 24

@@ -5,20 +5,24 @@ use Rattle.bson_codec.specs.Borrowed.{Elem}
 use Rattle.encrypt_schema.specs.declared.command.marks.Mark.{Mark}
 use Rattle.encrypt_schema.specs.declared.command.marks.MarkFault.{MarkFault}
 use Rattle.encrypt_schema.specs.declared.command.marks.MarkFault.TheVariants as faults
-use Rattle.encrypt_schema.specs.declared.command.walking.Place.{Place}
-use Rattle.encrypt_schema.specs.declared.command.walking.Place.TheVariants as places
+use Rattle.encrypt_schema.specs.declared.command.walking.Next.{Next}
+use Rattle.encrypt_schema.specs.declared.command.walking.Next.TheVariants as nexts
 use Rattle.encrypt_schema.specs.Language.Row.{Row}
-use Rattle.encrypt_schema.specs.Views.Cursors.{path_of}
-use Rattle.encrypt_schema.specs.Commands.Stations.{Station, Insert, Inserts, Document, Store, Passed, station}
+use Rattle.encrypt_schema.specs.Commands.Stations.{Station, Store, Compare, Bare, Passed, station}
 use Rattle.encrypt_schema.specs.Commands.Visits.{entry, Visit, visits_in, marks, ruled_of, Refusal, first_refusal}
 
--- the station for which a place of the walk stands
-abbrev pub station_by : List Row → Place → Station
-station_by rows places.Insert = Insert
-station_by rows places.Inserts = Inserts
-station_by rows (places.Document at) = Document (path_of rows at)
-station_by rows (places.Store i) = Store i
-station_by rows places.Passed = Passed
+-- the station of an element, by those for which places stand
+abbrev pub station_next : {P : Type 0} → (P → List Row → Station) → List Row → Next P → Station
+station_next station_by rows (nexts.Inside place) = station_by place rows
+station_next station_by rows (nexts.Store i) = Store i
+station_next station_by rows (nexts.Compare i) = Compare i
+station_next station_by rows nexts.Bare = Bare
+station_next station_by rows nexts.Passed = Passed
+
+-- an element that is looked into is at a place under the rules
+abbrev pub StandsNext : {P : Type 0} → (P → List Row → Type 0) → List Row → Next P → Type 0
+StandsNext stands rows (nexts.Inside place) = stands place rows
+StandsNext stands rows _ = Unit {0}
 
 -- an element's place
 abbrev pub element_visit : Station → List (List ℕ) → Elem → Visit

@@ -50,8 +50,6 @@ pub enum Reason {
     Padding = 21,
     /// What was sealed is no value of its type.
     Plain = 22,
-    /// The command's form isn't built yet.
-    NotBuilt = 24,
 }
 
 impl Reason {

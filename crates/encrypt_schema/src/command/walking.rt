@@ -1,60 +1,61 @@
-//! One walk through the parts of a command, whatever the table by which they are judged.
+//! One walk through the parts of a command, whatever the places by which they are judged.
 
-ghost use Rattle.std.specs.Prelude.{◌≡◌, ◌+◌, ◌∷◌, [], ℕ, List, None, length, take};
+ghost use Rattle.std.specs.Prelude.{◌≡◌, ◌+◌, ◌∷◌, [], ℕ, false, List, None, Some, IfErr, IfOk, length, take};
 ghost use Rattle.bson_tree.specs.Spelling.{value_bytes};
 ghost use Rattle.encrypt_schema.specs.Language.Names.{is_among};
 ghost use Rattle.encrypt_schema.specs.Commands.Offences.{ruled_offence};
 ghost use Rattle.encrypt_schema.specs.Language.Row.{Row};
-ghost use Rattle.encrypt_schema.specs.Commands.Stations.{station};
+ghost use Rattle.encrypt_schema.specs.Commands.Stations.{Station, has_role, station};
 ghost use Rattle.encrypt_schema.specs.Commands.Visits.{Visit, entry, first_refusal, mark, mark_at, marks, names_of, ruled_of, visits, visits_in};
-ghost use Rattle.encrypt_schema.specs.Views.Walking.{Begins, MarksPlaces, Told, element_visit, element_visits, station_by};
+ghost use Rattle.encrypt_schema.specs.Views.Walking.{Begins, MarksPlaces, StandsNext, Told, element_visit, element_visits, station_next};
 
 use crate::command::marks::{Mark, MarkFault, Marks, Role};
 use crate::command::reason::Reason;
-use crate::path::cursor::Cursor;
 use crate::path::rows::Rows;
 use crate::schema::names::is_named;
 use bson_codec::{RawDoc, RawItem};
 
-/// What a value is in its command.
+/// What becomes of an element on the walk.
 #[derive(Clone, Copy, Debug, PartialEq, Eq)]
-pub enum Place {
-    /// The command `insert`.
-    Insert,
-    /// Its array `documents`.
-    Inserts,
-    /// A stored document, or a part of one, at a path above protected fields.
-    Document(Cursor),
+pub enum Next<P> {
+    /// A document or an array, whose elements are judged at this place.
+    Inside(P),
     /// A value that is stored under the rule of this number, from 0.
     Store(u32),
+    /// A value that is compared under the rule of this number, from 0.
+    Compare(u32),
+    /// A value that is compared with what stands at a path above the fields of rules.
+    Bare,
     /// A value that isn't looked into.
     Passed,
 }
 
-/// A table by which the elements of documents are judged.
-pub trait Table {
-    ghost use Rattle.encrypt_schema.specs.declared.command.walking.Place.{Place};
+/// What a document or an array is in its command. Each type of places is a table of rules, by which elements are
+/// judged.
+pub trait Place: Copy {
+    /// The station for which the place stands, under rules.
+    ghost station_by: { Self → List Row → Station };
 
-    /// The places that the table covers.
-    ghost covers: { Self → List Row → Place → Type 0 };
+    /// It is a place under rules: what it holds, as a cursor, belongs to them.
+    ghost stands: { Self → List Row → Type 0 };
 
-    /// What an element is whose parent is at this place.
-    fn step(&self, rows: &Rows, at: Place, item: &RawItem<'_>) -> Place
-        requires covered { covers self.now rows.now at }
-        ensures station { station_by rows.now result ≡ station rows.now (station_by rows.now at) (entry item.now.name item.now.tree) }
-        ensures covered { covers self.now rows.now result };
-
-    /// Why element `k`, counted from 0, of a document at this place is refused: the least reason that holds.
-    fn offence(
-        &self,
+    /// What element `k`, counted from 0, of a document at this place is; or the least reason for which it is
+    /// refused.
+    fn judge(
+        self,
         rows: &Rows,
-        at: Place,
         document: &RawDoc<'_>,
         k: usize,
         item: &RawItem<'_>,
-    ) -> Option<Reason>
-        requires covered { covers self.now rows.now at }
-        ensures offence { result ≡ ruled_offence rows.now (station_by rows.now at) (take k (names_of document.now.tree)) (entry item.now.name item.now.tree) };
+    ) -> Result<Next<Self>, Reason>
+        requires stands { stands self rows.now }
+        ensures station { IfOk result (λ next. station_next station_by rows.now next ≡ station rows.now (station_by self rows.now) (entry item.now.name item.now.tree)) }
+        ensures stands { IfOk result (StandsNext stands rows.now) }
+        ensures clean { IfOk result (λ _. None ≡ ruled_offence rows.now (station_by self rows.now) (take k (names_of document.now.tree)) (entry item.now.name item.now.tree)) }
+        ensures refused { IfErr result (λ reason. Some reason ≡ ruled_offence rows.now (station_by self rows.now) (take k (names_of document.now.tree)) (entry item.now.name item.now.tree)) };
+
+    /// What is judged element by element is no protected value itself.
+    ghost unprotected: { (place : Self) (rows : List Row) → has_role (station_by place rows) ≡ false };
 }
 
 /// Whether one of the first `k` elements of a document has this name.
@@ -110,20 +111,19 @@ fn add(marks: &mut Marks, policy: u32, role: Role, item: &RawItem<'_>) -> Result
 
 /// Marks the elements of a document at this place.
 #[cycle(walk)]
-pub fn mark_elements<T: Table>(
+pub fn mark_elements<P: Place>(
     marks: &mut Marks,
     rows: &Rows,
-    table: &T,
-    at: Place,
+    at: P,
     document: &RawDoc<'_>,
 ) -> Result<(), MarkFault>
-    requires covered { T.covers table.now rows.now at }
-    ensures marked { MarksPlaces rows.now (visits rows.now (station_by rows.now at) (document.now.start + 4) [] document.now.tree) marks.old marks.new result }
+    requires stands { P.stands at rows.now }
+    ensures marked { MarksPlaces rows.now (visits rows.now (P.station_by at rows.now) (document.now.start + 4) [] document.now.tree) marks.old marks.new result }
     ensures kept { Begins marks.old marks.new }
 {
     let mut k = 0;
     for item in document.items() {
-        match mark_element(marks, rows, table, at, document, k, &item) {
+        match mark_element(marks, rows, at, document, k, &item) {
             Ok(()) => {
                 k += 1;
             }
@@ -135,51 +135,46 @@ pub fn mark_elements<T: Table>(
 
 /// Marks element `k` of a document at this place, and what stands inside it.
 #[cycle(walk)]
-fn mark_element<T: Table>(
+fn mark_element<P: Place>(
     marks: &mut Marks,
     rows: &Rows,
-    table: &T,
-    at: Place,
+    at: P,
     document: &RawDoc<'_>,
     k: usize,
     item: &RawItem<'_>,
 ) -> Result<(), MarkFault>
-    requires covered { T.covers table.now rows.now at }
-    ensures marked { MarksPlaces rows.now (element_visits rows.now (station_by rows.now at) (take k (names_of document.now.tree)) item.now) marks.old marks.new result }
+    requires stands { P.stands at rows.now }
+    ensures marked { MarksPlaces rows.now (element_visits rows.now (P.station_by at rows.now) (take k (names_of document.now.tree)) item.now) marks.old marks.new result }
     ensures kept { Begins marks.old marks.new }
 {
     let _ = item.value();
-    match table.offence(rows, at, document, k, item) {
-        Some(reason) => Err(MarkFault::Refused {
+    match at.judge(rows, document, k, item) {
+        Ok(Next::Inside(place)) => mark_inside(marks, rows, place, item),
+        Ok(Next::Store(i)) => add(marks, i, Role::Store, item),
+        Ok(Next::Compare(i)) => add(marks, i, Role::Compare, item),
+        Ok(Next::Bare) => Ok(()),
+        Ok(Next::Passed) => Ok(()),
+        Err(reason) => Err(MarkFault::Refused {
             reason,
             at: item.start() as u32,
         }),
-        None => {
-            let next = table.step(rows, at, item);
-            match next {
-                Place::Store(i) => add(marks, i, Role::Store, item),
-                Place::Passed => Ok(()),
-                _ => mark_inside(marks, rows, table, next, item),
-            }
-        }
     }
 }
 
 /// Marks what stands inside a value at this place.
 #[cycle(walk)]
-fn mark_inside<T: Table>(
+fn mark_inside<P: Place>(
     marks: &mut Marks,
     rows: &Rows,
-    table: &T,
-    at: Place,
+    at: P,
     item: &RawItem<'_>,
 ) -> Result<(), MarkFault>
-    requires covered { T.covers table.now rows.now at }
-    ensures marked { MarksPlaces rows.now (visits_in rows.now (station_by rows.now at) item.now.start item.now.tree) marks.old marks.new result }
+    requires stands { P.stands at rows.now }
+    ensures marked { MarksPlaces rows.now (visits_in rows.now (P.station_by at rows.now) item.now.start item.now.tree) marks.old marks.new result }
     ensures kept { Begins marks.old marks.new }
 {
     match item.child() {
-        Some(document) => mark_elements(marks, rows, table, at, &document),
+        Some(document) => mark_elements(marks, rows, at, &document),
         None => Ok(()),
     }
 }

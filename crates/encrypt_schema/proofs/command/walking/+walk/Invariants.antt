@@ -1,7 +1,7 @@
 use Rattle.std.proofs.Common.{◌≡◌, ◌+◌, ◌*◌, ◌≤◌, ◌++◌, [], take, drop}
 use Rattle.bson_tree.specs.Tree.{tree_size, items_size, count}
 use Rattle.encrypt_schema.specs.Commands.Visits.{names_of, visits, marks, ruled_of, first_refusal}
-use Rattle.encrypt_schema.specs.Views.Walking.{station_by, Begins}
+use Rattle.encrypt_schema.specs.Views.Walking.{Begins}
 use Rattle.encrypt_schema.proofs.command.walking.+walk.Given as goal
 
 abbrev pub decreases-mark_inside : goal.decreases-mark_inside
@@ -18,9 +18,9 @@ invariant-mark_elements-loop-item g l = record {
   size : items_size l.item-iterator.tree ≤ items_size l.document.tree;
   number : l.k + count l.item-iterator.tree ≡ count l.document.tree;
   elder : drop l.k (names_of l.document.tree) ≡ names_of l.item-iterator.tree;
-  marked : l.marks ++ marks l.rows (visits l.rows (station_by l.rows l.at) l.item-iterator.start (take l.k (names_of l.document.tree)) l.item-iterator.tree)
-      ≡ l.fn.marks ++ marks l.rows (visits l.rows (station_by l.rows l.at) (l.document.start + 4) [] l.document.tree);
-  clean : first_refusal (ruled_of l.rows) (visits l.rows (station_by l.rows l.at) l.item-iterator.start (take l.k (names_of l.document.tree)) l.item-iterator.tree)
-      ≡ first_refusal (ruled_of l.rows) (visits l.rows (station_by l.rows l.at) (l.document.start + 4) [] l.document.tree);
+  marked : l.marks ++ marks l.rows (visits l.rows (g.P.Place.station_by l.at l.rows) l.item-iterator.start (take l.k (names_of l.document.tree)) l.item-iterator.tree)
+      ≡ l.fn.marks ++ marks l.rows (visits l.rows (g.P.Place.station_by l.at l.rows) (l.document.start + 4) [] l.document.tree);
+  clean : first_refusal (ruled_of l.rows) (visits l.rows (g.P.Place.station_by l.at l.rows) l.item-iterator.start (take l.k (names_of l.document.tree)) l.item-iterator.tree)
+      ≡ first_refusal (ruled_of l.rows) (visits l.rows (g.P.Place.station_by l.at l.rows) (l.document.start + 4) [] l.document.tree);
   kept : Begins l.fn.marks l.marks;
 }
