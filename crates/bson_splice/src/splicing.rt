@@ -17,8 +17,10 @@ fn splice_item<P: Putter>(
     out: &mut [u8],
     at: usize,
 ) -> Result<usize, Stopped>
+    requires ready { P.ready putter.old }
     requires small { length out.old < 2 ^ 31 }
     requires room { HasRoom (P.spans putter.old) (element_made item.now) at (length out.old) }
+    ensures ready { P.ready putter.new }
     ensures size { length out.new ≡ length out.old }
     ensures spliced { TellsSplices P.puts P.stops P.spans (element_made item.now) (element_left item.now) putter.old putter.new out.old out.new at result }
     ensures within { EndsWithin (length out.new) result }
@@ -50,8 +52,10 @@ fn splice_document<P: Putter>(
     out: &mut [u8],
     at: usize,
 ) -> Result<usize, Stopped>
+    requires ready { P.ready putter.old }
     requires small { length out.old < 2 ^ 31 }
     requires room { HasRoom (P.spans putter.old) (document_made document.now) at (length out.old) }
+    ensures ready { P.ready putter.new }
     ensures size { length out.new ≡ length out.old }
     ensures spliced { TellsSplices P.puts P.stops P.spans (document_made document.now) (document_left document.now) putter.old putter.new out.old out.new at result }
     ensures within { EndsWithin (length out.new) result }
@@ -73,8 +77,10 @@ fn splice_items<P: Putter>(
     out: &mut [u8],
     at: usize,
 ) -> Result<usize, Stopped>
+    requires ready { P.ready putter.old }
     requires small { length out.old < 2 ^ 31 }
     requires room { HasRoom (P.spans putter.old) (elements_made (document.now.start + 4) document.now.tree) at (length out.old) }
+    ensures ready { P.ready putter.new }
     ensures size { length out.new ≡ length out.old }
     ensures spliced { TellsSplices P.puts P.stops P.spans (elements_made (document.now.start + 4) document.now.tree) (elements_left (document.now.start + 4) document.now.tree) putter.old putter.new out.old out.new at result }
     ensures within { EndsWithin (length out.new) result }
@@ -96,9 +102,11 @@ pub fn splice<P: Putter>(
     putter: &mut P,
     out: &mut [u8],
 ) -> Result<usize, Stopped>
+    requires ready { P.ready putter.old }
     requires stands { StandsAt (P.spans putter.old) document.now }
     requires small { length out.old < 2 ^ 31 }
     requires room { HasRoomFor (P.spans putter.old) document.now (length out.old) }
+    ensures ready { P.ready putter.new }
     ensures size { length out.new ≡ length out.old }
     ensures spliced { TellsWhole P.puts P.stops P.spans document.now putter.old putter.new out.new result }
 {

@@ -1,6 +1,6 @@
 //! Values given by the offsets of those whose places they take.
 
-ghost use Rattle.std.specs.Prelude.{◌≡◌, ◌+◌, ◌*◌, ◌<◌, ◌≤◌, ◌^◌, [], ◌∷◌, length, drop, IfSome, MatchOption};
+ghost use Rattle.std.specs.Prelude.{◌≡◌, ◌+◌, ◌*◌, ◌<◌, ◌≤◌, ◌^◌, [], ◌∷◌, length, drop, IfSome, MatchOption, ⊤};
 ghost use Rattle.bson_tree.specs.Spelling.{doc_bytes};
 ghost use Rattle.bson_splice.specs.Takes.{Takes};
 ghost use Rattle.bson_splice.specs.Values.{PutsNext, SizesAs, given, puts_of, removed, spans_of};
@@ -41,6 +41,8 @@ impl<'a> Putter for Values<'a> {
     ghost puts = { λ a b p. PutsNext (drop a.next a.all.now) (drop b.next b.all.now) p };
 
     ghost stops = { λ a b. ⊥ };
+
+    ghost ready = { λ s. ⊤ };
 
     fn next_start(&self) -> Option<usize> {
         match value_at(self.all, self.next) {

@@ -75,6 +75,7 @@ splice_items-loop-item-init g t c =
     record {
       size = omega (arith, ap (λ (a : At). items_size a.tree) here);
       long = refl;
+      ready = c.requires.ready;
       inside = omega (arith, c.requires.room (blanks ss) (blanks_fit ss));
       going = starts g.P.Putter.puts g.P.Putter.spans c.args.document.now c.args.putter.now c.args.out.now c.args.at c.into_iter-item-iterator.result here;
     }
@@ -98,6 +99,7 @@ splice_items-loop-item-preserved g t c =
     record {
       size = omega (arith, ap items_size taken.0, inv.size);
       long = c.in-Ok.ensures.size ∙ inv.long;
+      ready = c.in-Ok.ensures.ready;
       inside = c.in-Ok.ensures.within;
       going = goes_on g.P.Putter.puts g.P.Putter.spans c.args.document.now c.args.putter.now c.args.out.now c.args.at c.loop-item.item-iterator c.next.new.self c.in-Some.item c.loop-item.putter c.splice_item.new.putter
           c.loop-item.out c.splice_item.new.out c.loop-item.end c.in-Ok.behind taken inv.going c.in-Ok.ensures.spliced;

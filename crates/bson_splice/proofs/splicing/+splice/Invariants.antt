@@ -16,6 +16,7 @@ abbrev pub invariant-splice_items-loop-item : goal.invariant-splice_items-loop-i
 invariant-splice_items-loop-item g l = record {
   size : items_size l.item-iterator.tree ≤ items_size l.document.tree;
   long : length l.out ≡ length l.fn.out;
+  ready : g.P.Putter.ready l.putter;
   inside : l.end ≤ length l.out;
   going : Going g.P.Putter.puts g.P.Putter.spans l.document l.item-iterator l.fn.putter l.putter l.fn.out l.out l.at l.end;
 }

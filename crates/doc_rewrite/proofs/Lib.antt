@@ -1,0 +1,6 @@
+pub mod Sizes
+pub mod Spellings
+pub mod Drawings
+pub mod Growth
+pub mod Runs
+pub mod Policies

@@ -1,0 +1,26 @@
+//! Documents with protected values sealed (MongoDB Client Side Encryption): from a document and the marks of its
+//! values to the document with a payload in the place of each, by a splice of its bytes.
+//!
+//! [`plan_seal`] looks at the marks and tells how long the sealed document is; [`seal_through`] writes it, and draws a
+//! random block for each value of the random algorithm.
+//!
+//! ```text
+//! let plan = plan_seal(alloc, &document, &marks, &rows)?;
+//! let mut out = vec![in alloc; 0; plan.output_len()]?;
+//! seal_through(&plan, &document, &keys, &hooks, &mut entropy, &mut out)?;
+//! ```
+//!
+//! It looks no key up in a vault and asks nothing of who may read what.
+#![tactic(auto)]
+
+mod key_table;
+mod placing;
+mod planning;
+mod sealing;
+mod site;
+mod vector;
+
+pub use key_table::{KeyEntry, KeyTable};
+pub use planning::{Plan, PlanFault, plan_seal};
+pub use sealing::seal_through;
+pub use site::Site;

@@ -1,0 +1,31 @@
+//! The vector under which a value is sealed.
+
+ghost use Rattle.std.specs.Prelude.{◌≡◌};
+ghost use Rattle.bson_tree.specs.Spelling.{value_bytes};
+ghost use Rattle.bson_tree.specs.Tree.{tag_of};
+ghost use Rattle.doc_rewrite.specs.Vectors.{TellsVector};
+
+use crate::site::Site;
+use bson_codec::RawItem;
+use encrypt_schema::Algorithm;
+use fle_aead::DataKey;
+use fle_outside::{Entropy, Failed};
+use payload6::det_iv;
+
+/// The vector of a value: derived of it under the deterministic algorithm, the next random block under the random one.
+pub(crate) fn vector_of<N: Entropy>(
+    site: &Site,
+    key: &DataKey,
+    item: &RawItem<'_>,
+    entropy: &mut N,
+) -> Result<[u8; 16], Failed>
+    ensures vector { TellsVector site.now.algorithm site.now.key_id key.now (tag_of item.now.tree) (value_bytes item.now.tree) (N.seen entropy.old) (N.seen entropy.new) result }
+{
+    match site.algorithm {
+        Algorithm::Deterministic => Ok(det_iv(key, site.key_id, item.tag(), item.value())),
+        Algorithm::Random => match entropy.block() {
+            Ok(block) => Ok(block),
+            Err(Failed) => Err(Failed),
+        },
+    }
+}
