@@ -5,7 +5,7 @@ use Rattle.std.proofs.lemmas.Nat.{xor_of_8}
 use Rattle.std.proofs.lemmas.Bool.{cases_lt}
 use Rattle.std.proofs.lemmas.List.{get_or_past, length-map}
 use Rattle.std.proofs.lemmas.List.Elements.{All-from_recursion, All-map}
-use Rattle.aes_block.specs.Field.{times_x, product_by, product, power, inverse}
+use Rattle.aes_block.specs.Field.{times_x, product_by, product, product_of_squares, inverse}
 use Rattle.aes_block.specs.Substitution.{affine, inv_affine, sub_byte, inv_sub_byte}
 use Rattle.aes_block.specs.Block.{IsBlock, four_words}
 use Rattle.aes_block.specs.Steps.{sub_bytes, inv_sub_bytes, shift_rows, inv_shift_rows, mix_columns, inv_mix_columns, round_key, add_round_key}
@@ -35,14 +35,14 @@ unfolding round_key
 IsBlock-round_key w r = IsBlock-four_words w (4 * r)
 
 entries_fit : passes_below 256 (λ b. nat_lt (sub_byte b) 256) ≡ true
-unfolding sub_byte affine inverse power product product_by times_x
+unfolding sub_byte affine inverse product_of_squares product product_by times_x
 entries_fit = refl
 
 pub sub_byte_fits : (b : ℕ) → b < 256 → sub_byte b < 256
 sub_byte_fits b l = below_from_test _ _ (passes_at 256 (λ b. nat_lt (sub_byte b) 256) entries_fit b l)
 
 inv_entries_fit : passes_below 256 (λ b. nat_lt (inv_sub_byte b) 256) ≡ true
-unfolding inv_sub_byte inv_affine inverse power product product_by times_x
+unfolding inv_sub_byte inv_affine inverse product_of_squares product product_by times_x
 inv_entries_fit = refl
 
 pub inv_sub_byte_fits : (b : ℕ) → b < 256 → inv_sub_byte b < 256

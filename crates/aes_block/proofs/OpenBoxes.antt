@@ -1,7 +1,7 @@
 -- The inverse S-box by shuffles, against its definition, at each byte.
 use Rattle.std.proofs.Common.{◌≡◌, ℕ, ◌<◌, true, refl}
 use Rattle.std.specs.Prelude.{◌==◌, bit_xor}
-use Rattle.aes_block.specs.Field.{times_x, product_by, product, power, inverse}
+use Rattle.aes_block.specs.Field.{times_x, product_by, product, product_of_squares, inverse}
 use Rattle.aes_block.specs.Substitution.{inv_affine, inv_sub_byte}
 use Rattle.aes_block.specs.declared.tables.TheConstants.{INVERSE, RATIO}
 use Rattle.aes_block.specs.declared.open_tables.TheConstants.{OPEN_LOW, OPEN_HIGH, FIVE, FOURTEEN_U, FOURTEEN_V, ELEVEN_U, ELEVEN_V, THIRTEEN_U, THIRTEEN_V, NINE_U, NINE_V, OPEN_LAST_U, OPEN_LAST_V, KEY_FOURTEEN_LOW, KEY_FOURTEEN_HIGH, KEY_ELEVEN_LOW, KEY_ELEVEN_HIGH, KEY_THIRTEEN_LOW, KEY_THIRTEEN_HIGH, KEY_NINE_LOW, KEY_NINE_HIGH}
@@ -11,7 +11,7 @@ use Rattle.aes_block.specs.Opening.{into_open, linear_open}
 use Rattle.aes_block.proofs.Computed.{passes_below, passes_at, same_below, equal_from_test}
 
 fourteen_entries : passes_below 256 (λ b. at_halves INVERSE RATIO FOURTEEN_U FOURTEEN_V (into_open b) == linear_open (product (inv_sub_byte b) 14)) ≡ true
-unfolding into_open linear_open into at_halves inv_sub_byte inv_affine inverse power product product_by times_x
+unfolding into_open linear_open into at_halves inv_sub_byte inv_affine inverse product_of_squares product product_by times_x
 fourteen_entries = refl
 
 pub fourteen_is : (b : ℕ) → b < 256 → at_halves INVERSE RATIO FOURTEEN_U FOURTEEN_V (into_open b) ≡ linear_open (product (inv_sub_byte b) 14)
@@ -25,7 +25,7 @@ pub key_fourteen_is : (b : ℕ) → b < 256 → by_nibbles KEY_FOURTEEN_LOW KEY_
 key_fourteen_is b l = same_below 256 (λ b. by_nibbles KEY_FOURTEEN_LOW KEY_FOURTEEN_HIGH b) (λ b. linear_open (product b 14)) key_fourteen_entries b l
 
 eleven_entries : passes_below 256 (λ b. at_halves INVERSE RATIO ELEVEN_U ELEVEN_V (into_open b) == linear_open (product (inv_sub_byte b) 11)) ≡ true
-unfolding into_open linear_open into at_halves inv_sub_byte inv_affine inverse power product product_by times_x
+unfolding into_open linear_open into at_halves inv_sub_byte inv_affine inverse product_of_squares product product_by times_x
 eleven_entries = refl
 
 pub eleven_is : (b : ℕ) → b < 256 → at_halves INVERSE RATIO ELEVEN_U ELEVEN_V (into_open b) ≡ linear_open (product (inv_sub_byte b) 11)
@@ -39,7 +39,7 @@ pub key_eleven_is : (b : ℕ) → b < 256 → by_nibbles KEY_ELEVEN_LOW KEY_ELEV
 key_eleven_is b l = same_below 256 (λ b. by_nibbles KEY_ELEVEN_LOW KEY_ELEVEN_HIGH b) (λ b. linear_open (product b 11)) key_eleven_entries b l
 
 thirteen_entries : passes_below 256 (λ b. at_halves INVERSE RATIO THIRTEEN_U THIRTEEN_V (into_open b) == linear_open (product (inv_sub_byte b) 13)) ≡ true
-unfolding into_open linear_open into at_halves inv_sub_byte inv_affine inverse power product product_by times_x
+unfolding into_open linear_open into at_halves inv_sub_byte inv_affine inverse product_of_squares product product_by times_x
 thirteen_entries = refl
 
 pub thirteen_is : (b : ℕ) → b < 256 → at_halves INVERSE RATIO THIRTEEN_U THIRTEEN_V (into_open b) ≡ linear_open (product (inv_sub_byte b) 13)
@@ -53,7 +53,7 @@ pub key_thirteen_is : (b : ℕ) → b < 256 → by_nibbles KEY_THIRTEEN_LOW KEY_
 key_thirteen_is b l = same_below 256 (λ b. by_nibbles KEY_THIRTEEN_LOW KEY_THIRTEEN_HIGH b) (λ b. linear_open (product b 13)) key_thirteen_entries b l
 
 nine_entries : passes_below 256 (λ b. at_halves INVERSE RATIO NINE_U NINE_V (into_open b) == linear_open (product (inv_sub_byte b) 9)) ≡ true
-unfolding into_open linear_open into at_halves inv_sub_byte inv_affine inverse power product product_by times_x
+unfolding into_open linear_open into at_halves inv_sub_byte inv_affine inverse product_of_squares product product_by times_x
 nine_entries = refl
 
 pub nine_is : (b : ℕ) → b < 256 → at_halves INVERSE RATIO NINE_U NINE_V (into_open b) ≡ linear_open (product (inv_sub_byte b) 9)
@@ -67,7 +67,7 @@ pub key_nine_is : (b : ℕ) → b < 256 → by_nibbles KEY_NINE_LOW KEY_NINE_HIG
 key_nine_is b l = same_below 256 (λ b. by_nibbles KEY_NINE_LOW KEY_NINE_HIGH b) (λ b. linear_open (product b 9)) key_nine_entries b l
 
 open_last_entries : passes_below 256 (λ b. at_halves INVERSE RATIO OPEN_LAST_U OPEN_LAST_V (into_open b) == inv_sub_byte b) ≡ true
-unfolding into_open linear_open into at_halves inv_sub_byte inv_affine inverse power product product_by times_x
+unfolding into_open linear_open into at_halves inv_sub_byte inv_affine inverse product_of_squares product product_by times_x
 open_last_entries = refl
 
 pub open_last_is : (b : ℕ) → b < 256 → at_halves INVERSE RATIO OPEN_LAST_U OPEN_LAST_V (into_open b) ≡ inv_sub_byte b

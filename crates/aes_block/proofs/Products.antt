@@ -1,7 +1,7 @@
 -- Products by the constants of the two column maps, each over all bytes.
 use Rattle.std.proofs.Common.{◌≡◌, ℕ, ◌+◌, ◌-◌, ◌*◌, ◌/◌, ◌%◌, ◌<◌, true, refl, arith}
 use Rattle.std.specs.Prelude.{◌==◌, bit_xor}
-use Rattle.aes_block.specs.Field.{times_x, product_by, product, power, inverse}
+use Rattle.aes_block.specs.Field.{times_x, product_by, product, product_of_squares, inverse}
 use Rattle.aes_block.proofs.Computed.{passes_below, same_below}
 
 entries_1 : passes_below 256 (λ a. product a 1 == a) ≡ true
@@ -62,7 +62,7 @@ pub times_x-doubled : (a : ℕ) → a < 256 → bit_xor (a * 2 % 256) (a / 128 *
 times_x-doubled a l = same_below 256 (λ a. bit_xor (a * 2 % 256) (a / 128 * 27)) times_x doubles a l
 
 inverse_pairs : passes_below 255 (λ n. product (n + 1) (inverse (n + 1)) == 1) ≡ true
-unfolding inverse power product product_by times_x
+unfolding inverse product_of_squares product product_by times_x
 inverse_pairs = refl
 
 -- the power 254 is the multiplicative inverse

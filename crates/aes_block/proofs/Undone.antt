@@ -2,7 +2,7 @@
 use Rattle.std.proofs.Common.{◌≡◌, ℕ, ◌<◌, List, true, refl, ap, sym, ◌∙◌}
 use Rattle.std.specs.Prelude.{◌==◌, bit_xor}
 use Rattle.std.specs.Int.Bits.{xor_assoc, xor_self, xor_zero_r}
-use Rattle.aes_block.specs.Field.{times_x, product_by, product, power, inverse}
+use Rattle.aes_block.specs.Field.{times_x, product_by, product, product_of_squares, inverse}
 use Rattle.aes_block.specs.Substitution.{affine, inv_affine, sub_byte, inv_sub_byte}
 use Rattle.aes_block.specs.Block.{IsBlock}
 use Rattle.aes_block.specs.Steps.{cell, state, sub_bytes, inv_sub_bytes, shift_rows, inv_shift_rows, add_round_key}
@@ -11,7 +11,7 @@ use Rattle.aes_block.proofs.Entries.{sixteen, sub_bytes-entries, inv_sub_bytes-e
 use Rattle.aes_block.proofs.Blocks.{byte_of}
 
 substituted_back : passes_below 256 (λ b. inv_sub_byte (sub_byte b) == b) ≡ true
-unfolding sub_byte inv_sub_byte affine inv_affine inverse power product product_by times_x
+unfolding sub_byte inv_sub_byte affine inv_affine inverse product_of_squares product product_by times_x
 substituted_back = refl
 
 pub inv_sub_byte-sub_byte : (b : ℕ) → b < 256 → inv_sub_byte (sub_byte b) ≡ b
@@ -28,7 +28,7 @@ unfolding inv_shift_rows shift_rows
 inv_shift_rows-shift_rows s block = sym (sixteen s block.len)
 
 back_substituted : passes_below 256 (λ b. sub_byte (inv_sub_byte b) == b) ≡ true
-unfolding sub_byte inv_sub_byte affine inv_affine inverse power product product_by times_x
+unfolding sub_byte inv_sub_byte affine inv_affine inverse product_of_squares product product_by times_x
 back_substituted = refl
 
 pub sub_byte-inv_sub_byte : (b : ℕ) → b < 256 → sub_byte (inv_sub_byte b) ≡ b
