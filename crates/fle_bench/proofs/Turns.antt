@@ -2,7 +2,8 @@
 use Rattle.std.proofs.Common.{◌≡◌, ℕ, ◌+◌, ◌-◌, List, length, refl, add-one, arith}
 use Rattle.fle_bench.specs.Turns.{last, repeated}
 
-pub repeated-next : (turn : List ℕ → List ℕ) (x out : List ℕ) (n : ℕ) → out ≡ turn (repeated turn x n) → out ≡ repeated turn x (n + 1)
+pub repeated-next : (turn : List ℕ → List ℕ) (x out : List ℕ) (n : ℕ) → out ≡ turn (repeated turn x n)
+    → out ≡ repeated turn x (n + 1)
 unfolding repeated
 repeated-next turn x out n e = rw add-one e
 

@@ -13,7 +13,8 @@ loop-turn-init g c = record {
 
 pub loop-turn-preserved : goal.loop-turn-preserved
 loop-turn-preserved g c =
-    let out = repeated-next (λ (b : List ℕ). cbc_sealed c.args.schedule.now (last 16 b) (pad c.args.plain.now)) c.args.first _ c.loop-turn._turn
+    let out = repeated-next (λ (b : List ℕ). cbc_sealed c.args.schedule.now (last 16 b) (pad c.args.plain.now))
+    c.args.first _ c.loop-turn._turn
     (rw c.loop-turn.invariant.fed at c.cbc_seal_into.ensures) in
     record {
       fed = c.last_block-iv.ensures ∙ ap (last 16) out;
