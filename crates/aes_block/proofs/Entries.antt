@@ -33,14 +33,18 @@ pub inv_sub_bytes-entries : (s : List ℕ) → length s ≡ 16 → inv_sub_bytes
 unfolding inv_sub_bytes
 inv_sub_bytes-entries s l = ap inv_sub_bytes (sixteen s l)
 
-pub add_round_key-entries : (s k : List ℕ) → length s ≡ 16 → length k ≡ 16 → add_round_key s k ≡ state (λ r c. bit_xor (cell s r c) (cell k r c))
+pub add_round_key-entries : (s k : List ℕ) → length s ≡ 16 → length k ≡ 16
+    → add_round_key s k ≡ state (λ r c. bit_xor (cell s r c) (cell k r c))
 unfolding add_round_key
-add_round_key-entries s k l m = ap (λ x. add_round_key x k) (sixteen s l) ∙ ap (add_round_key (state (cell s))) (sixteen k m)
+add_round_key-entries s k l m = ap (λ x. add_round_key x k) (sixteen s l)
+    ∙ ap (add_round_key (state (cell s))) (sixteen k m)
 
 -- two states are equal if their bytes are
 pub state_equal :
-    {a0 a1 a2 a3 a4 a5 a6 a7 a8 a9 a10 a11 a12 a13 a14 a15 : ℕ} {b0 b1 b2 b3 b4 b5 b6 b7 b8 b9 b10 b11 b12 b13 b14 b15 : ℕ}
-    → a0 ≡ b0 → a1 ≡ b1 → a2 ≡ b2 → a3 ≡ b3 → a4 ≡ b4 → a5 ≡ b5 → a6 ≡ b6 → a7 ≡ b7 → a8 ≡ b8 → a9 ≡ b9 → a10 ≡ b10 → a11 ≡ b11 → a12 ≡ b12 → a13 ≡ b13 → a14 ≡ b14 → a15 ≡ b15
+    {a0 a1 a2 a3 a4 a5 a6 a7 a8 a9 a10 a11 a12 a13 a14 a15 : ℕ}
+    {b0 b1 b2 b3 b4 b5 b6 b7 b8 b9 b10 b11 b12 b13 b14 b15 : ℕ}
+    → a0 ≡ b0 → a1 ≡ b1 → a2 ≡ b2 → a3 ≡ b3 → a4 ≡ b4 → a5 ≡ b5 → a6 ≡ b6 → a7 ≡ b7 → a8 ≡ b8 → a9 ≡ b9 → a10 ≡ b10
+    → a11 ≡ b11 → a12 ≡ b12 → a13 ≡ b13 → a14 ≡ b14 → a15 ≡ b15
     → a0 ∷ a1 ∷ a2 ∷ a3 ∷ a4 ∷ a5 ∷ a6 ∷ a7 ∷ a8 ∷ a9 ∷ a10 ∷ a11 ∷ a12 ∷ a13 ∷ a14 ∷ a15 ∷ []
     ≡ b0 ∷ b1 ∷ b2 ∷ b3 ∷ b4 ∷ b5 ∷ b6 ∷ b7 ∷ b8 ∷ b9 ∷ b10 ∷ b11 ∷ b12 ∷ b13 ∷ b14 ∷ b15 ∷ []
 state_equal e0 e1 e2 e3 e4 e5 e6 e7 e8 e9 e10 e11 e12 e13 e14 e15 = cc

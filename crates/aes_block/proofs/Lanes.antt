@@ -1,5 +1,6 @@
 -- Look-ups lane by lane.
-use Rattle.std.proofs.Common.{◌≡◌, ℕ, suc, ◌+◌, ◌*◌, ◌/◌, ◌≤◌, Bool, true, false, cond, T, List, [], ◌∷◌, map, length, get_or, ltb, leb, refl, ap, ◌∙◌, arith, w8, Fits}
+use Rattle.std.proofs.Common.{◌≡◌, ℕ, suc, ◌+◌, ◌*◌, ◌/◌, ◌≤◌, Bool, true, false, cond, T, List, [], ◌∷◌, map, length}
+use Rattle.std.proofs.Common.{get_or, ltb, leb, refl, ap, ◌∙◌, arith, w8, Fits}
 use Rattle.std.specs.Prelude.{◌&&◌, ◌||◌, nat_lt, bit_xor}
 use Rattle.std.proofs.lemmas.Bool.Decides.{nat_tests}
 use Rattle.std.proofs.lemmas.Simd.{swz_l, SwzOk, SwzOk-from_Each1, map-map, zip2_of_maps}
@@ -16,7 +17,8 @@ entry_chosen a j = go (leb 128 j) (nat_lt j 128) refl refl
     go false true p q = refl
     go false false p q = absurd (grind (arith, nat_tests))
 
-entry_at : (t : List ℕ) (i j : ℕ) → 16 * (i / 16) + j ≡ j → cond (leb 128 j) 0 (get_or t (16 * (i / 16) + j) 0) ≡ entry t j
+entry_at : (t : List ℕ) (i j : ℕ) → 16 * (i / 16) + j ≡ j
+    → cond (leb 128 j) 0 (get_or t (16 * (i / 16) + j) 0) ≡ entry t j
 entry_at t i j e = rw e (entry_chosen (get_or t j 0) j)
 
 cons_equal : {a b : ℕ} {xs ys : List ℕ} → a ≡ b → xs ≡ ys → a ∷ xs ≡ b ∷ ys
@@ -36,7 +38,10 @@ place_ok j h = go (leb 128 j || ltb j 16) refl
 
 each_place : (js : List ℕ) → all_places js ≡ true → Each1 (λ j. T (leb 128 j || ltb j 16)) js
 each_place [] h = tt
-each_place (j ∷ js) h = (place_ok j (first_true (is_place j) (all_places js) h), each_place js (second_true (is_place j) (all_places js) h))
+each_place (j ∷ js) h = (
+  place_ok j (first_true (is_place j) (all_places js) h),
+  each_place js (second_true (is_place j) (all_places js) h),
+)
 
 pub places_ok : (js : List ℕ) → length js ≡ 16 → all_places js ≡ true → SwzOk w8 16 16 0 js
 places_ok js l h = SwzOk-from_Each1 w8 16 1 16 0 js refl (omega arith) (each_place js h)
@@ -45,12 +50,16 @@ both_true : (a b : Bool) → a ≡ true → b ≡ true → (a && b) ≡ true
 both_true a b p q = grind (arith, nat_tests)
 
 -- bytes become places, if each of the 256 does
-pub mapped_places : (f : ℕ → ℕ) → passes_below 256 (λ b. is_place (f b)) ≡ true → (x : List ℕ) → Each1 (Fits w8) x → all_places (map f x) ≡ true
+pub mapped_places : (f : ℕ → ℕ) → passes_below 256 (λ b. is_place (f b)) ≡ true → (x : List ℕ) → Each1 (Fits w8) x
+    → all_places (map f x) ≡ true
 mapped_places f h [] e = refl
-mapped_places f h (b ∷ x) e = both_true (is_place (f b)) (all_places (map f x)) (passes_at 256 (λ b. is_place (f b)) h b e.0.fits) (mapped_places f h x e.1)
+mapped_places f h (b ∷ x) e = both_true (is_place (f b)) (all_places (map f x))
+    (passes_at 256 (λ b. is_place (f b)) h b e.0.fits) (mapped_places f h x e.1)
 
-pub looked_up : (t : List ℕ) (f : ℕ → ℕ) (x : List ℕ) {js r : List ℕ} → r ≡ map (entry t) js → js ≡ map f x → r ≡ map (λ b. entry t (f b)) x
+pub looked_up : (t : List ℕ) (f : ℕ → ℕ) (x : List ℕ) {js r : List ℕ} → r ≡ map (entry t) js → js ≡ map f x
+    → r ≡ map (λ b. entry t (f b)) x
 looked_up t f x e g = e ∙ ap (map (entry t)) g ∙ map-map (entry t) f x
 
-pub summed : (f g : ℕ → ℕ) (x : List ℕ) {a b : List ℕ} → a ≡ map f x → b ≡ map g x → zip2 bit_xor a b ≡ map (λ b. bit_xor (f b) (g b)) x
+pub summed : (f g : ℕ → ℕ) (x : List ℕ) {a b : List ℕ} → a ≡ map f x → b ≡ map g x
+    → zip2 bit_xor a b ≡ map (λ b. bit_xor (f b) (g b)) x
 summed f g x e h = zip2_of_maps bit_xor f g x e h

@@ -19,3 +19,4 @@ pub mod RoundLanes
 pub mod Bytes
 pub mod OpenBoxes
 pub mod OpenLanes
+pub mod Published

@@ -16,14 +16,16 @@ xor_swap p q r s =
     ∙ ap (bit_xor p) (sym (xor_assoc q r s) ∙ ap (λ x. bit_xor x s) (xor_comm q r) ∙ xor_assoc r q s)
     ∙ sym (xor_assoc p r (bit_xor q s))
 
-linear_pairs : passes_below 256 (λ a. passes_below 256 (λ b. times_x (bit_xor a b) == bit_xor (times_x a) (times_x b))) ≡ true
+linear_pairs : passes_below 256 (λ a. passes_below 256 (λ b. times_x (bit_xor a b) == bit_xor (times_x a) (times_x b)))
+    ≡ true
 unfolding times_x
 linear_pairs = refl
 
 pub times_x-xor : (a b : ℕ) → a < 256 → b < 256 → times_x (bit_xor a b) ≡ bit_xor (times_x a) (times_x b)
 times_x-xor a b la lb = equal_from_test _ _
     (passes_at 256 (λ b. times_x (bit_xor a b) == bit_xor (times_x a) (times_x b))
-    (passes_at 256 (λ a. passes_below 256 (λ b. times_x (bit_xor a b) == bit_xor (times_x a) (times_x b))) linear_pairs a la) b lb)
+    (passes_at 256 (λ a. passes_below 256 (λ b. times_x (bit_xor a b) == bit_xor (times_x a) (times_x b))) linear_pairs
+    a la) b lb)
 
 fitting_doubles : passes_below 256 (λ a. nat_lt (times_x a) 256) ≡ true
 unfolding times_x
@@ -51,13 +53,15 @@ times_bit a b k l = elim (cases_lt k 1) [
       rw (e, ea, eb, ec) refl
 ]
 
-product_by-xor : (n a b m : ℕ) → a < 256 → b < 256 → product_by n (bit_xor a b) m ≡ bit_xor (product_by n a m) (product_by n b m)
+product_by-xor : (n a b m : ℕ) → a < 256 → b < 256
+    → product_by n (bit_xor a b) m ≡ bit_xor (product_by n a m) (product_by n b m)
 unfolding product_by
 product_by-xor zero a b m la lb = refl
 product_by-xor (suc n) a b m la lb =
     ap (λ x. bit_xor x (product_by n (times_x (bit_xor a b)) (m / 2))) (times_bit a b (m % 2) (omega arith))
     ∙ ap (λ x. bit_xor (bit_xor (a * (m % 2)) (b * (m % 2))) (product_by n x (m / 2))) (times_x-xor a b la lb)
-    ∙ ap (bit_xor (bit_xor (a * (m % 2)) (b * (m % 2)))) (product_by-xor n (times_x a) (times_x b) (m / 2) (times_x_fits a la) (times_x_fits b lb))
+    ∙ ap (bit_xor (bit_xor (a * (m % 2)) (b * (m % 2))))
+    (product_by-xor n (times_x a) (times_x b) (m / 2) (times_x_fits a la) (times_x_fits b lb))
     ∙ xor_swap (a * (m % 2)) (b * (m % 2)) (product_by n (times_x a) (m / 2)) (product_by n (times_x b) (m / 2))
 
 pub product-xor : (a b m : ℕ) → a < 256 → b < 256 → product (bit_xor a b) m ≡ bit_xor (product a m) (product b m)
@@ -77,7 +81,8 @@ bit_fits a k l h = elim (cases_lt k 1) [
 product_by_fits : (n a m : ℕ) → a < 256 → product_by n a m < 256
 unfolding product_by
 product_by_fits zero a m l = omega arith
-product_by_fits (suc n) a m l = xor_of_8 _ _ (bit_fits a (m % 2) l (omega arith)) (product_by_fits n (times_x a) (m / 2) (times_x_fits a l))
+product_by_fits (suc n) a m l = xor_of_8 _ _ (bit_fits a (m % 2) l (omega arith))
+    (product_by_fits n (times_x a) (m / 2) (times_x_fits a l))
 
 pub product_fits : (a m : ℕ) → a < 256 → product a m < 256
 unfolding product
@@ -87,7 +92,8 @@ pub sum4_fits : (a b c d : ℕ) → a < 256 → b < 256 → c < 256 → d < 256 
 sum4_fits a b c d la lb lc ld = xor_of_8 _ _ (xor_of_8 _ _ la lb) (xor_of_8 _ _ lc ld)
 
 -- the sum of four sums is the sum of the two sums of four
-pub sum4-xor : (a b c d p q r s : ℕ) → sum4 (bit_xor a p) (bit_xor b q) (bit_xor c r) (bit_xor d s) ≡ bit_xor (sum4 a b c d) (sum4 p q r s)
+pub sum4-xor : (a b c d p q r s : ℕ) → sum4 (bit_xor a p) (bit_xor b q) (bit_xor c r) (bit_xor d s)
+    ≡ bit_xor (sum4 a b c d) (sum4 p q r s)
 sum4-xor a b c d p q r s =
     ap (λ x. bit_xor x (bit_xor (bit_xor c r) (bit_xor d s))) (xor_swap a p b q)
     ∙ ap (bit_xor (bit_xor (bit_xor a b) (bit_xor p q))) (xor_swap c r d s)

@@ -1,7 +1,7 @@
 -- Products by the constants of the two column maps, each over all bytes.
 use Rattle.std.proofs.Common.{◌≡◌, ℕ, ◌+◌, ◌-◌, ◌*◌, ◌/◌, ◌%◌, ◌<◌, true, refl, arith}
 use Rattle.std.specs.Prelude.{◌==◌, bit_xor}
-use Rattle.aes_block.specs.Field.{times_x, product_by, product, power, inverse}
+use Rattle.aes_block.specs.Field.{times_x, product_by, product, product_of_squares, inverse}
 use Rattle.aes_block.proofs.Computed.{passes_below, same_below}
 
 entries_1 : passes_below 256 (λ a. product a 1 == a) ≡ true
@@ -37,21 +37,24 @@ unfolding product product_by times_x
 entries_11 = refl
 
 pub product-11 : (a : ℕ) → a < 256 → product a 11 ≡ bit_xor (times_x (bit_xor (times_x (times_x a)) a)) a
-product-11 a l = same_below 256 (λ a. product a 11) (λ a. bit_xor (times_x (bit_xor (times_x (times_x a)) a)) a) entries_11 a l
+product-11 a l = same_below 256 (λ a. product a 11)
+    (λ a. bit_xor (times_x (bit_xor (times_x (times_x a)) a)) a) entries_11 a l
 
 entries_13 : passes_below 256 (λ a. product a 13 == bit_xor (times_x (times_x (bit_xor (times_x a) a))) a) ≡ true
 unfolding product product_by times_x
 entries_13 = refl
 
 pub product-13 : (a : ℕ) → a < 256 → product a 13 ≡ bit_xor (times_x (times_x (bit_xor (times_x a) a))) a
-product-13 a l = same_below 256 (λ a. product a 13) (λ a. bit_xor (times_x (times_x (bit_xor (times_x a) a))) a) entries_13 a l
+product-13 a l = same_below 256 (λ a. product a 13)
+    (λ a. bit_xor (times_x (times_x (bit_xor (times_x a) a))) a) entries_13 a l
 
 entries_14 : passes_below 256 (λ a. product a 14 == times_x (bit_xor (times_x (bit_xor (times_x a) a)) a)) ≡ true
 unfolding product product_by times_x
 entries_14 = refl
 
 pub product-14 : (a : ℕ) → a < 256 → product a 14 ≡ times_x (bit_xor (times_x (bit_xor (times_x a) a)) a)
-product-14 a l = same_below 256 (λ a. product a 14) (λ a. times_x (bit_xor (times_x (bit_xor (times_x a) a)) a)) entries_14 a l
+product-14 a l = same_below 256 (λ a. product a 14)
+    (λ a. times_x (bit_xor (times_x (bit_xor (times_x a) a)) a)) entries_14 a l
 
 doubles : passes_below 256 (λ a. bit_xor (a * 2 % 256) (a / 128 * 27) == times_x a) ≡ true
 unfolding times_x
@@ -62,7 +65,7 @@ pub times_x-doubled : (a : ℕ) → a < 256 → bit_xor (a * 2 % 256) (a / 128 *
 times_x-doubled a l = same_below 256 (λ a. bit_xor (a * 2 % 256) (a / 128 * 27)) times_x doubles a l
 
 inverse_pairs : passes_below 255 (λ n. product (n + 1) (inverse (n + 1)) == 1) ≡ true
-unfolding inverse power product product_by times_x
+unfolding inverse product_of_squares product product_by times_x
 inverse_pairs = refl
 
 -- the power 254 is the multiplicative inverse

@@ -1,7 +1,8 @@
 -- Cipher and InvCipher with 14 rounds (FIPS 197, 5.1 and 5.3), from the 60 words w of a key
 -- schedule and a block of 16 bytes.
 use Rattle.std.specs.Prelude.{ℕ, zero, suc, ◌-◌, List}
-use Rattle.aes_block.specs.Steps.{sub_bytes, inv_sub_bytes, shift_rows, inv_shift_rows, mix_columns, inv_mix_columns, round_key, add_round_key}
+use Rattle.aes_block.specs.Steps.{sub_bytes, inv_sub_bytes, shift_rows, inv_shift_rows, mix_columns, inv_mix_columns}
+use Rattle.aes_block.specs.Steps.{round_key, add_round_key}
 
 -- FIPS 197, 5.1, figure 5: the state after the first r rounds, of which none is the last
 unfoldable pub rounds : List ℕ → List ℕ → ℕ → List ℕ

@@ -1,5 +1,6 @@
 -- The key expansion for a 256-bit key (FIPS 197, 5.2).
-use Rattle.std.specs.Prelude.{ℕ, zero, suc, ◌+◌, ◌-◌, ◌*◌, ◌/◌, ◌%◌, ◌^◌, List, [], ◌∷◌, ◌++◌, ◌==◌, if◌then◌else◌, map, slice_index, bit_xor}
+use Rattle.std.specs.Prelude.{ℕ, zero, suc, ◌+◌, ◌-◌, ◌*◌, ◌/◌, ◌%◌, ◌^◌, List, [], ◌∷◌, ◌++◌, ◌==◌, if◌then◌else◌, map}
+use Rattle.std.specs.Prelude.{slice_index, bit_xor}
 use Rattle.std.specs.Int.{w32, rotate_left, from_be_bytes}
 use Rattle.aes_block.specs.Field.{times_x}
 use Rattle.aes_block.specs.Substitution.{sub_byte}

@@ -19,12 +19,12 @@ product_by (suc n) a b = bit_xor (a * (b % 2)) (product_by n (times_x a) (b / 2)
 unfoldable pub product : ℕ → ℕ → ℕ
 product a b = product_by 8 a b
 
--- a to the power 2 + 4 + .. + 2^n, by squarings
-unfoldable pub power : ℕ → ℕ → ℕ
-power zero a = 1
-power (suc n) a = let square = product a a in product square (power n square)
+-- the product of a^2, a^4, .., a^(2^n), each the square of the one before
+unfoldable pub product_of_squares : ℕ → ℕ → ℕ
+product_of_squares zero a = 1
+product_of_squares (suc n) a = let square = product a a in product square (product_of_squares n square)
 
--- FIPS 197, 4.2: the multiplicative inverse of a byte, and 0 for 0: its power 254, since the 255
--- other bytes are a group
+-- FIPS 197, 4.2: the multiplicative inverse of a byte, and 0 for 0: its power 254, which is the product of its powers
+-- 2, 4, .., 128, since the 255 other bytes are a group
 unfoldable pub inverse : ℕ → ℕ
-inverse a = power 7 a
+inverse a = product_of_squares 7 a

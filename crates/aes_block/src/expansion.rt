@@ -1,7 +1,8 @@
 // The key expansion for a 256-bit key (FIPS 197, 5.2).
 
 ghost use Rattle.std.specs.Prelude.{◌≡◌, ◌<◌, ◌≤◌, length};
-ghost use Rattle.aes_block.specs.Expansion.{added_word, expanded, key_words, rot_word, round_constant, sub_word, word_at};
+ghost use Rattle.aes_block.specs.Expansion.{added_word, expanded, key_words, rot_word, round_constant, sub_word};
+ghost use Rattle.aes_block.specs.Expansion.{word_at};
 
 use crate::substitution::substituted;
 use std::simd::prelude::*;

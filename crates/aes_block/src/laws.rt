@@ -4,7 +4,9 @@
 ghost use Rattle.std.specs.Prelude.{◌≡◌, ℕ, ◌<◌, List};
 ghost use Rattle.aes_block.specs.Block.{IsBlock};
 ghost use Rattle.aes_block.specs.Cipher.{cipher, inv_cipher};
+ghost use Rattle.aes_block.specs.Expansion.{expanded};
 ghost use Rattle.aes_block.specs.Field.{inverse, product};
+ghost use Rattle.fle_vectors.specs.declared.aes256.TheConstants.{BLOCK_C3, EXPANSION_A3};
 
 /// InvCipher undoes Cipher (FIPS 197, 5.3), on each block and under any words.
 pub fn opening_undoes_sealing()
@@ -19,4 +21,15 @@ pub fn sealing_undoes_opening()
 /// A byte other than 0 times its inverse is 1 (FIPS 197, 4.2).
 pub fn inverse_is_multiplicative()
     ensures { (a : ℕ) → 0 < a → a < 256 → product a (inverse a) ≡ 1 }
+{}
+
+/// The definitions give the words of FIPS 197, appendix A.3, for its key of 256 bits.
+pub fn published_words()
+    ensures expanded { expanded EXPANSION_A3.key ≡ EXPANSION_A3.words }
+{}
+
+/// The definitions give the block of FIPS 197, appendix C.3, and open it.
+pub fn published_block()
+    ensures sealed { cipher (expanded BLOCK_C3.key) BLOCK_C3.plain ≡ BLOCK_C3.sealed }
+    ensures opened { inv_cipher (expanded BLOCK_C3.key) BLOCK_C3.sealed ≡ BLOCK_C3.plain }
 {}

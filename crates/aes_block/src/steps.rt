@@ -2,7 +2,8 @@
 
 ghost use Rattle.std.specs.Prelude.{◌≡◌, ◌≤◌};
 ghost use Rattle.aes_block.specs.Field.{product, times_x};
-ghost use Rattle.aes_block.specs.Steps.{add_round_key, inv_mix_columns, inv_shift_rows, inv_sub_bytes, mix_columns, round_key, shift_rows, sub_bytes, sum4};
+ghost use Rattle.aes_block.specs.Steps.{add_round_key, inv_mix_columns, inv_shift_rows, inv_sub_bytes, mix_columns};
+ghost use Rattle.aes_block.specs.Steps.{round_key, shift_rows, sub_bytes, sum4};
 
 use crate::substitution::{inv_substituted, substituted};
 use crate::words::bytes_of;

@@ -49,7 +49,8 @@ pub(crate) const LAST_V: [u8; 16] = [
     0x00, 0x9f, 0x61, 0x16, 0xc2, 0x2a, 0x77, 0xe8, 0x89, 0x4b, 0x5d, 0x3c, 0xb5, 0xa3, 0xd4, 0xfe,
 ];
 
-// Positions for the rounds r with r % 4 = 1, 2, 3, 0: one row below, three rows below, and the places of the state's bytes
+// Positions for the rounds r with r % 4 = 1, 2, 3, 0: one row below, three rows below, and the places of the state's
+// bytes
 // behind the round.
 pub(crate) const TURN_1: [usize; 16] = [5, 6, 7, 4, 9, 10, 11, 8, 13, 14, 15, 12, 1, 2, 3, 0];
 

@@ -16,7 +16,13 @@ module _ (D E : Items → Type 0) (more : (is : Items) → D is → E is) where
   raw_more raws.Binary bytes h = h
   raw_more raws.Regex bytes h = h
   raw_more raws.Pointer bytes h = h
-  raw_more raws.Scope bytes h = record { code = h.code; scope = h.scope; inside = more h.scope h.inside; fits = h.fits; parts = h.parts }
+  raw_more raws.Scope bytes h = record {
+    code = h.code;
+    scope = h.scope;
+    inside = more h.scope h.inside;
+    fits = h.fits;
+    parts = h.parts;
+  }
 
   value_more : (o : Option ValueLayout) (t : Tree) → HasLayout D o t → HasLayout E o t
   value_more None t h = h

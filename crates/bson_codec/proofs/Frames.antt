@@ -1,5 +1,6 @@
 -- Documents as bytes: a length that is written last.
-use Rattle.std.proofs.Common.{◌≡◌, ℕ, zero, suc, ◌+◌, ◌≤◌, List, [], ◌∷◌, ◌++◌, length, take, drop, refl, sym, ap, ◌∙◌, append_assoc, arith}
+use Rattle.std.proofs.Common.{◌≡◌, ℕ, zero, suc, ◌+◌, ◌≤◌, List, [], ◌∷◌, ◌++◌, length, take, drop, refl, sym, ap, ◌∙◌}
+use Rattle.std.proofs.Common.{append_assoc, arith}
 use Rattle.std.specs.Int.{to_le_bytes, w32}
 use Rattle.std.proofs.lemmas.List.{take_at, drop_at, drop-drop}
 use Rattle.bson_tree.specs.Tree.{Items, no_items, item, after, count}
@@ -17,7 +18,8 @@ framed_at front elements items at size here is sized =
     rw (before, inside, sized) refl
 
 -- where no bytes are behind a document's elements but 00
-pub with_end : (old items front elements : List ℕ) → items ≡ old ++ 0 ∷ [] → old ≡ front ++ (0 ∷ (0 ∷ (0 ∷ (0 ∷ elements))))
+pub with_end : (old items front elements : List ℕ) → items ≡ old ++ 0 ∷ []
+    → old ≡ front ++ (0 ∷ (0 ∷ (0 ∷ (0 ∷ elements))))
     → items ≡ front ++ (0 ∷ (0 ∷ (0 ∷ (0 ∷ (elements ++ 0 ∷ [])))))
 with_end old items front elements last is = rw (last, is) (append_assoc front (0 ∷ (0 ∷ (0 ∷ (0 ∷ elements)))) (0 ∷ []))
 

@@ -12,27 +12,36 @@ use Rattle.bson_codec.proofs.Steps.{ok_is}
 use Rattle.bson_codec.proofs.Pieces.{Begins, begins_of}
 use Rattle.bson_codec.proofs.Documents.{document_takes, document_again, front_again}
 
-pub tree_read : (bytes : List ℕ) (is : Items) → AreBytes bytes → (document bytes ≡ Ok is) ↔ (IsDoc is × (bytes ≡ doc_bytes is))
+pub tree_read : (bytes : List ℕ) (is : Items) → AreBytes bytes → (document bytes ≡ Ok is)
+    ↔ (IsDoc is × (bytes ≡ doc_bytes is))
 tree_read bytes is fits =
     (λ e. let read = document_takes bytes is fits e in (read.doc, read.parts), λ h. document_again bytes is h.0 h.1)
 
-spelled : (bytes : List ℕ) (r : Result Items BsonFault) → AreBytes bytes → document bytes ≡ r → IsOk r → (is : Items) × IsDoc is × (bytes ≡ doc_bytes is)
+spelled : (bytes : List ℕ) (r : Result Items BsonFault) → AreBytes bytes → document bytes ≡ r → IsOk r
+    → (is : Items) × IsDoc is × (bytes ≡ doc_bytes is)
 spelled bytes (Ok is) fits e h = let read = document_takes bytes is fits e in (is, read.doc, read.parts)
 spelled bytes (Err d) fits e h = absurd cc
 
-pub no_fault : (bytes : List ℕ) → AreBytes bytes → IsOk (document bytes) ↔ ((is : Items) × IsDoc is × (bytes ≡ doc_bytes is))
-no_fault bytes fits = (spelled bytes (document bytes) fits refl, λ h. ap (λ (r : Result Items BsonFault). is_ok r) (document_again bytes h.0 h.1 h.2))
+pub no_fault : (bytes : List ℕ) → AreBytes bytes → IsOk (document bytes)
+    ↔ ((is : Items) × IsDoc is × (bytes ≡ doc_bytes is))
+no_fault bytes fits = (
+  spelled bytes (document bytes) fits refl,
+  λ h. ap (λ (r : Result Items BsonFault). is_ok r) (document_again bytes h.0 h.1 h.2),
+)
 
-pub front_read : (bytes rest : List ℕ) (is : Items) → IsDoc is → bytes ≡ doc_bytes is ++ rest → front_document bytes ≡ Ok (is, length (doc_bytes is))
+pub front_read : (bytes rest : List ℕ) (is : Items) → IsDoc is → bytes ≡ doc_bytes is ++ rest
+    → front_document bytes ≡ Ok (is, length (doc_bytes is))
 front_read bytes rest is doc e =
     let begins : Begins bytes (doc_bytes is) (length (doc_bytes is)) =
     subst (λ (x : List ℕ). Begins x (doc_bytes is) (length (doc_bytes is))) (sym e) (begins_of (doc_bytes is) rest) in
     front_again bytes is (length (doc_bytes is)) doc begins
 
 pub same_tree : (is js : Items) → IsDoc is → IsDoc js → doc_bytes is ≡ doc_bytes js → is ≡ js
-same_tree is js a b e = ok_is is js (sym (document_again (doc_bytes is) is a refl) ∙ document_again (doc_bytes is) js b e)
+same_tree is js a b e = ok_is is js (sym (document_again (doc_bytes is) is a refl)
+    ∙ document_again (doc_bytes is) js b e)
 
-pub nothing_follows : (is js : Items) (rest : List ℕ) → IsDoc is → IsDoc js → doc_bytes is ≡ doc_bytes js ++ rest → rest ≡ []
+pub nothing_follows : (is js : Items) (rest : List ℕ) → IsDoc is → IsDoc js → doc_bytes is ≡ doc_bytes js ++ rest
+    → rest ≡ []
 nothing_follows is js rest a b e =
     let first = front_read (doc_bytes is) [] is a (sym (append-nil (doc_bytes is))) in
     let second = front_read (doc_bytes is) rest js b e in

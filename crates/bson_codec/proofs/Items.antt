@@ -1,5 +1,6 @@
 -- What an element's parts say of its tree.
-use Rattle.std.proofs.Common.{◌≡◌, ℕ, ◌-◌, ◌+◌, ◌<◌, ◌^◌, Ok, ◌≤◌, Bool, true, false, cond, List, [], ◌∷◌, ◌++◌, length, get_or, take, drop, Option, Some, refl, sym, ap, subst, ◌∙◌, arith}
+use Rattle.std.proofs.Common.{◌≡◌, ℕ, ◌-◌, ◌+◌, ◌<◌, ◌^◌, Ok, ◌≤◌, Bool, true, false, cond, List, [], ◌∷◌, ◌++◌, length}
+use Rattle.std.proofs.Common.{get_or, take, drop, Option, Some, refl, sym, ap, subst, ◌∙◌, arith}
 use Rattle.bson_tree.specs.Tree.{Tree, Items, leaf, node, tag_of}
 use Rattle.std.proofs.lemmas.List.{take_at, drop_at, length-append}
 use Rattle.bson_tree.specs.Spelling.{value_bytes, items_bytes, doc_bytes}
@@ -8,7 +9,8 @@ use Rattle.bson_codec.specs.declared.table.ValueLayout.TheVariants as values
 use Rattle.bson_codec.specs.declared.table.RawLayout.TheVariants as raws
 use Rattle.bson_codec.specs.Table.{layout_of}
 use Rattle.bson_codec.specs.Borrowed.{doc_of, elements_of, is_inner, value_tree, SpellsDoc, SpellsElements, SpellsValue}
-use Rattle.bson_codec.specs.Layout.{IsDoc, IsItems, IsValue, IsScope, HasLayout, IsString, IsBinary, string_bytes, binary_bytes, scope_bytes, level_limit}
+use Rattle.bson_codec.specs.Layout.{IsDoc, IsItems, IsValue, IsScope, HasLayout, IsString, IsBinary, string_bytes}
+use Rattle.bson_codec.specs.Layout.{binary_bytes, scope_bytes, level_limit}
 use Rattle.bson_codec.specs.Reading.{string_at}
 use Rattle.bson_codec.proofs.Pieces.{Begins, begins_of}
 use Rattle.bson_codec.proofs.Steps.{ok_is}
@@ -27,17 +29,20 @@ type_is tag bs = type_by (is_inner tag) tag bs
 
 pub value_is : (tag : ℕ) (bs : List ℕ) → SpellsValue tag bs → value_bytes (value_tree tag bs) ≡ bs
 value_is tag bs s =
-    let same : value_tree tag bs ≡ s.tree = ap (λ (k : ℕ). value_tree k bs) (sym s.type) ∙ ap (value_tree (tag_of s.tree)) s.parts ∙ value_tree_is s.tree s.laid in
+    let same : value_tree tag bs ≡ s.tree = ap (λ (k : ℕ). value_tree k bs) (sym s.type)
+    ∙ ap (value_tree (tag_of s.tree)) s.parts ∙ value_tree_is s.tree s.laid in
     ap value_bytes same ∙ sym s.parts
 
 -- the value of a type that holds no document is raw
-pub raw_tree : (tag kind : ℕ) (bs parts : List ℕ) → tag ≡ kind → is_inner kind ≡ false → bs ≡ parts → value_tree tag bs ≡ leaf kind parts
+pub raw_tree : (tag kind : ℕ) (bs parts : List ℕ) → tag ≡ kind → is_inner kind ≡ false → bs ≡ parts
+    → value_tree tag bs ≡ leaf kind parts
 raw_tree tag kind bs parts same raw e =
     rw (same, e) (ap (λ (b : Bool). cond b (node kind (doc_of parts)) (leaf kind parts)) raw)
 
 -- ---- documents inside
 
-inside_of_value : (layout : ValueLayout) (t : Tree) → is_document layout ≡ true → HasLayout (IsItems (level_limit - 1)) (Some layout) t → SpellsDoc (value_bytes t)
+inside_of_value : (layout : ValueLayout) (t : Tree) → is_document layout ≡ true
+    → HasLayout (IsItems (level_limit - 1)) (Some layout) t → SpellsDoc (value_bytes t)
 inside_of_value values.Document (leaf tag bytes) e laid = absurd laid
 inside_of_value values.Document (node tag is) e laid = record { tree = is; doc = inside_is_doc is laid; parts = refl }
 inside_of_value (values.Raw layout) t e laid = absurd cc
@@ -45,8 +50,10 @@ inside_of_value (values.Raw layout) t e laid = absurd cc
 pub child_spells : (tag : ℕ) (bs : List ℕ) → SpellsValue tag bs → is_inner tag ≡ true → SpellsDoc bs
 child_spells tag bs s inner =
     let layout = typed (IsItems (level_limit - 1)) (layout_of (tag_of s.tree)) s.tree s.laid in
-    let laid : HasLayout (IsItems (level_limit - 1)) (Some layout.layout) s.tree = subst (λ (o : Option ValueLayout). HasLayout (IsItems (level_limit - 1)) o s.tree) layout.is s.laid in
-    let doc : is_document layout.layout ≡ true = layout_is (tag_of s.tree) layout.layout layout.is ∙ ap is_inner s.type ∙ inner in
+    let laid : HasLayout (IsItems (level_limit - 1)) (Some layout.layout) s.tree =
+    subst (λ (o : Option ValueLayout). HasLayout (IsItems (level_limit - 1)) o s.tree) layout.is s.laid in
+    let doc : is_document layout.layout ≡ true = layout_is (tag_of s.tree) layout.layout layout.is ∙ ap is_inner s.type
+    ∙ inner in
     subst SpellsDoc (sym s.parts) (inside_of_value layout.layout s.tree doc laid)
 
 -- the elements of a document's bytes
@@ -61,15 +68,18 @@ pub doc_spells : (bs : List ℕ) → SpellsDoc bs → SpellsElements (take (leng
 doc_spells bs s = record { tree = s.tree; laid = s.doc.inside; parts = doc_elements bs s.tree s.parts }
 
 pub items_are : (bs : List ℕ) → SpellsDoc bs → elements_of (take (length bs - 1 - 4) (drop 4 bs)) ≡ doc_of bs
-items_are bs s = elements_of_spelling _ s.tree s.doc.inside (doc_elements bs s.tree s.parts) ∙ sym (doc_of_spelling bs s.tree s.doc s.parts)
+items_are bs s = elements_of_spelling _ s.tree s.doc.inside (doc_elements bs s.tree s.parts)
+    ∙ sym (doc_of_spelling bs s.tree s.doc s.parts)
 
 -- ---- strings and binaries
 
-string_leaf : (t : Tree) → HasLayout (IsItems (level_limit - 1)) (Some (values.Raw raws.Text)) t → IsString (value_bytes t)
+string_leaf : (t : Tree) → HasLayout (IsItems (level_limit - 1)) (Some (values.Raw raws.Text)) t
+    → IsString (value_bytes t)
 string_leaf (leaf tag bytes) laid = laid
 string_leaf (node tag is) laid = absurd laid
 
-binary_leaf : (t : Tree) → HasLayout (IsItems (level_limit - 1)) (Some (values.Raw raws.Binary)) t → IsBinary (value_bytes t)
+binary_leaf : (t : Tree) → HasLayout (IsItems (level_limit - 1)) (Some (values.Raw raws.Binary)) t
+    → IsBinary (value_bytes t)
 binary_leaf (leaf tag bytes) laid = laid
 binary_leaf (node tag is) laid = absurd laid
 
@@ -83,12 +93,14 @@ row_five = refl
 
 pub string_spelled : (bs : List ℕ) → SpellsValue 2 bs → IsString bs
 string_spelled bs s =
-    let laid = subst (λ (o : Option ValueLayout). HasLayout (IsItems (level_limit - 1)) o s.tree) (ap layout_of s.type ∙ row_two) s.laid in
+    let laid = subst (λ (o : Option ValueLayout). HasLayout (IsItems (level_limit - 1)) o s.tree)
+    (ap layout_of s.type ∙ row_two) s.laid in
     subst IsString (sym s.parts) (string_leaf s.tree laid)
 
 pub binary_spelled : (bs : List ℕ) → SpellsValue 5 bs → IsBinary bs
 binary_spelled bs s =
-    let laid = subst (λ (o : Option ValueLayout). HasLayout (IsItems (level_limit - 1)) o s.tree) (ap layout_of s.type ∙ row_five) s.laid in
+    let laid = subst (λ (o : Option ValueLayout). HasLayout (IsItems (level_limit - 1)) o s.tree)
+    (ap layout_of s.type ∙ row_five) s.laid in
     subst IsBinary (sym s.parts) (binary_leaf s.tree laid)
 
 -- the parts of a string's bytes
@@ -96,7 +108,8 @@ pub text_is : (bs : List ℕ) → IsString bs → bs ≡ string_bytes (take (len
 text_is bs s =
     let tail : drop 4 bs ≡ s.text ++ 0 ∷ [] = ap (drop 4) s.parts in
     let size : length s.text ≡ length bs - 5 = omega (arith, ap length s.parts, length-append s.text (0 ∷ [])) in
-    let text : take (length bs - 5) (drop 4 bs) ≡ s.text = ap (take (length bs - 5)) tail ∙ take_at s.text (0 ∷ []) (length bs - 5) size in
+    let text : take (length bs - 5) (drop 4 bs) ≡ s.text =
+    ap (take (length bs - 5)) tail ∙ take_at s.text (0 ∷ []) (length bs - 5) size in
     s.parts ∙ ap string_bytes (sym text)
 
 pub string_long : (bs : List ℕ) → IsString bs → 5 ≤ length bs
@@ -115,10 +128,12 @@ binary_long bs s = omega (arith, ap length s.parts)
 
 pub value_laid : (tag : ℕ) (bs : List ℕ) → SpellsValue tag bs → IsValue (IsItems (level_limit - 1)) (value_tree tag bs)
 value_laid tag bs s =
-    let same : value_tree tag bs ≡ s.tree = ap (λ (k : ℕ). value_tree k bs) (sym s.type) ∙ ap (value_tree (tag_of s.tree)) s.parts ∙ value_tree_is s.tree s.laid in
+    let same : value_tree tag bs ≡ s.tree = ap (λ (k : ℕ). value_tree k bs) (sym s.type)
+    ∙ ap (value_tree (tag_of s.tree)) s.parts ∙ value_tree_is s.tree s.laid in
     subst (IsValue (IsItems (level_limit - 1))) (sym same) s.laid
 
-scope_leaf : (t : Tree) → HasLayout (IsItems (level_limit - 1)) (Some (values.Raw raws.Scope)) t → IsScope (IsItems (level_limit - 1)) (value_bytes t)
+scope_leaf : (t : Tree) → HasLayout (IsItems (level_limit - 1)) (Some (values.Raw raws.Scope)) t
+    → IsScope (IsItems (level_limit - 1)) (value_bytes t)
 scope_leaf (leaf tag bytes) laid = laid
 scope_leaf (node tag is) laid = absurd laid
 
@@ -128,7 +143,8 @@ row_fifteen = refl
 
 pub scope_spelled : (bs : List ℕ) → SpellsValue 15 bs → IsScope (IsItems (level_limit - 1)) bs
 scope_spelled bs s =
-    let laid = subst (λ (o : Option ValueLayout). HasLayout (IsItems (level_limit - 1)) o s.tree) (ap layout_of s.type ∙ row_fifteen) s.laid in
+    let laid = subst (λ (o : Option ValueLayout). HasLayout (IsItems (level_limit - 1)) o s.tree)
+    (ap layout_of s.type ∙ row_fifteen) s.laid in
     subst (IsScope (IsItems (level_limit - 1))) (sym s.parts) (scope_leaf s.tree laid)
 
 -- the parts of a scope's bytes
@@ -153,13 +169,18 @@ scope_known bs s =
     let doc = doc_bytes k.scope in
     let width : length (string_bytes code) ≡ length code + 5 = omega (arith, length-append code (0 ∷ [])) in
     let inside : drop 4 bs ≡ string_bytes code ++ doc = ap (drop 4) k.parts in
-    let sum : length (string_bytes code ++ doc) ≡ length (string_bytes code) + length doc = length-append (string_bytes code) doc in
+    let sum : length (string_bytes code ++ doc) ≡ length (string_bytes code) + length doc =
+    length-append (string_bytes code) doc in
     let size : length bs ≡ length code + 9 + length doc = omega (arith, ap length k.parts, sum, width) in
     let small : length code + 5 < 2 ^ 31 = omega (arith, k.fits, ap length k.parts, size) in
-    let begins : Begins (string_bytes code ++ doc) (string_bytes code) (length (string_bytes code)) = begins_of (string_bytes code) doc in
-    let begins' : Begins (string_bytes code ++ doc) (string_bytes code) (length code + 5) = subst (λ (m : ℕ). Begins (string_bytes code ++ doc) (string_bytes code) m) width begins in
-    let read : string_at 0 (string_bytes code ++ doc) ≡ Ok (length code + 5) = string_again 0 (string_bytes code ++ doc) code (length code + 5) (omega (arith, small)) begins' in
-    let front : take (length code + 5) (drop 4 bs) ≡ string_bytes code = ap (take (length code + 5)) inside ∙ take_at (string_bytes code) doc (length code + 5) width in
+    let begins : Begins (string_bytes code ++ doc) (string_bytes code) (length (string_bytes code)) =
+    begins_of (string_bytes code) doc in
+    let begins' : Begins (string_bytes code ++ doc) (string_bytes code) (length code + 5) =
+    subst (λ (m : ℕ). Begins (string_bytes code ++ doc) (string_bytes code) m) width begins in
+    let read : string_at 0 (string_bytes code ++ doc) ≡ Ok (length code + 5) =
+    string_again 0 (string_bytes code ++ doc) code (length code + 5) (omega (arith, small)) begins' in
+    let front : take (length code + 5) (drop 4 bs) ≡ string_bytes code =
+    ap (take (length code + 5)) inside ∙ take_at (string_bytes code) doc (length code + 5) width in
     let ended : drop 4 (string_bytes code) ≡ code ++ 0 ∷ [] = refl in
     record {
       code = code;
@@ -180,21 +201,26 @@ scope_known bs s =
 pub record ScopeCut (bs : List ℕ) (n : ℕ) : Type 0 where
   pub long : 5 ≤ length (take n (drop 4 bs))
   pub spells : SpellsDoc (drop n (drop 4 bs))
-  pub parts : bs ≡ scope_bytes (take (length (take n (drop 4 bs)) - 5) (drop 4 (take n (drop 4 bs)))) (doc_of (drop n (drop 4 bs)))
+  pub parts : bs ≡ scope_bytes (take (length (take n (drop 4 bs)) - 5) (drop 4 (take n (drop 4 bs))))
+      (doc_of (drop n (drop 4 bs)))
 
 scope_cut_at : (bs : List ℕ) (k : ScopeKnown bs) → ScopeCut bs (length k.code + 5)
 scope_cut_at bs k =
     let n : ℕ = length k.code + 5 in
     let rest : drop n (drop 4 bs) ≡ doc_bytes k.scope = k.rest in
-    let front : take n (drop 4 bs) ≡ string_bytes k.code = ap (take n) k.inside ∙ take_at (string_bytes k.code) (doc_bytes k.scope) n k.width in
+    let front : take n (drop 4 bs) ≡ string_bytes k.code =
+    ap (take n) k.inside ∙ take_at (string_bytes k.code) (doc_bytes k.scope) n k.width in
     let wide : length (take n (drop 4 bs)) ≡ n = ap length front ∙ k.width in
     let less : length (take n (drop 4 bs)) - 5 ≡ length k.code = omega (arith, wide) in
     let doc : doc_of (drop n (drop 4 bs)) ≡ k.scope = doc_of_spelling (drop n (drop 4 bs)) k.scope k.doc rest in
-    let text : take (length (take n (drop 4 bs)) - 5) (drop 4 (take n (drop 4 bs))) ≡ k.code = ap (λ (m : ℕ). take m (drop 4 (take n (drop 4 bs)))) less ∙ k.text in
+    let text : take (length (take n (drop 4 bs)) - 5) (drop 4 (take n (drop 4 bs))) ≡ k.code =
+    ap (λ (m : ℕ). take m (drop 4 (take n (drop 4 bs)))) less ∙ k.text in
     record {
       long = omega (arith, wide);
       spells = record { tree = k.scope; doc = k.doc; parts = rest };
-      parts = k.parts ∙ (ap (λ (x : List ℕ). scope_bytes x k.scope) (sym text) ∙ ap (λ (x : Items). scope_bytes (take (length (take n (drop 4 bs)) - 5) (drop 4 (take n (drop 4 bs)))) x) (sym doc));
+      parts = k.parts ∙ (ap (λ (x : List ℕ). scope_bytes x k.scope) (sym text)
+          ∙ ap (λ (x : Items). scope_bytes (take (length (take n (drop 4 bs)) - 5) (drop 4 (take n (drop 4 bs)))) x)
+          (sym doc));
     }
 
 pub scope_cut : (bs : List ℕ) (n : ℕ) → SpellsValue 15 bs → string_at 0 (drop 4 bs) ≡ Ok n → ScopeCut bs n

@@ -1,5 +1,7 @@
 -- Names and types: what is read has its layout, and what has its layout is read.
-use Rattle.std.proofs.Common.{◌≡◌, ℕ, zero, suc, ◌+◌, Bool, true, false, cond, eqb, List, [], ◌∷◌, ◌++◌, length, take, drop, Option, Some, None, option_map, Result, Ok, Err, refl, sym, ap, subst, ◌∙◌, append_assoc, arith, add-one}
+use Rattle.std.proofs.Common.{◌≡◌, ℕ, zero, suc, ◌+◌, Bool, true, false, cond, eqb, List, [], ◌∷◌, ◌++◌, length, take}
+use Rattle.std.proofs.Common.{drop, Option, Some, None, option_map, Result, Ok, Err, refl, sym, ap, subst, ◌∙◌}
+use Rattle.std.proofs.Common.{append_assoc, arith, add-one}
 use Rattle.std.proofs.lemmas.Bool.{ne_eqb}
 use Rattle.bson_codec.specs.declared.fault.BsonFault.{BsonFault}
 use Rattle.bson_codec.specs.declared.table.ValueLayout.{ValueLayout}
@@ -32,7 +34,10 @@ mapped (Some m) n e = record { before = m; is = refl; then = sym (add-one m) ∙
 before_zero_takes : (bs : List ℕ) (n : ℕ) → before_zero bs ≡ Some n → NameRead bs n
 before_zero_takes [] n e = absurd cc
 before_zero_takes (zero ∷ bs) n e =
-    subst (λ (m : ℕ). NameRead (0 ∷ bs) m) (some_is 0 n e) (record { name = tt; parts = record { parts = refl; size = refl } })
+    subst (λ (m : ℕ). NameRead (0 ∷ bs) m) (some_is 0 n e) (record {
+      name = tt;
+      parts = record { parts = refl; size = refl };
+    })
 before_zero_takes (suc b ∷ bs) n e =
     let nonzero : eqb (suc b) 0 ≡ false = ne_eqb (suc b) 0 (λ h. omega arith) in
     let step : option_map (λ m. m + 1) (before_zero bs) ≡ Some n =
@@ -44,7 +49,8 @@ before_zero_takes (suc b ∷ bs) n e =
     (record {
       name = (omega arith, rest.name);
       parts = record {
-        parts = ap (λ (x : List ℕ). suc b ∷ x) (rest.parts.parts ∙ ap (λ (x : List ℕ). (take m.before bs ++ 0 ∷ []) ++ x) (sym place));
+        parts = ap (λ (x : List ℕ). suc b ∷ x) (rest.parts.parts
+            ∙ ap (λ (x : List ℕ). (take m.before bs ++ 0 ∷ []) ++ x) (sym place));
         size = omega (arith, rest.parts.size);
       };
     })
@@ -66,7 +72,8 @@ before_zero_again (b ∷ name) rest h =
     let one : some (length name + 1) ≡ some (suc (length name)) = ap some (add-one (length name)) in
     rw nonzero (step ∙ one)
 
-pub name_again : (p : ℕ) (bs name : List ℕ) (n : ℕ) → IsName name → Begins bs (name ++ 0 ∷ []) n → cstring_at p bs ≡ Ok (length name)
+pub name_again : (p : ℕ) (bs name : List ℕ) (n : ℕ) → IsName name → Begins bs (name ++ 0 ∷ []) n
+    → cstring_at p bs ≡ Ok (length name)
 unfolding cstring_at
 name_again p bs name n h begins =
     let whole : bs ≡ name ++ 0 ∷ drop n bs = begins.parts ∙ append_assoc name (0 ∷ []) (drop n bs) in
@@ -75,7 +82,8 @@ name_again p bs name n h begins =
 
 -- ---- types
 
-passed_if : {A : Type 0} (b : Bool) (d : BsonFault) (r : Result A BsonFault) (y : A) → cond b (Err d) r ≡ Ok y → r ≡ Ok y
+passed_if : {A : Type 0} (b : Bool) (d : BsonFault) (r : Result A BsonFault) (y : A) → cond b (Err d) r ≡ Ok y
+    → r ≡ Ok y
 passed_if true d r y e = absurd cc
 passed_if false d r y e = e
 
@@ -85,7 +93,8 @@ layout_by_ok p (Some found) layout e = ap (λ (l : ValueLayout). Some l) (ok_is 
 
 pub layout_takes : (p tag : ℕ) (layout : ValueLayout) → type_at p tag ≡ Ok layout → layout_of tag ≡ Some layout
 unfolding type_at
-layout_takes p tag layout e = layout_by_ok p (layout_of tag) layout (passed_if (eqb tag 0) _ (layout_by p (layout_of tag)) layout e)
+layout_takes p tag layout e = layout_by_ok p (layout_of tag) layout
+    (passed_if (eqb tag 0) _ (layout_by p (layout_of tag)) layout e)
 
 -- 00 is no type
 zero_is_none : (layout : ValueLayout) → layout_of 0 ≡ Some layout → ⊥
@@ -95,7 +104,8 @@ zero_is_none layout e = cc
 pub layout_again : (p tag : ℕ) (layout : ValueLayout) → layout_of tag ≡ Some layout → type_at p tag ≡ Ok layout
 unfolding type_at
 layout_again p tag layout e =
-    let nonzero : eqb tag 0 ≡ false = ne_eqb tag 0 (λ z. zero_is_none layout (subst (λ (k : ℕ). layout_of k ≡ Some layout) z e)) in
+    let nonzero : eqb tag 0 ≡ false = ne_eqb tag 0
+    (λ z. zero_is_none layout (subst (λ (k : ℕ). layout_of k ≡ Some layout) z e)) in
     rw nonzero (ap (layout_by p) e)
 
 -- ---- bytes that may be a name

@@ -19,15 +19,19 @@ pub record Among (at size offset : ℕ) : Type 0 where
   pub to : offset ≤ at + size
 
 mutual
-  pub within_in : (place : List ℕ) (at : ℕ) (t : Tree) (offset : ℕ) → start_in place at t ≡ Some offset → Within at (length (value_bytes t)) offset
-  within_in [] at (leaf tag bytes) offset e = let is = some_is at offset e in record { from = omega arith; to = omega arith }
-  within_in [] at (node tag is) offset e = let same = some_is at offset e in record { from = omega arith; to = omega arith }
+  pub within_in : (place : List ℕ) (at : ℕ) (t : Tree) (offset : ℕ) → start_in place at t ≡ Some offset
+      → Within at (length (value_bytes t)) offset
+  within_in [] at (leaf tag bytes) offset e = let is =
+      some_is at offset e in record { from = omega arith; to = omega arith }
+  within_in [] at (node tag is) offset e = let same =
+      some_is at offset e in record { from = omega arith; to = omega arith }
   within_in (i ∷ place) at (leaf tag bytes) offset e = absurd cc
   within_in (i ∷ place) at (node tag is) offset e =
       let inside = within_from i place (at + 4) is offset e in
       record { from = omega (arith, inside.from); to = omega (arith, inside.to, framed_size (items_bytes is)) }
 
-  pub within_from : (i : ℕ) (place : List ℕ) (at : ℕ) (is : Items) (offset : ℕ) → start_from i place at is ≡ Some offset → Among at (length (items_bytes is)) offset
+  pub within_from : (i : ℕ) (place : List ℕ) (at : ℕ) (is : Items) (offset : ℕ) → start_from i place at is ≡ Some offset
+      → Among at (length (items_bytes is)) offset
   within_from i place at no_items offset e = absurd cc
   within_from zero place at (item name t is) offset e =
       let inside = within_in place (at + (2 + length name)) t offset e in
@@ -42,7 +46,8 @@ bump [] = []
 bump (i ∷ place) = suc i ∷ place
 
 mutual
-  same_in : (place other : List ℕ) (at : ℕ) (t : Tree) (offset : ℕ) → start_in place at t ≡ Some offset → start_in other at t ≡ Some offset → place ≡ other
+  same_in : (place other : List ℕ) (at : ℕ) (t : Tree) (offset : ℕ) → start_in place at t ≡ Some offset
+      → start_in other at t ≡ Some offset → place ≡ other
   same_in [] [] at t offset e f = refl
   same_in [] (j ∷ other) at (leaf tag bytes) offset e f = absurd cc
   same_in [] (j ∷ other) at (node tag is) offset e f =
@@ -53,10 +58,12 @@ mutual
   same_in (i ∷ place) (j ∷ other) at (leaf tag bytes) offset e f = absurd cc
   same_in (i ∷ place) (j ∷ other) at (node tag is) offset e f = same_from i place j other (at + 4) is offset e f
 
-  same_from : (i : ℕ) (place : List ℕ) (j : ℕ) (other : List ℕ) (at : ℕ) (is : Items) (offset : ℕ) → start_from i place at is ≡ Some offset → start_from j other at is ≡ Some offset
+  same_from : (i : ℕ) (place : List ℕ) (j : ℕ) (other : List ℕ) (at : ℕ) (is : Items) (offset : ℕ)
+      → start_from i place at is ≡ Some offset → start_from j other at is ≡ Some offset
       → i ∷ place ≡ j ∷ other
   same_from i place j other at no_items offset e f = absurd cc
-  same_from zero place zero other at (item name t is) offset e f = ap (λ (p : List ℕ). 0 ∷ p) (same_in place other (at + (2 + length name)) t offset e f)
+  same_from zero place zero other at (item name t is) offset e f =
+      ap (λ (p : List ℕ). 0 ∷ p) (same_in place other (at + (2 + length name)) t offset e f)
   same_from zero place (suc j) other at (item name t is) offset e f =
       let v : ℕ = at + (2 + length name) in
       let here = within_in place v t offset e in
@@ -70,7 +77,8 @@ mutual
   same_from (suc i) place (suc j) other at (item name t is) offset e f =
       ap bump (same_from i place j other (at + (2 + length name) + length (value_bytes t)) is offset e f)
 
-pub same_place : (is : Items) (place other : List ℕ) (at : ℕ) → start_of place is ≡ Some at → start_of other is ≡ Some at → place ≡ other
+pub same_place : (is : Items) (place other : List ℕ) (at : ℕ) → start_of place is ≡ Some at
+    → start_of other is ≡ Some at → place ≡ other
 same_place is [] other at e f = absurd cc
 same_place is (i ∷ place) [] at e f = absurd cc
 same_place is (i ∷ place) (j ∷ other) at e f = same_from i place j other 4 is at e f

@@ -14,6 +14,8 @@ pub record InsideRead (D : Items → Type 0) (bs : List ℕ) (x : Items × ℕ) 
 
 -- a reader reads the documents of which D holds, and no others
 pub record Reads (f : Reader) (D : Items → Type 0) : Type 0 where
-  pub takes : (fills : Bool) (p : ℕ) (bs : List ℕ) (x : Items × ℕ) → AreBytes bs → f fills p bs ≡ Ok x → InsideRead D bs x
+  pub takes : (fills : Bool) (p : ℕ) (bs : List ℕ) (x : Items × ℕ) → AreBytes bs → f fills p bs ≡ Ok x
+      → InsideRead D bs x
   pub full : (p : ℕ) (bs : List ℕ) (x : Items × ℕ) → f true p bs ≡ Ok x → x.1 ≡ length bs
-  pub again : (fills : Bool) (p : ℕ) (bs : List ℕ) (is : Items) (n : ℕ) → IsInside D is → Begins bs (doc_bytes is) n → (fills ≡ true → n ≡ length bs) → f fills p bs ≡ Ok (is, n)
+  pub again : (fills : Bool) (p : ℕ) (bs : List ℕ) (is : Items) (n : ℕ) → IsInside D is → Begins bs (doc_bytes is) n
+      → (fills ≡ true → n ≡ length bs) → f fills p bs ≡ Ok (is, n)

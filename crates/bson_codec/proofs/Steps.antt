@@ -16,12 +16,14 @@ pub record Passed {A B : Type 0} (r : Result A BsonFault) (f : A → Result B Bs
   pub first : r ≡ Ok value
   pub then : f value ≡ Ok y
 
-pub bind_ok : {A B : Type 0} (r : Result A BsonFault) (f : A → Result B BsonFault) (y : B) → (r >>= f) ≡ Ok y → Passed r f y
+pub bind_ok : {A B : Type 0} (r : Result A BsonFault) (f : A → Result B BsonFault) (y : B) → (r >>= f) ≡ Ok y
+    → Passed r f y
 bind_ok (Ok x) f y e = record { value = x; first = refl; then = e }
 bind_ok (Err d) f y e = absurd cc
 
 -- two ways to go on that agree on the value of the first step
-pub bind_same : {A B : Type 0} (r : Result A BsonFault) (f g : A → Result B BsonFault) → ((x : A) → r ≡ Ok x → f x ≡ g x) → (r >>= f) ≡ (r >>= g)
+pub bind_same : {A B : Type 0} (r : Result A BsonFault) (f g : A → Result B BsonFault)
+    → ((x : A) → r ≡ Ok x → f x ≡ g x) → (r >>= f) ≡ (r >>= g)
 bind_same (Ok x) f g h = h x refl
 bind_same (Err d) f g h = refl
 

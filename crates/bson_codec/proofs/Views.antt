@@ -37,7 +37,8 @@ checked_spells bs u fits e =
     let read = document_takes bs (doc_of bs) fits (checked bs u e) in
     record { tree = doc_of bs; doc = read.doc; parts = read.parts }
 
-pub checked_only : (bs : List ℕ) (u : Unit {0}) → fault_of (document bs) ≡ Ok u → (is : Items) → IsDoc is → bs ≡ doc_bytes is → made is ≡ made (doc_of bs)
+pub checked_only : (bs : List ℕ) (u : Unit {0}) → fault_of (document bs) ≡ Ok u → (is : Items) → IsDoc is
+    → bs ≡ doc_bytes is → made is ≡ made (doc_of bs)
 checked_only bs u e is doc parts = sym (document_again bs is doc parts) ∙ checked bs u e
 
 with_fault : (r : Result Items BsonFault) (d : BsonFault) → fault_of r ≡ Err d → r ≡ Err d
@@ -47,7 +48,8 @@ with_fault (Err f) d e = let same : f ≡ d = cc in ap (λ (g : BsonFault). Err 
 pub checked_fault : (bs : List ℕ) (d : BsonFault) → fault_of (document bs) ≡ Err d → document bs ≡ Err d
 checked_fault bs d e = with_fault (document bs) d e
 
-pub refused_only : (bs : List ℕ) (d : BsonFault) → fault_of (document bs) ≡ Err d → (is : Items) → IsDoc is → bs ≡ doc_bytes is → made is ≡ Err d
+pub refused_only : (bs : List ℕ) (d : BsonFault) → fault_of (document bs) ≡ Err d → (is : Items) → IsDoc is
+    → bs ≡ doc_bytes is → made is ≡ Err d
 refused_only bs d e is doc parts = sym (document_again bs is doc parts) ∙ checked_fault bs d e
 
 -- ---- the bytes at the front
@@ -65,7 +67,10 @@ record Sized (r : Result (Items × ℕ) BsonFault) (n : ℕ) : Type 0 where
   is : r ≡ Ok (tree, n)
 
 sized : (r : Result (Items × ℕ) BsonFault) (n : ℕ) → width_of r ≡ Ok n → Sized r n
-sized (Ok x) n e = let width : x.1 ≡ n = ok_is x.1 n e in record { tree = x.0; is = ap (λ (m : ℕ). made (x.0, m)) width }
+sized (Ok x) n e = let width : x.1 ≡ n = ok_is x.1 n e in record {
+  tree = x.0;
+  is = ap (λ (m : ℕ). made (x.0, m)) width;
+}
 sized (Err d) n e = absurd (refused d n e)
 
 pub front_known : (bs : List ℕ) (n : ℕ) → AreBytes bs → width_of (front_document bs) ≡ Ok n → FrontKnown bs n

@@ -1,5 +1,6 @@
 -- Documents, their elements and lists of elements as they stand in bytes that were checked.
-use Rattle.std.specs.Prelude.{◌≡◌, ◌-◌, ℕ, Bool, true, false, ◌||◌, ◌==◌, List, [], Result, Ok, Err, refl, if◌then◌else◌, ◌+◌, ◌&&◌, nat_lt, length, Option, Some, None}
+use Rattle.std.specs.Prelude.{◌≡◌, ◌-◌, ℕ, Bool, true, false, ◌||◌, ◌==◌, List, [], Result, Ok, Err, refl}
+use Rattle.std.specs.Prelude.{if◌then◌else◌, ◌+◌, ◌&&◌, nat_lt, length, Option, Some, None}
 use Rattle.std.specs.Coded.{Coded, code_by, coded×, coded_ℕ}
 use Rattle.bson_tree.specs.Tree.{Tree, Items, leaf, node, no_items, item, tag_of}
 use Rattle.bson_tree.specs.Spelling.{value_bytes, items_bytes, doc_bytes}
@@ -14,7 +15,10 @@ pub record At : Type 0 where
   pub start : ℕ
 
 abbrev pub coded_at : Coded At
-coded_at = code_by (Items × ℕ) (coded× coded_items coded_ℕ) (λ a. (a.tree, a.start)) (λ p. record { tree = p.0; start = p.1 }) (λ _. refl)
+coded_at = code_by (Items × ℕ) (coded× coded_items coded_ℕ) (λ a. (a.tree, a.start)) (λ p. record {
+  tree = p.0;
+  start = p.1;
+}) (λ _. refl)
 
 -- an element: its name, its value, and the offset of the value's first byte
 pub record Elem : Type 0 where
@@ -90,7 +94,8 @@ has_inside (node tag is) = true
 
 -- the value of the element begins at `at` or, being a document or an array, holds it
 abbrev pub holds : ℕ → Elem → Bool
-holds at e = e.start == at || (has_inside e.tree && (nat_lt e.start at && nat_lt at (e.start + length (value_bytes e.tree))))
+holds at e = e.start == at || (has_inside e.tree &&
+    (nat_lt e.start at && nat_lt at (e.start + length (value_bytes e.tree))))
 
 -- the first element that holds `at`, and its number, among elements from number i on that begin at `start`
 abbrev pub holding : ℕ → ℕ → ℕ → Items → Option (ℕ × Elem)

@@ -36,7 +36,8 @@ Fails errors.Memory read = Unit {0}
 Fails (errors.Bson f) read = read ≡ Err f
 
 -- what a function returned, seen by `view`, is what reading gives, where `F` says what its errors tell of reading
-abbrev pub GivesBy : {E X Y : Type 0} → (E → Result Y BsonFault → Type 0) → (X → Y) → Result X E → Result Y BsonFault → Type 0
+abbrev pub GivesBy : {E X Y : Type 0} → (E → Result Y BsonFault → Type 0) → (X → Y) → Result X E → Result Y BsonFault
+    → Type 0
 GivesBy F view (Ok x) read = read ≡ Ok (view x)
 GivesBy F view (Err e) read = F e read
 

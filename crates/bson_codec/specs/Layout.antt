@@ -1,6 +1,7 @@
 -- BSON 1.1, the grammar as a property of trees: which trees have a spelling.
 -- `D` says which documents may stand inside a value.
-use Rattle.std.specs.Prelude.{◌≡◌, ◌+◌, ◌^◌, ◌<◌, ◌≤◌, ℕ, zero, suc, List, [], ◌∷◌, ◌++◌, length, Option, Some, None, ◌⊎◌}
+use Rattle.std.specs.Prelude.{◌≡◌, ◌+◌, ◌^◌, ◌<◌, ◌≤◌, ℕ, zero, suc, List, [], ◌∷◌, ◌++◌, length, Option, Some, None}
+use Rattle.std.specs.Prelude.{◌⊎◌}
 use Rattle.std.specs.Int.{to_le_bytes, w32}
 use Rattle.bson_tree.specs.Tree.{Tree, Items, leaf, node, no_items, item, tag_of}
 use Rattle.bson_tree.specs.Spelling.{doc_bytes}
@@ -54,7 +55,8 @@ pub record IsPointer (bytes : List ℕ) : Type 0 where
 
 -- BSON 1.1, "code_w_s": the bytes of code with its scope: the length of all, the code, the scope
 abbrev pub scope_bytes : List ℕ → Items → List ℕ
-scope_bytes code scope = to_le_bytes w32 (length (string_bytes code ++ doc_bytes scope) + 4) ++ (string_bytes code ++ doc_bytes scope)
+scope_bytes code scope = to_le_bytes w32 (length (string_bytes code ++ doc_bytes scope) + 4)
+    ++ (string_bytes code ++ doc_bytes scope)
 
 -- the bytes are those of code with its scope
 pub record IsScope (D : Items → Type 0) (bytes : List ℕ) : Type 0 where

@@ -1,6 +1,8 @@
 -- BSON 1.1, read from left to right, with the first fault. `p` is the offset of the first byte of `bs`,
 -- and `bs` ends before the final 00 of the document that the bytes stand in.
-use Rattle.std.specs.Prelude.{◌+◌, ◌-◌, ◌^◌, ℕ, zero, suc, Bool, true, false, ◌||◌, ◌&&◌, not, List, [], ◌∷◌, length, take, drop, get_or, Option, Some, None, option_map, Result, Ok, nat_lt, nat_le, ◌==◌, if◌then◌else◌}
+use Rattle.std.specs.Prelude.{◌+◌, ◌-◌, ◌^◌, ℕ, zero, suc, Bool, true, false, ◌||◌, ◌&&◌, not, List, [], ◌∷◌, length}
+use Rattle.std.specs.Prelude.{take, drop, get_or, Option, Some, None, option_map, Result, Ok, nat_lt, nat_le, ◌==◌}
+use Rattle.std.specs.Prelude.{if◌then◌else◌}
 use Rattle.std.specs.Int.{from_le_bytes, w32}
 use Rattle.bson_tree.specs.Tree.{Tree, Items, leaf, node, no_items, item}
 use Rattle.bson_codec.specs.declared.fault.BsonKind.TheVariants as kinds
@@ -25,7 +27,8 @@ int32_at p bs = if nat_lt (length bs) 4 then fault kinds.Short (p + length bs) e
 
 -- a length at p that is at least `least`, with `more` bytes beside what it counts: else Length at p
 unfoldable pub length_at : ℕ → ℕ → ℕ → ℕ → List ℕ → Result ℕ BsonFault
-length_at least more n p bs = if signed_below n least || nat_lt (length bs) (n + more) then fault kinds.Length p else Ok n
+length_at least more n p bs = if signed_below n least || nat_lt (length bs)
+    (n + more) then fault kinds.Length p else Ok n
 
 -- byte number i is 00: else NoEnd there
 unfoldable pub zero_at : ℕ → ℕ → List ℕ → Result (Unit {0}) BsonFault

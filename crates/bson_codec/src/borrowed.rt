@@ -60,7 +60,8 @@ pub fn first_doc<'a>(bytes: &'a [u8]) -> Result<(RawDoc<'a>, &'a [u8]), BsonFaul
     // What is read has a spelling, and the bytes are it and the rest.
     ensures found { IfOk result (λ x. IsDoc x.0.tree × (bytes.now ≡ doc_bytes x.0.tree ++ x.1.now) × (x.0.start ≡ 0)) }
     // What has a spelling is read from it, whatever follows.
-    ensures only { (is : Items) (rest : List ℕ) → IsDoc is → bytes.now ≡ doc_bytes is ++ rest → Seen {Y = Items × ℕ} (λ x. (x.0.tree, length (doc_bytes x.0.tree))) result (Ok (is, length (doc_bytes is))) }
+    ensures only { (is : Items) (rest : List ℕ) → IsDoc is → bytes.now ≡ doc_bytes is ++ rest
+        → Seen {Y = Items × ℕ} (λ x. (x.0.tree, length (doc_bytes x.0.tree))) result (Ok (is, length (doc_bytes is))) }
     // Which document and how many bytes, or which fault.
     ensures exact { Seen (λ x. (x.0.tree, length (doc_bytes x.0.tree))) result (front_document bytes.now) }
 {

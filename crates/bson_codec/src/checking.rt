@@ -1,7 +1,8 @@
 //! Bytes judged without a tree, in no memory: the same faults, and the number of bytes.
 
 ghost use Rattle.std.specs.Prelude.{◌≡◌, ◌+◌, ◌<◌, ◌≤◌, ◌^◌, length, IfOk, MatchBool};
-ghost use Rattle.bson_codec.specs.Reading.{raw_at, scope_at, value_at, first_at, elements_at, framed_at, inside_at, width_of, first_width, fault_of};
+ghost use Rattle.bson_codec.specs.Reading.{raw_at, scope_at, value_at, first_at, elements_at, framed_at, inside_at};
+ghost use Rattle.bson_codec.specs.Reading.{width_of, first_width, fault_of};
 ghost use Rattle.bson_codec.specs.Borrowed.{SpellsWithin};
 
 use crate::fault::{BsonFault, BsonKind};

@@ -7,7 +7,8 @@ ghost use Rattle.bson_tree.specs.View.{tree};
 ghost use Rattle.std.specs.Int.{from_le_bytes, w32};
 ghost use Rattle.bson_codec.specs.Fault.{Gives};
 ghost use Rattle.bson_codec.specs.Layout.{IsDoc, longest};
-ghost use Rattle.bson_codec.specs.Reading.{type_at, value_at, first_at, elements_at, framed_at, inside_at, stated_at, total_at, document, front_document};
+ghost use Rattle.bson_codec.specs.Reading.{type_at, value_at, first_at, elements_at, framed_at, inside_at, stated_at};
+ghost use Rattle.bson_codec.specs.Reading.{total_at, document, front_document};
 
 use crate::checking::raw_length;
 use crate::fault::{BsonFault, BsonKind, CodecFault};
@@ -56,7 +57,8 @@ fn first_of(
     at: usize,
 ) -> Result<(Bytes, Value, usize), CodecFault>
     requires { at + length bytes.now < 2 ^ 63 }
-    ensures read { Gives (λ x. record { name = x.0; tree = tree x.1; width = x.2 }) result (first_at (inside_at levels) at bytes.now) }
+    ensures read { Gives (λ x. record { name = x.0; tree = tree x.1; width = x.2 }) result
+        (first_at (inside_at levels) at bytes.now) }
     ensures fits { IfOk result (λ x. (x.2 ≤ length bytes.now) × (0 < x.2)) }
 {
     match bytes {
@@ -159,9 +161,11 @@ pub fn decode(alloc: Global, bytes: &[u8]) -> Result<Doc, CodecFault>
 pub fn decode_front(alloc: Global, bytes: &[u8]) -> Result<(Doc, usize), CodecFault>
     requires { length bytes.now ≤ longest }
     // What is read has a spelling, and the bytes begin with it.
-    ensures found { IfOk result (λ x. IsDoc x.0.kids × (x.1 ≤ length bytes.now) × (take x.1 bytes.now ≡ doc_bytes x.0.kids)) }
+    ensures found { IfOk result (λ x. IsDoc x.0.kids × (x.1 ≤ length bytes.now)
+        × (take x.1 bytes.now ≡ doc_bytes x.0.kids)) }
     // What has a spelling is read from it, whatever follows.
-    ensures only { (is : Items) (rest : List ℕ) → IsDoc is → bytes.now ≡ doc_bytes is ++ rest → Gives {Y = Items × ℕ} (λ x. (x.0.kids, x.1)) result (Ok (is, length (doc_bytes is))) }
+    ensures only { (is : Items) (rest : List ℕ) → IsDoc is → bytes.now ≡ doc_bytes is ++ rest
+        → Gives {Y = Items × ℕ} (λ x. (x.0.kids, x.1)) result (Ok (is, length (doc_bytes is))) }
     // Which tree and length, or which fault.
     ensures exact { Gives (λ x. (x.0.kids, x.1)) result (front_document bytes.now) }
     // The smallest document has 5 bytes.

@@ -81,7 +81,8 @@ fn front_of(bytes: &[u8]) -> Result<Front, BsonFault>
 pub fn parts_of<'a>(bytes: &'a [u8]) -> Option<Parts<'a>>
     requires spelled { SpellsElements bytes.now }
     requires room { length bytes.now < 2 ^ 31 }
-    ensures parts { MatchOption result (elements_of bytes.now ≡ no_items) (λ x. IsParted bytes.now x.tag x.name.now x.value.now x.rest.now) }
+    ensures parts { MatchOption result (elements_of bytes.now ≡ no_items)
+        (λ x. IsParted bytes.now x.tag x.name.now x.value.now x.rest.now) }
 {
     match front_of(bytes) {
         Err(_) => None,

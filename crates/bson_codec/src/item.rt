@@ -1,9 +1,11 @@
 //! Elements of checked documents, which borrow the bytes.
 
-ghost use Rattle.std.specs.Prelude.{◌≡◌, ◌-◌, ◌+◌, ◌<◌, ◌^◌, ◌==◌, ◌≤◌, length, take, drop, is_some, IfSome, MatchOption};
+ghost use Rattle.std.specs.Prelude.{◌≡◌, ◌-◌, ◌+◌, ◌<◌, ◌^◌, ◌==◌, ◌≤◌, length, take, drop, is_some, IfSome};
+ghost use Rattle.std.specs.Prelude.{MatchOption};
 ghost use Rattle.bson_tree.specs.Spelling.{value_bytes};
 ghost use Rattle.bson_tree.specs.Tree.{leaf, node, no_items, tag_of, kids_of};
-ghost use Rattle.bson_codec.specs.Layout.{string_bytes, binary_bytes, scope_bytes, IsDoc, IsValue, IsItems, level_limit};
+ghost use Rattle.bson_codec.specs.Layout.{string_bytes, binary_bytes, scope_bytes, IsDoc, IsValue, IsItems};
+ghost use Rattle.bson_codec.specs.Layout.{level_limit};
 ghost use Rattle.bson_codec.specs.Borrowed.{doc_of, holds, is_inner, SpellsDoc, SpellsValue};
 
 use crate::borrowed::RawDoc;
@@ -71,7 +73,8 @@ impl<'a> RawItem<'a> {
     pub fn child(&self) -> Option<RawDoc<'a>>
         ensures kind { is_some result ≡ is_inner (tag_of self.now.tree) }
         ensures inside { MatchOption result (kids_of self.now.tree ≡ no_items) (λ d. kids_of self.now.tree ≡ d.tree) }
-        ensures node { MatchOption result (self.now.tree ≡ leaf (tag_of self.now.tree) (value_bytes self.now.tree)) (λ d. self.now.tree ≡ node (tag_of self.now.tree) d.tree) }
+        ensures node { MatchOption result (self.now.tree ≡ leaf (tag_of self.now.tree) (value_bytes self.now.tree))
+            (λ d. self.now.tree ≡ node (tag_of self.now.tree) d.tree) }
         ensures start { IfSome result (λ d. d.start ≡ self.now.start) }
     {
         if !has_document(self.tag) {

@@ -12,13 +12,16 @@ ghost use Rattle.bson_codec.specs.Reading.{document, front_document};
 /// Bytes are read without a fault exactly where they are the spelling of a document, and what is read is
 /// that document.
 pub fn no_fault_where_spelled()
-    ensures tree { (bytes : List ℕ) (is : Items) → AreBytes bytes → (document bytes ≡ Ok is) ↔ (IsDoc is × (bytes ≡ doc_bytes is)) }
-    ensures fault { (bytes : List ℕ) → AreBytes bytes → IsOk (document bytes) ↔ ((is : Items) × IsDoc is × (bytes ≡ doc_bytes is)) }
+    ensures tree { (bytes : List ℕ) (is : Items) → AreBytes bytes → (document bytes ≡ Ok is)
+        ↔ (IsDoc is × (bytes ≡ doc_bytes is)) }
+    ensures fault { (bytes : List ℕ) → AreBytes bytes → IsOk (document bytes)
+        ↔ ((is : Items) × IsDoc is × (bytes ≡ doc_bytes is)) }
 {}
 
 /// A document is read at the front of bytes exactly where they begin with its spelling.
 pub fn front_where_spelled()
-    ensures { (bytes rest : List ℕ) (is : Items) → IsDoc is → bytes ≡ doc_bytes is ++ rest → front_document bytes ≡ Ok (is, length (doc_bytes is)) }
+    ensures { (bytes rest : List ℕ) (is : Items) → IsDoc is → bytes ≡ doc_bytes is ++ rest
+        → front_document bytes ≡ Ok (is, length (doc_bytes is)) }
 {}
 
 /// No two documents have the same spelling.
@@ -34,7 +37,8 @@ pub fn no_proper_prefix()
 /// Values at distinct places begin at distinct offsets: the place of the offset at which a value begins is its own,
 /// and that of offset 0 is the document itself.
 pub fn one_place()
-    ensures distinct { (is : Items) (place other : List ℕ) (at : ℕ) → start_of place is ≡ Some at → start_of other is ≡ Some at → place ≡ other }
+    ensures distinct { (is : Items) (place other : List ℕ) (at : ℕ) → start_of place is ≡ Some at
+        → start_of other is ≡ Some at → place ≡ other }
     ensures begun { (is : Items) (place : List ℕ) (at : ℕ) → start_of place is ≡ Some at → place_of at is ≡ place }
     ensures head { (is : Items) → place_of 0 is ≡ [] }
 {}

@@ -36,7 +36,8 @@ fn is_name(bytes: &[u8]) -> bool
 
 // Whether the bytes have this layout, where documents inside may add so many levels.
 fn is_raw(levels: u32, layout: RawLayout, bytes: &[u8]) -> bool
-    ensures laid { MatchBool result (IsRaw (IsItems levels) layout bytes.now) (IsRaw (IsItems levels) layout bytes.now → ⊥) }
+    ensures laid { MatchBool result (IsRaw (IsItems levels) layout bytes.now) (IsRaw (IsItems levels) layout bytes.now
+        → ⊥) }
 {
     match raw_length(levels, layout, bytes, 0) {
         Ok(n) => n == bytes.len(),
@@ -47,7 +48,8 @@ fn is_raw(levels: u32, layout: RawLayout, bytes: &[u8]) -> bool
 #[cycle(measure)]
 fn measure_value(value: &Value, levels: u32, room: u64) -> Option<u64>
     requires { room < 2 ^ 31 }
-    ensures size { Measures result (IsValue (IsItems levels) (tree value.now)) (length (value_bytes (tree value.now))) room }
+    ensures size { Measures result (IsValue (IsItems levels) (tree value.now))
+        (length (value_bytes (tree value.now))) room }
 {
     let layout = layout_of(value.tag)?;
     match (layout, &value.body) {
@@ -99,7 +101,8 @@ fn measure_items(kids: &Kids, levels: u32, room: u64) -> Option<u64>
 #[cycle(measure)]
 fn measure_element(name: &Bytes, value: &Value, levels: u32, room: u64) -> Option<u64>
     requires { room < 2 ^ 31 }
-    ensures size { Measures result (IsName name.now × IsValue (IsItems levels) (tree value.now)) (length name.now + 2 + length (value_bytes (tree value.now))) room }
+    ensures size { Measures result (IsName name.now × IsValue (IsItems levels) (tree value.now))
+        (length name.now + 2 + length (value_bytes (tree value.now))) room }
 {
     let bytes = name.as_slice();
     let n = bytes.len() as u64;

@@ -2,7 +2,9 @@
 //! and ends before the last byte of the document that it stands in.
 
 ghost use Rattle.std.specs.Prelude.{◌≡◌, ◌+◌, ◌<◌, ◌≤◌, ◌^◌, length, IfOk, IfSome};
-ghost use Rattle.bson_codec.specs.Reading.{signed_below, int32_at, length_at, zero_at, before_zero, cstring_at, bytes_at, bool_at, string_at, binary_at, regex_at, pointer_at, type_at, inside_length_at};
+ghost use Rattle.bson_codec.specs.Reading.{signed_below, int32_at, length_at, zero_at, before_zero, cstring_at};
+ghost use Rattle.bson_codec.specs.Reading.{bytes_at, bool_at, string_at, binary_at, regex_at, pointer_at, type_at};
+ghost use Rattle.bson_codec.specs.Reading.{inside_length_at};
 
 use crate::fault::{BsonFault, BsonKind};
 use crate::table::{ValueLayout, layout_of};

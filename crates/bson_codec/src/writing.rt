@@ -48,7 +48,8 @@ pub fn open(out: &mut Vec<u8>) -> Result<(), Memory>
 pub fn close(out: &mut Vec<u8>, at: usize) -> Result<(), Memory>
     requires begun { at + 4 ≤ length out.old.items }
     requires small { length out.old.items - at < 2 ^ 31 }
-    ensures closed { OnOk result ((front elements : List ℕ) → length front ≡ at → out.old.items ≡ front ++ (0 ∷ (0 ∷ (0 ∷ (0 ∷ elements)))) → out.new.items ≡ front ++ framed elements) }
+    ensures closed { OnOk result ((front elements : List ℕ) → length front ≡ at
+        → out.old.items ≡ front ++ (0 ∷ (0 ∷ (0 ∷ (0 ∷ elements)))) → out.new.items ≡ front ++ framed elements) }
 {
     append(out, &[0])?;
     let size = (out.len() - at) as u32;

@@ -1,5 +1,6 @@
 -- What the elements of a `Vec` of named values are, as a list of named values.
-use Rattle.std.proofs.Common.{◌≡◌, ℕ, ◌+◌, ◌<◌, ◌≤◌, zero, suc, List, [], ◌∷◌, ◌++◌, length, get_or, refl, sym, ap, arith, add-one}
+use Rattle.std.proofs.Common.{◌≡◌, ℕ, ◌+◌, ◌<◌, ◌≤◌, zero, suc, List, [], ◌∷◌, ◌++◌, length, get_or, refl, sym, ap}
+use Rattle.std.proofs.Common.{arith, add-one}
 use Rattle.std.specs.Prelude.{Some, None}
 use Rattle.bson_tree.specs.declared.tree.Value.{Value}
 use Rattle.bson_tree.specs.Tree.{no_items, item, count, join, after, name_at, nth}
@@ -22,7 +23,8 @@ pub after_at : (i : ℕ) (pairs : List (List ℕ × Value)) (p : List ℕ × Val
 after_at i [] p below e = absurd (omega arith)
 after_at zero (pair ∷ pairs) p below e = ap (λ (q : List ℕ × Value). item q.0 (tree q.1) (items_of pairs)) (sym e)
 after_at (suc i) (pair ∷ pairs) p below e =
-    let here : after i (items_of pairs) ≡ item p.0 (tree p.1) (after (i + 1) (items_of pairs)) = after_at i pairs p (omega arith) e in
+    let here : after i (items_of pairs) ≡ item p.0 (tree p.1) (after (i + 1) (items_of pairs)) =
+    after_at i pairs p (omega arith) e in
     rw add-one (rw add-one at here)
 
 -- the value and the name of child number i are those of element i

@@ -11,4 +11,8 @@ framed_size elements = omega (arith, length-append elements (0 ∷ []))
 pub element_size : (name : List ℕ) (t : Tree) (is : Items)
     → length (items_bytes (item name t is)) ≡ length name + 2 + length (value_bytes t) + length (items_bytes is)
 element_size name t is =
-    omega (arith, length-append name (0 ∷ (value_bytes t ++ items_bytes is)), length-append (value_bytes t) (items_bytes is))
+    omega (
+      arith,
+      length-append name (0 ∷ (value_bytes t ++ items_bytes is)),
+      length-append (value_bytes t) (items_bytes is),
+    )

@@ -11,7 +11,8 @@ abbrev pub small : Items
 small =
     item
     (97 ∷ [])
-    (node 4 (item (48 ∷ []) (leaf 8 (1 ∷ [])) (item (49 ∷ []) (node 3 (item (98 ∷ []) (leaf 10 []) no_items)) no_items)))
+    (node 4 (item (48 ∷ []) (leaf 8 (1 ∷ [])) (item (49 ∷ [])
+    (node 3 (item (98 ∷ []) (leaf 10 []) no_items)) no_items)))
     (item (99 ∷ []) (leaf 8 (0 ∷ [])) no_items)
 
 -- the document itself, the array, its two values with the inner one, and the last element
@@ -26,7 +27,8 @@ raw_has_no_place = refl
 
 -- BSON 1.1: 4 bytes of length, then type, name, 00 and value of each element
 pub bytes_are : doc_bytes small
-    ≡ 32 ∷ 0 ∷ 0 ∷ 0 ∷ 4 ∷ 97 ∷ 0 ∷ 20 ∷ 0 ∷ 0 ∷ 0 ∷ 8 ∷ 48 ∷ 0 ∷ 1 ∷ 3 ∷ 49 ∷ 0 ∷ 8 ∷ 0 ∷ 0 ∷ 0 ∷ 10 ∷ 98 ∷ 0 ∷ 0 ∷ 0 ∷ 8 ∷ 99 ∷ 0 ∷ 0 ∷ 0 ∷ []
+    ≡ 32 ∷ 0 ∷ 0 ∷ 0 ∷ 4 ∷ 97 ∷ 0 ∷ 20 ∷ 0 ∷ 0 ∷ 0 ∷ 8 ∷ 48 ∷ 0 ∷ 1 ∷ 3 ∷ 49 ∷ 0 ∷ 8 ∷ 0 ∷ 0 ∷ 0 ∷ 10 ∷ 98 ∷ 0 ∷ 0 ∷ 0
+    ∷ 8 ∷ 99 ∷ 0 ∷ 0 ∷ 0 ∷ []
 bytes_are = refl
 
 pub start_is : start_of (0 ∷ 1 ∷ 0 ∷ []) small ≡ Some 25

@@ -55,7 +55,9 @@ abbrev mutual
 abbrev pub take_word : List ℕ → Stack → Stack
 take_word [] s = s
 take_word (kind ∷ word) s =
-    cond (kind == 0) (push_tree (leaf (first_byte word) (rest_of word)) s) (cond (kind == 1) (close_node (first_byte word) s) (cond (kind == 2) (push_items no_items s) (close_item word s)))
+    cond (kind == 0) (push_tree (leaf (first_byte word) (rest_of word)) s)
+    (cond (kind == 1) (close_node (first_byte word) s)
+    (cond (kind == 2) (push_items no_items s) (close_item word s)))
 
 abbrev pub take_words : List (List ℕ) → Stack
 take_words [] = record { trees = []; lists = [] }
@@ -67,7 +69,8 @@ mutual
   tree_back (leaf tag bytes) words = refl
   tree_back (node tag is) words = ap (close_node tag) (items_back is words)
 
-  pub items_back : (is : Items) (words : List (List ℕ)) → take_words (put_items is words) ≡ push_items is (take_words words)
+  pub items_back : (is : Items) (words : List (List ℕ))
+      → take_words (put_items is words) ≡ push_items is (take_words words)
   items_back no_items words = refl
   items_back (item name t is) words =
       ap (close_item name) (tree_back t (put_items is words) ∙ ap (push_tree t) (items_back is words))
@@ -79,4 +82,5 @@ pub read_items-put_items : (is : Items) → read_items (put_items is []) ≡ is
 read_items-put_items is = ap (λ (s : Stack). first_list s.lists) (items_back is [])
 
 abbrev pub coded_items : Coded Items
-coded_items = code_by (List (List ℕ)) (coded_list (coded_list coded_ℕ)) (λ is. put_items is []) read_items read_items-put_items
+coded_items = code_by (List (List ℕ)) (coded_list (coded_list coded_ℕ))
+    (λ is. put_items is []) read_items read_items-put_items

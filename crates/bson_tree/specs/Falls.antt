@@ -13,6 +13,7 @@ pub deep_body_le : (tag : ℕ) (b : Body) → deep-Body b ≤ tree_size (body_tr
 deep_body_le tag (body.Raw bytes) = omega arith
 deep_body_le tag (body.Kids is) = omega arith
 
-pub falls : (pairs : List (List ℕ × Value)) → max (most (λ p. max 0 (max (deep-Value p.1) 0)) pairs) 0 ≤ items_size (items_of pairs)
+pub falls : (pairs : List (List ℕ × Value)) → max (most (λ p. max 0 (max (deep-Value p.1) 0)) pairs) 0
+    ≤ items_size (items_of pairs)
 falls [] = omega arith
 falls (pair ∷ pairs) = omega (arith, falls pairs, deep_body_le pair.1.tag pair.1.body)

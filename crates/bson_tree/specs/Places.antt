@@ -1,5 +1,6 @@
 -- Places in a document: lists of child numbers from 0. The empty place is the document itself.
-use Rattle.std.specs.Prelude.{◌+◌, ◌==◌, ℕ, zero, suc, Bool, false, List, [], ◌∷◌, ◌++◌, map, length, Option, Some, None, option_and_then, if◌then◌else◌}
+use Rattle.std.specs.Prelude.{◌+◌, ◌==◌, ℕ, zero, suc, Bool, false, List, [], ◌∷◌, ◌++◌, map, length, Option, Some}
+use Rattle.std.specs.Prelude.{None, option_and_then, if◌then◌else◌}
 use Rattle.std.specs.Option.{option_map_or}
 use Rattle.bson_tree.specs.Tree.{Tree, Items, leaf, node, no_items, item, nth, kids_of}
 use Rattle.bson_tree.specs.Spelling.{value_bytes}

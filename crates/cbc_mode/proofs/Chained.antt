@@ -1,15 +1,19 @@
 -- The chain of blocks, one block further.
-use Rattle.std.proofs.Common.{◌≡◌, ℕ, zero, suc, ◌+◌, ◌-◌, ◌*◌, ◌/◌, ◌<◌, ◌≤◌, List, [], ◌∷◌, ◌++◌, length, take, drop, arith, ap, refl, get_or, bit_xor}
-use Rattle.std.proofs.lemmas.List.{append_assoc, append-nil, drop-drop, drop_at, length-append, length-take-le, take_all, take_at}
+use Rattle.std.proofs.Common.{◌≡◌, ℕ, zero, suc, ◌+◌, ◌-◌, ◌*◌, ◌/◌, ◌<◌, ◌≤◌, List, [], ◌∷◌, ◌++◌, length, take, drop}
+use Rattle.std.proofs.Common.{arith, ap, refl, get_or, bit_xor}
+use Rattle.std.proofs.lemmas.List.{append_assoc, append-nil, drop-drop, drop_at, length-append, length-take-le}
+use Rattle.std.proofs.lemmas.List.{take_all, take_at}
 use Rattle.aes_block.specs.Block.{xor_bytes}
 use Rattle.aes_block.specs.Cipher.{cipher, inv_cipher}
 use Rattle.cbc_mode.specs.Cbc.{sealed_blocks, opened_blocks, cbc_sealed, cbc_opened}
 
 -- the exclusive or of two lists, one byte further
 pub xor_bytes-more : (a b : List ℕ) (i : ℕ) → i < length a → i < length b
-    → xor_bytes (take (suc i) a) (take (suc i) b) ≡ xor_bytes (take i a) (take i b) ++ bit_xor (get_or a i 0) (get_or b i 0) ∷ []
+    → xor_bytes (take (suc i) a) (take (suc i) b)
+    ≡ xor_bytes (take i a) (take i b) ++ bit_xor (get_or a i 0) (get_or b i 0) ∷ []
 xor_bytes-more (x ∷ a) (y ∷ b) zero p q = refl
-xor_bytes-more (x ∷ a) (y ∷ b) (suc i) p q = ap (λ s. bit_xor x y ∷ s) (xor_bytes-more a b i (omega arith) (omega arith))
+xor_bytes-more (x ∷ a) (y ∷ b) (suc i) p q = ap (λ s. bit_xor x y ∷ s)
+    (xor_bytes-more a b i (omega arith) (omega arith))
 xor_bytes-more [] b i p q = absurd (omega arith)
 xor_bytes-more (x ∷ a) [] i p q = absurd (omega arith)
 
@@ -50,7 +54,14 @@ put-behind i m out b new put room long far =
     let at : m ≡ (16 * i + 16) + k = omega arith in
     let front : length (take (16 * i) out ++ b) ≡ 16 * i + 16 =
     omega (arith, length-append (take (16 * i) out) b, length-take-le (16 * i) out (omega arith)) in
-    rw (at, put, ← append_assoc, ← drop-drop k (16 * i + 16), drop_at (take (16 * i) out ++ b) _ (16 * i + 16) front, drop-drop) refl
+    rw (
+      at,
+      put,
+      ← append_assoc,
+      ← drop-drop k (16 * i + 16),
+      drop_at (take (16 * i) out ++ b) _ (16 * i + 16) front,
+      drop-drop,
+    ) refl
 
 -- what the loop of sealing keeps, one block further
 pub seal_step : (w : List ℕ) (n i : ℕ) (before p out c new whole : List ℕ) → i < n

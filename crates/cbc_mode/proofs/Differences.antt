@@ -12,7 +12,8 @@ or_none a b e = (omega (arith, le_or_l a b, e), omega (arith, le_or_r a b, e))
 
 pub xor_none : (a b : ℕ) → bit_xor a b ≡ 0 → a ≡ b
 xor_none a b e =
-    sym (xor_zero_r a) ∙ ap (bit_xor a) (sym e) ∙ sym (xor_assoc a a b) ∙ ap (λ x. bit_xor x b) (xor_self a) ∙ xor_zero_l b
+    sym (xor_zero_r a) ∙ ap (bit_xor a) (sym e) ∙ sym (xor_assoc a a b) ∙ ap (λ x. bit_xor x b) (xor_self a)
+    ∙ xor_zero_l b
 
 pub or_zeros : (a b : ℕ) → a ≡ 0 → b ≡ 0 → bit_or a b ≡ 0
 or_zeros a b e f = rw (e, f) (or_zero_l 0)

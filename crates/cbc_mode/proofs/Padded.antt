@@ -1,6 +1,9 @@
 -- The padded message, block by block.
-use Rattle.std.proofs.Common.{◌≡◌, ℕ, ◌+◌, ◌-◌, ◌*◌, ◌/◌, ◌%◌, ◌<◌, ◌≤◌, List, ◌++◌, length, take, drop, replicate, arith, ap, sym, ◌∙◌, refl, get_or}
-use Rattle.std.proofs.lemmas.List.{append_assoc, get_or-append_right, get_or-drop, get_or-replicate, length-append, length-drop, length-replicate, length-take-le, drop-append-le, drop-replicate, take-append-drop, take-append-le, take_all, take_at}
+use Rattle.std.proofs.Common.{◌≡◌, ℕ, ◌+◌, ◌-◌, ◌*◌, ◌/◌, ◌%◌, ◌<◌, ◌≤◌, List, ◌++◌, length, take, drop, replicate}
+use Rattle.std.proofs.Common.{arith, ap, sym, ◌∙◌, refl, get_or}
+use Rattle.std.proofs.lemmas.List.{append_assoc, get_or-append_right, get_or-drop, get_or-replicate, length-append}
+use Rattle.std.proofs.lemmas.List.{length-drop, length-replicate, length-take-le, drop-append-le, drop-replicate}
+use Rattle.std.proofs.lemmas.List.{take-append-drop, take-append-le, take_all, take_at}
 use Rattle.std.proofs.lemmas.Grind.{same_number_lists}
 use Rattle.std.proofs.Math.Seq.{take-add}
 use Rattle.cbc_mode.specs.Padding.{pad}
@@ -8,7 +11,11 @@ use Rattle.cbc_mode.specs.Padding.{pad}
 pub length-pad : (p : List ℕ) → length (pad p) ≡ 16 * (length p / 16 + 1)
 unfolding pad
 length-pad p =
-    omega (arith, length-append p (replicate (16 - length p % 16) (16 - length p % 16)), length-replicate (16 - length p % 16) (16 - length p % 16))
+    omega (
+      arith,
+      length-append p (replicate (16 - length p % 16) (16 - length p % 16)),
+      length-replicate (16 - length p % 16) (16 - length p % 16),
+    )
 
 -- whole blocks at the front leave the padding as it is
 pub drop-pad : (p : List ℕ) (at : ℕ) → at ≤ length p → at % 16 ≡ 0 → drop at (pad p) ≡ pad (drop at p)
@@ -50,7 +57,8 @@ padded_from b v long low high same =
     let count : length (drop (16 - v) b) ≡ v = omega (arith, length-drop (16 - v) b) in
     let back : drop (16 - v) b ≡ replicate v v =
     same_number_lists (drop (16 - v) b) (replicate v v) (omega (arith, count, length-replicate v v))
-    (λ k below. get_or-drop (16 - v) b k 0 ∙ same (16 - v + k) (omega arith) (omega (arith, count)) ∙ sym (get_or-replicate v k v 0 (omega (arith, count)))) in
+    (λ k below. get_or-drop (16 - v) b k 0 ∙ same (16 - v + k) (omega arith) (omega (arith, count))
+    ∙ sym (get_or-replicate v k v 0 (omega (arith, count)))) in
     rw (n, ← back) (sym (take-append-drop (16 - v) b))
 
 -- and a padded block ends so

@@ -1,5 +1,6 @@
 -- Opening undoes sealing (SP 800-38A, 6.2).
-use Rattle.std.proofs.Common.{◌≡◌, ℕ, zero, suc, ◌+◌, ◌-◌, ◌*◌, ◌/◌, ◌%◌, ◌<◌, ◌≤◌, List, [], ◌∷◌, ◌++◌, length, take, drop, arith, ap, sym, ◌∙◌, refl}
+use Rattle.std.proofs.Common.{◌≡◌, ℕ, zero, suc, ◌+◌, ◌-◌, ◌*◌, ◌/◌, ◌%◌, ◌<◌, ◌≤◌, List, [], ◌∷◌, ◌++◌, length, take}
+use Rattle.std.proofs.Common.{drop, arith, ap, sym, ◌∙◌, refl}
 use Rattle.std.specs.List.{All}
 use Rattle.std.proofs.Math.Seq.{take-add}
 use Rattle.std.proofs.lemmas.List.Elements.{All-append, All-drop, All-replicate}
@@ -23,7 +24,12 @@ unfolding sealed_blocks
 length-sealed_blocks w zero before p = refl
 length-sealed_blocks w (suc n) before p =
     let c : List ℕ = cipher w (xor_bytes (take 16 p) before) in
-    omega (arith, length-append c (sealed_blocks w n c (drop 16 p)), length-cipher w (xor_bytes (take 16 p) before), length-sealed_blocks w n c (drop 16 p))
+    omega (
+      arith,
+      length-append c (sealed_blocks w n c (drop 16 p)),
+      length-cipher w (xor_bytes (take 16 p) before),
+      length-sealed_blocks w n c (drop 16 p),
+    )
 
 pub length-cbc_sealed : (w iv p : List ℕ) → length (cbc_sealed w iv p) ≡ 16 * (length p / 16)
 unfolding cbc_sealed
@@ -46,9 +52,11 @@ blocks_undone w (suc n) before p block bytes long =
     let head : take 16 (c ++ rest) ≡ c = take_at c rest 16 (length-cipher w x) in
     let tail : drop 16 (c ++ rest) ≡ rest = drop_at c rest 16 (length-cipher w x) in
     let here : xor_bytes (inv_cipher w c) before ≡ take 16 p =
-    ap (λ s. xor_bytes s before) (inv_cipher-cipher w x mixed) ∙ xor_bytes-xor_bytes _ _ (omega (arith, first.len, block.len)) in
+    ap (λ s. xor_bytes s before) (inv_cipher-cipher w x mixed)
+    ∙ xor_bytes-xor_bytes _ _ (omega (arith, first.len, block.len)) in
     let after : opened_blocks w n c rest ≡ take (16 * n) (drop 16 p) =
-    blocks_undone w n c (drop 16 p) (IsBlock-cipher w x mixed) (All-drop (λ b. b < 256) 16 p bytes) (omega (arith, length-drop 16 p)) in
+    blocks_undone w n c (drop 16 p) (IsBlock-cipher w x mixed) (All-drop (λ b. b < 256) 16 p bytes)
+    (omega (arith, length-drop 16 p)) in
     let count : 16 * suc n ≡ 16 + 16 * n = omega arith in
     rw (head, tail, here, after, count) (sym (take-add 16 (16 * n) p))
 
@@ -65,7 +73,8 @@ cbc_undone w iv p block bytes whole =
 pub All-pad : (p : List ℕ) → All (λ b. b < 256) p → All (λ b. b < 256) (pad p)
 unfolding pad
 All-pad p bytes =
-    All-append (λ b. b < 256) p _ bytes (All-replicate (λ b. b < 256) (16 - length p % 16) (16 - length p % 16) (omega arith))
+    All-append (λ b. b < 256) p _ bytes (All-replicate (λ b. b < 256) (16 - length p % 16) (16 - length p % 16)
+    (omega arith))
 
 -- what was sealed opens to its padded form
 pub cbc_undone-pad : (w iv p : List ℕ) → IsBlock iv → All (λ b. b < 256) p
@@ -76,7 +85,8 @@ cbc_undone-pad w iv p block bytes = cbc_undone w iv (pad p) block (All-pad p byt
 pub cbc_determines : (w iv p q : List ℕ) → IsBlock iv → All (λ b. b < 256) p → All (λ b. b < 256) q
     → cbc_sealed w iv (pad p) ≡ cbc_sealed w iv (pad q) → p ≡ q
 cbc_determines w iv p q block ps qs same =
-    pad-injective p q (sym (cbc_undone-pad w iv p block ps) ∙ ap (cbc_opened w iv) same ∙ cbc_undone-pad w iv q block qs)
+    pad-injective p q (sym (cbc_undone-pad w iv p block ps) ∙ ap (cbc_opened w iv) same
+    ∙ cbc_undone-pad w iv q block qs)
 
 length-xor_bytes : (a b : List ℕ) → length a ≤ length b → length (xor_bytes a b) ≡ length a
 length-xor_bytes [] b l = refl
@@ -104,7 +114,8 @@ blocks_redone w (suc n) before c long bytes room =
     let here : cipher w (xor_bytes x before) ≡ take 16 c =
     ap (cipher w) (xor_bytes-xor_bytes d before (omega arith)) ∙ cipher-inv_cipher w (take 16 c) first in
     let after : sealed_blocks w n (take 16 c) rest ≡ take (16 * n) (drop 16 c) =
-    blocks_redone w n (take 16 c) (drop 16 c) first.len (All-drop (λ b. b < 256) 16 c bytes) (omega (arith, length-drop 16 c)) in
+    blocks_redone w n (take 16 c) (drop 16 c) first.len (All-drop (λ b. b < 256) 16 c bytes)
+    (omega (arith, length-drop 16 c)) in
     let count : 16 * suc n ≡ 16 + 16 * n = omega arith in
     rw (head, tail, here, after, count) (sym (take-add 16 (16 * n) c))
 
@@ -116,7 +127,15 @@ length-opened_blocks w (suc n) before c long room =
     let d : List ℕ = inv_cipher w (take 16 c) in
     let dl : length d ≡ 16 = length-inv_cipher w (take 16 c) in
     let rest : List ℕ = opened_blocks w n (take 16 c) (drop 16 c) in
-    omega (arith, length-append (xor_bytes d before) rest, length-xor_bytes d before (omega arith), dl, length-drop 16 c, length-opened_blocks w n (take 16 c) (drop 16 c) (length-take-le 16 c (omega arith)) (omega (arith, length-drop 16 c)))
+    omega (
+      arith,
+      length-append (xor_bytes d before) rest,
+      length-xor_bytes d before (omega arith),
+      dl,
+      length-drop 16 c,
+      length-opened_blocks w n (take 16 c) (drop 16 c) (length-take-le 16 c (omega arith))
+          (omega (arith, length-drop 16 c)),
+    )
 
 -- SP 800-38A, 6.2: CBC Encryption undoes CBC Decryption, on whole blocks of bytes
 pub cbc_redone : (w iv c : List ℕ) → IsBlock iv → All (λ b. b < 256) c → length c % 16 ≡ 0
@@ -124,5 +143,6 @@ pub cbc_redone : (w iv c : List ℕ) → IsBlock iv → All (λ b. b < 256) c �
 unfolding cbc_sealed cbc_opened
 cbc_redone w iv c block bytes whole =
     let n : ℕ = length c / 16 in
-    let count : length (opened_blocks w n iv c) / 16 ≡ n = omega (arith, length-opened_blocks w n iv c block.len (omega arith)) in
+    let count : length (opened_blocks w n iv c) / 16 ≡ n =
+    omega (arith, length-opened_blocks w n iv c block.len (omega arith)) in
     rw count (blocks_redone w n iv c block.len bytes (omega arith) ∙ take_all (16 * n) c (omega arith))

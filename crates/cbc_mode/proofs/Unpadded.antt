@@ -1,5 +1,6 @@
 -- The padding taken off again.
-use Rattle.std.proofs.Common.{◌≡◌, ℕ, ◌+◌, ◌-◌, ◌<◌, true, false, List, ◌++◌, length, take, replicate, arith, ap, sym, ◌∙◌, refl, rules, Some, None}
+use Rattle.std.proofs.Common.{◌≡◌, ℕ, ◌+◌, ◌-◌, ◌<◌, true, false, List, ◌++◌, length, take, replicate, arith, ap, sym}
+use Rattle.std.proofs.Common.{◌∙◌, refl, rules, Some, None}
 use Rattle.std.specs.Prelude.{slice_index, bytes_eq}
 use Rattle.std.proofs.lemmas.List.{get_or-append-add, get_or-replicate, length-append, length-replicate, take_at}
 use Rattle.std.proofs.lemmas.Option.{cond_some}
@@ -21,7 +22,8 @@ unfolding pad
 last_of-pad p =
     let k = padding_len (length p) in
     let some : 0 < k = omega arith in
-    let long : length (p ++ replicate k k) ≡ length p + k = omega (arith, length-append p (replicate k k), length-replicate k k) in
+    let long : length (p ++ replicate k k) ≡ length p + k =
+    omega (arith, length-append p (replicate k k), length-replicate k k) in
     let at : length (p ++ replicate k k) - 1 ≡ length p + (k - 1) = omega (arith, long) in
     rw at (get_or-append-add p (replicate k k) (k - 1) 0 ∙ get_or-replicate k (k - 1) k 0 (omega arith))
 

@@ -7,20 +7,23 @@ use Rattle.std.proofs.lemmas.List.Elements.{All-take}
 use Rattle.aes_block.specs.Block.{IsBlock, xor_bytes}
 use Rattle.aes_block.specs.Cipher.{cipher, rounds}
 use Rattle.aes_block.specs.Steps.{add_round_key}
-use Rattle.aes_block.proofs.Blocks.{IsBlock-add_round_key, IsBlock-mix_columns, IsBlock-round_key, IsBlock-shift_rows, IsBlock-sub_bytes}
+use Rattle.aes_block.proofs.Blocks.{IsBlock-add_round_key, IsBlock-mix_columns, IsBlock-round_key, IsBlock-shift_rows}
+use Rattle.aes_block.proofs.Blocks.{IsBlock-sub_bytes}
 
 pub IsBlock-rounds : (w b : List ℕ) (r : ℕ) → IsBlock b → IsBlock (rounds w b r)
 unfolding rounds
 IsBlock-rounds w b zero block = IsBlock-add_round_key _ _ block (IsBlock-round_key w 0)
 IsBlock-rounds w b (suc r) block =
-    IsBlock-add_round_key _ _ (IsBlock-mix_columns _ (IsBlock-shift_rows _ (IsBlock-sub_bytes _ (IsBlock-rounds w b r block))))
+    IsBlock-add_round_key _ _ (IsBlock-mix_columns _
+    (IsBlock-shift_rows _ (IsBlock-sub_bytes _ (IsBlock-rounds w b r block))))
     (IsBlock-round_key w (suc r))
 
 -- FIPS 197, 5.1: the cipher makes a block of a block
 pub IsBlock-cipher : (w b : List ℕ) → IsBlock b → IsBlock (cipher w b)
 unfolding cipher
 IsBlock-cipher w b block =
-    IsBlock-add_round_key _ _ (IsBlock-shift_rows _ (IsBlock-sub_bytes _ (IsBlock-rounds w b 13 block))) (IsBlock-round_key w 14)
+    IsBlock-add_round_key _ _ (IsBlock-shift_rows _ (IsBlock-sub_bytes _ (IsBlock-rounds w b 13 block)))
+    (IsBlock-round_key w 14)
 
 pub IsBlock-xor_bytes : (a b : List ℕ) → IsBlock a → IsBlock b → IsBlock (xor_bytes a b)
 unfolding add_round_key

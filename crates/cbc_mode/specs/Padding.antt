@@ -1,6 +1,7 @@
 -- The padding that makes a message whole blocks of 16 bytes (PKCS #7: RFC 5652, 6.3), on lists of
 -- bytes.
-use Rattle.std.specs.Prelude.{ℕ, ◌-◌, ◌%◌, List, ◌++◌, length, replicate, take, slice_index, bytes_eq, Option, Some, None, if◌then◌else◌}
+use Rattle.std.specs.Prelude.{ℕ, ◌-◌, ◌%◌, List, ◌++◌, length, replicate, take, slice_index, bytes_eq, Option, Some}
+use Rattle.std.specs.Prelude.{None, if◌then◌else◌}
 
 -- RFC 5652, 6.3: how many bytes of padding follow n bytes, 1 to 16
 abbrev pub padding_len : ℕ → ℕ

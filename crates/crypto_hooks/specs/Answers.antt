@@ -18,3 +18,9 @@ pub record AnswersPair {F : Type 0} (g : Shared F (Bor (List ℕ) × (List ℕ �
   pub taken : (s : Bor (List ℕ)) (a b : List ℕ) → IsSchedule s.now → IsBlock a → IsBlock b → g.pre f (s, (a, (b, tt)))
   pub given : (s : Bor (List ℕ)) (a b : List ℕ) (r : List ℕ × List ℕ) → IsSchedule s.now → IsBlock a → IsBlock b
       → g.post f (s, (a, (b, tt))) r → (r.0 ≡ answer s.now a) × (r.1 ≡ answer s.now b)
+
+-- the same, where it is told by itself when f may be called and what it then answers
+pub record AnswersBy (pre : Bor (List ℕ) → List ℕ → Type 0) (post : Bor (List ℕ) → List ℕ → List ℕ → Type 0)
+    (answer : List ℕ → List ℕ → List ℕ) : Type 0 where
+  pub taken : (s : Bor (List ℕ)) (b : List ℕ) → IsSchedule s.now → IsBlock b → pre s b
+  pub given : (s : Bor (List ℕ)) (b r : List ℕ) → IsSchedule s.now → IsBlock b → post s b r → r ≡ answer s.now b

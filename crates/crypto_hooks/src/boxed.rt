@@ -1,8 +1,7 @@
 //! Two boxed closures of the caller's.
 
-ghost use Rattle.std.specs.Prelude.{◌≡◌, ⊤, List, ℕ};
-ghost use Rattle.aes_block.specs.Block.{IsBlock, IsSchedule};
 ghost use Rattle.aes_block.specs.Cipher.{cipher, inv_cipher};
+ghost use Rattle.crypto_hooks.specs.Answers.{AnswersBy};
 
 use crate::block256::Block256;
 use aes_block::Schedule;
@@ -18,36 +17,23 @@ pub type BlockBox = Box<dyn Fn(&Schedule, [u8; 16]) -> [u8; 16]>;
 pub struct BoxHooks {
     seal: BlockBox,
     unseal: BlockBox,
-    ghost seals: { (p : _) (b : List ℕ) → IsSchedule p.now → IsBlock b
-        → BlockBox.pre seal p b },
-    ghost sealed: { (p : _) (b r : List ℕ) → IsSchedule p.now → IsBlock b
-        → BlockBox.post seal p b r → r ≡ cipher p.now b },
-    ghost unseals: { (p : _) (b : List ℕ) → IsSchedule p.now → IsBlock b
-        → BlockBox.pre unseal p b },
-    ghost unsealed: { (p : _) (b r : List ℕ) → IsSchedule p.now → IsBlock b
-        → BlockBox.post unseal p b r → r ≡ inv_cipher p.now b },
 }
 
 impl BoxHooks {
     /// Keeps two boxed closures that answer Cipher and InvCipher for every key schedule and every
     /// block.
     pub fn new(seal: BlockBox, unseal: BlockBox) -> BoxHooks
-        requires seals { (p : _) (b : List ℕ) → IsSchedule p.now → IsBlock b
-            → BlockBox.pre seal p b }
-        requires sealed { (p : _) (b r : List ℕ) → IsSchedule p.now → IsBlock b
-            → BlockBox.post seal p b r → r ≡ cipher p.now b }
-        requires unseals { (p : _) (b : List ℕ) → IsSchedule p.now → IsBlock b
-            → BlockBox.pre unseal p b }
-        requires unsealed { (p : _) (b r : List ℕ) → IsSchedule p.now → IsBlock b
-            → BlockBox.post unseal p b r → r ≡ inv_cipher p.now b }
-        ensures { ⟦<BoxHooks as Block256>⟧.answers result }
+        requires seals { AnswersBy (λ s b. BlockBox.pre seal s b) (λ s b r. BlockBox.post seal s b r) cipher }
+        requires unseals { AnswersBy (λ s b. BlockBox.pre unseal s b) (λ s b r. BlockBox.post unseal s b r) inv_cipher }
+        ensures answers { ⟦<BoxHooks as Block256>⟧.answers result }
     {
         BoxHooks { seal, unseal }
     }
 }
 
 impl Block256 for BoxHooks {
-    ghost answers = { λ _. ⊤ };
+    ghost answers = { λ h. AnswersBy (λ s b. BlockBox.pre h.seal s b) (λ s b r. BlockBox.post h.seal s b r) cipher
+        × AnswersBy (λ s b. BlockBox.pre h.unseal s b) (λ s b r. BlockBox.post h.unseal s b r) inv_cipher };
 
     fn seal_block(&self, schedule: &Schedule, block: [u8; 16]) -> [u8; 16] {
         let _words = schedule.words();

@@ -22,7 +22,7 @@ where
     pub fn new(seal: E, unseal: D) -> Hooks<E, D>
         requires seals { Answers E.Fn cipher seal }
         requires unseals { Answers D.Fn inv_cipher unseal }
-        ensures { ⟦<Hooks<E, D> as Block256>⟧.answers result }
+        ensures answers { ⟦<Hooks<E, D> as Block256>⟧.answers result }
     {
         Hooks { seal, unseal }
     }

@@ -29,7 +29,7 @@ where
         requires seals { Answers E.Fn cipher seal }
         requires unseals { Answers D.Fn inv_cipher unseal }
         requires unseals_two { AnswersPair T.Fn inv_cipher unseal_two }
-        ensures { ⟦<PairHooks<E, D, T> as Block256>⟧.answers result }
+        ensures answers { ⟦<PairHooks<E, D, T> as Block256>⟧.answers result }
     {
         PairHooks {
             seal,

@@ -1,5 +1,6 @@
 -- The members before this one are documents, and what is left gives what all give.
-use Rattle.std.proofs.Common.{◌≡◌, ℕ, ◌+◌, ◌<◌, ◌≤◌, nat_le, Bool, true, false, cond, List, [], ◌∷◌, ◌++◌, length, Option, Some, None, Result, Ok, Err, IsUtf8, refl, sym, ap, ◌∙◌, arith, length-append}
+use Rattle.std.proofs.Common.{◌≡◌, ℕ, ◌+◌, ◌<◌, ◌≤◌, nat_le, Bool, true, false, cond, List, [], ◌∷◌, ◌++◌, length}
+use Rattle.std.proofs.Common.{Option, Some, None, Result, Ok, Err, IsUtf8, refl, sym, ap, ◌∙◌, arith, length-append}
 use Rattle.std.proofs.lemmas.Bool.{false≢true, le-leb, leb-true}
 use Rattle.std.proofs.lemmas.Str.{IsUtf8-from_is_utf8, is_utf8-from_IsUtf8}
 use Rattle.std.specs.Str.{is_utf8}
@@ -29,24 +30,33 @@ untrue : (b : Bool) → (b ≡ true → ⊥) → b ≡ false
 untrue true never = absurd (never refl)
 untrue false never = refl
 
-pub member_fits : (size : ℕ) (d : Data) (is : Items) → document_of d ≡ Some is → IsWellFormed is → size + length (doc_bytes is) ≤ longest → member_of size d ≡ Some is
+pub member_fits : (size : ℕ) (d : Data) (is : Items) → document_of d ≡ Some is → IsWellFormed is
+    → size + length (doc_bytes is) ≤ longest → member_of size d ≡ Some is
 member_fits size d is stands formed fits =
     let fine = (well_formed_is d is stands).0 formed in
     let levels : nat_le (levels_in is) level_limit ≡ true = le-leb (levels_in is) level_limit fine.levels in
-    let room : nat_le (size + length (doc_bytes is)) longest ≡ true = le-leb (size + length (doc_bytes is)) longest fits in
-    let fit : is_fit size is ≡ true = and_true (is_named is) _ fine.named (and_true (nat_le (levels_in is) level_limit) _ levels room) in
+    let room : nat_le (size + length (doc_bytes is)) longest ≡ true =
+    le-leb (size + length (doc_bytes is)) longest fits in
+    let fit : is_fit size is ≡ true = and_true (is_named is) _ fine.named
+    (and_true (nat_le (levels_in is) level_limit) _ levels room) in
     rw stands (chosen (is_fit size is) is fit)
 
-pub member_unformed : (size : ℕ) (d : Data) (is : Items) → document_of d ≡ Some is → (IsWellFormed is → ⊥) → member_of size d ≡ None
+pub member_unformed : (size : ℕ) (d : Data) (is : Items) → document_of d ≡ Some is → (IsWellFormed is → ⊥)
+    → member_of size d ≡ None
 member_unformed size d is stands never =
     let unfit : is_fit size is ≡ false = untrue (is_fit size is) (λ fit.
     let named = both (is_named is) _ fit in
     let rest = both (nat_le (levels_in is) level_limit) _ named.1 in
     let room : size + length (doc_bytes is) ≤ longest = leb-true (size + length (doc_bytes is)) longest rest.1 in
-    never ((well_formed_is d is stands).1 (record { named = named.0; levels = leb-true (levels_in is) level_limit rest.0; short = omega (arith, room) }))) in
+    never ((well_formed_is d is stands).1 (record {
+      named = named.0;
+      levels = leb-true (levels_in is) level_limit rest.0;
+      short = omega (arith, room);
+    }))) in
     rw stands (dropped (is_fit size is) is unfit)
 
-pub member_long : (size : ℕ) (d : Data) (is : Items) → document_of d ≡ Some is → longest < size + length (doc_bytes is) → member_of size d ≡ None
+pub member_long : (size : ℕ) (d : Data) (is : Items) → document_of d ≡ Some is → longest < size + length (doc_bytes is)
+    → member_of size d ≡ None
 member_long size d is stands long =
     let unfit : is_fit size is ≡ false = untrue (is_fit size is) (λ fit.
     let named = both (is_named is) _ fit in
@@ -58,7 +68,8 @@ member_long size d is stands long =
 pub member_missing : (size : ℕ) (d : Data) → document_of d ≡ None → member_of size d ≡ None
 member_missing size d none = rw none refl
 
-pub put_fits : (before after bytes : List ℕ) (d : Data) (is : Items) → document_of d ≡ Some is → IsWellFormed is → bytes ≡ doc_bytes is → length before + length bytes ≤ longest → after ≡ before ++ bytes → IsPut before after d
+pub put_fits : (before after bytes : List ℕ) (d : Data) (is : Items) → document_of d ≡ Some is → IsWellFormed is
+    → bytes ≡ doc_bytes is → length before + length bytes ≤ longest → after ≡ before ++ bytes → IsPut before after d
 put_fits before after bytes d is stands formed spelled fits grown =
     let room : length before + length (doc_bytes is) ≤ longest = omega (arith, fits, ap length spelled) in
     record {
@@ -70,21 +81,31 @@ put_fits before after bytes d is stands formed spelled fits grown =
 
 -- ---- one member after another
 
-pub goes_on : (all left rest : Values) (k : ℕ) (bytes next : List ℕ) (d : Data) → left ≡ value_then d rest → IsPut bytes next d → members_of k bytes left ≡ members_of 1 [] all → members_of (k + 1) next rest ≡ members_of 1 [] all
+pub goes_on : (all left rest : Values) (k : ℕ) (bytes next : List ℕ) (d : Data) → left ≡ value_then d rest
+    → IsPut bytes next d → members_of k bytes left ≡ members_of 1 [] all
+    → members_of (k + 1) next rest ≡ members_of 1 [] all
 goes_on all left rest k bytes next d cut put so_far =
     let here : members_of k bytes (value_then d rest) ≡ members_of 1 [] all = rw cut at so_far in
     rw put.spelled ((rw put.stands at here))
 
-pub stops_here : (all left rest : Values) (k : ℕ) (bytes : List ℕ) (d : Data) → left ≡ value_then d rest → member_of (length bytes) d ≡ None → members_of k bytes left ≡ members_of 1 [] all → members_of 1 [] all ≡ Err (faults.Form k)
+pub stops_here : (all left rest : Values) (k : ℕ) (bytes : List ℕ) (d : Data) → left ≡ value_then d rest
+    → member_of (length bytes) d ≡ None → members_of k bytes left ≡ members_of 1 [] all
+    → members_of 1 [] all ≡ Err (faults.Form k)
 stops_here all left rest k bytes d cut none so_far =
     let here : members_of k bytes (value_then d rest) ≡ members_of 1 [] all = rw cut at so_far in
     sym here ∙ ap (member_then (faults.Form k) (λ is. members_of (k + 1) (bytes ++ doc_bytes is) rest)) none
 
-pub ends : (all left : Values) (k : ℕ) (bytes : List ℕ) → left ≡ no_values → members_of k bytes left ≡ members_of 1 [] all → members_of 1 [] all ≡ Ok bytes
+pub ends : (all left : Values) (k : ℕ) (bytes : List ℕ) → left ≡ no_values
+    → members_of k bytes left ≡ members_of 1 [] all → members_of 1 [] all ≡ Ok bytes
 ends all left k bytes end so_far = sym (rw end at so_far)
 
 pub put_size : (bytes next : List ℕ) (d : Data) → IsPut bytes next d → length bytes + 5 ≤ length next
-put_size bytes next d put = omega (arith, ap length put.spelled, length-append bytes (doc_bytes put.document), length-append (items_bytes put.document) (0 ∷ []))
+put_size bytes next d put = omega (
+  arith,
+  ap length put.spelled,
+  length-append bytes (doc_bytes put.document),
+  length-append (items_bytes put.document) (0 ∷ []),
+)
 
 -- ---- the text
 
@@ -94,9 +115,11 @@ text_choice false x y e = absurd (false≢true e)
 
 pub text_read : (text : List ℕ) (d : Data) → IsUtf8 text → read text ≡ Some d → json_infos text ≡ infos_in (Some d)
 unfolding json_infos
-text_read text d utf8 is = text_choice (is_utf8 text) (infos_in (read text)) (Err faults.Syntax) (is_utf8-from_IsUtf8 text utf8) ∙ ap infos_in is
+text_read text d utf8 is = text_choice (is_utf8 text) (infos_in (read text)) (Err faults.Syntax)
+    (is_utf8-from_IsUtf8 text utf8) ∙ ap infos_in is
 
-syntax_by : (b : Bool) (o : Option Data) → (b ≡ true → o ≡ None) → cond b (infos_in o) (Err faults.Syntax) ≡ Err faults.Syntax
+syntax_by : (b : Bool) (o : Option Data) → (b ≡ true → o ≡ None)
+    → cond b (infos_in o) (Err faults.Syntax) ≡ Err faults.Syntax
 syntax_by true o never = ap infos_in (never refl)
 syntax_by false o never = refl
 

@@ -1,5 +1,6 @@
 -- Strings that are UTF-8 (RFC 3629) are so in quotes too.
-use Rattle.std.proofs.Common.{◌≡◌, ℕ, zero, suc, ◌<◌, ◌≤◌, ◌==◌, Bool, true, false, ◌&&◌, nat_lt, List, [], ◌∷◌, ◌++◌, length, get_or, IsUtf8, inl, inr, refl, sym, ap₂, ◌∙◌, subst, arith, append-nil, ltb-true}
+use Rattle.std.proofs.Common.{◌≡◌, ℕ, zero, suc, ◌<◌, ◌≤◌, ◌==◌, Bool, true, false, ◌&&◌, nat_lt, List, [], ◌∷◌, ◌++◌}
+use Rattle.std.proofs.Common.{length, get_or, IsUtf8, inl, inr, refl, sym, ap₂, ◌∙◌, subst, arith, append-nil, ltb-true}
 use Rattle.std.proofs.lemmas.Bool.{and_parts, cases_lt, cases_eq}
 use Rattle.std.proofs.lemmas.Bool.Decides.{eqb_tells}
 use Rattle.std.proofs.lemmas.Str.{IsUtf8-append, IsUtf8-nil, IsUtf8-encode, encode_ascii, inside_one}
@@ -14,7 +15,8 @@ are_ascii [] = true
 are_ascii (x ∷ xs) = nat_lt x 128 && are_ascii xs
 
 pub ascii_then : (x : ℕ) (xs : List ℕ) → x < 128 → IsUtf8 xs → IsUtf8 (x ∷ xs)
-ascii_then x xs small u = IsUtf8-append (x ∷ []) xs (subst IsUtf8 (encode_ascii x small) (IsUtf8-encode x (low_scalar x (omega arith)))) u
+ascii_then x xs small u = IsUtf8-append (x ∷ []) xs
+    (subst IsUtf8 (encode_ascii x small) (IsUtf8-encode x (low_scalar x (omega arith)))) u
 
 pub ascii_utf8 : (xs : List ℕ) → are_ascii xs ≡ true → IsUtf8 xs
 ascii_utf8 [] e = IsUtf8-nil
@@ -52,13 +54,15 @@ escaped_high : (xs : List ℕ) → ((k : ℕ) → k < length xs → 128 ≤ get_
 escaped_high [] h = escaped_nil
 escaped_high (x ∷ xs) h =
     let high : 128 ≤ x = h 0 (omega arith) in
-    escaped-append (x ∷ []) xs ∙ ap₂ (λ (a b : List ℕ). a ++ b) (escaped_one x ∙ escape_plain x high) (escaped_high xs (λ k below. h (suc k) (omega arith)))
+    escaped-append (x ∷ []) xs ∙ ap₂ (λ (a b : List ℕ). a ++ b) (escaped_one x ∙ escape_plain x high)
+    (escaped_high xs (λ k below. h (suc k) (omega arith)))
 
 one_char : (c : ℕ) → scalar c ≡ true → IsUtf8 (escaped (encode c))
 one_char c ok = elim (cases_lt c 128) [
   | inl small ↦ rw (encode_ascii c small, escaped_one c) (ascii_utf8 (escape c) (escape_below 128 all_ascii c small))
   | inr big ↦
-      let high : (k : ℕ) → k < length (encode c) → 128 ≤ get_or (encode c) k 0 = λ k below. elim (cases_lt (get_or (encode c) k 0) 128) [
+      let high : (k : ℕ) → k < length (encode c) → 128 ≤ get_or (encode c) k 0 =
+      λ k below. elim (cases_lt (get_or (encode c) k 0) 128) [
         | inl low ↦ absurd (omega (arith, inside_one c [] (encode c) k (sym (append-nil _)) below low))
         | inr h ↦ h
       ] in
@@ -79,4 +83,5 @@ unfolding quote_mark
 mark_utf8 = ascii_utf8 (34 ∷ []) refl
 
 pub quoted_utf8 : (s : List ℕ) → IsUtf8 s → IsUtf8 (quoted s)
-quoted_utf8 s u = IsUtf8-append quote_mark (escaped s ++ quote_mark) mark_utf8 (IsUtf8-append (escaped s) quote_mark (escaped_utf8 s u) mark_utf8)
+quoted_utf8 s u = IsUtf8-append quote_mark (escaped s ++ quote_mark) mark_utf8
+    (IsUtf8-append (escaped s) quote_mark (escaped_utf8 s u) mark_utf8)

@@ -1,5 +1,7 @@
 -- The text of a document without a bad place is UTF-8 (RFC 3629).
-use Rattle.std.proofs.Common.{◌≡◌, ℕ, ℤ, pos, negsuc, zero, suc, ◌+◌, ◌/◌, ◌%◌, ◌<◌, ◌==◌, ◌||◌, nat_lt, arith, Bool, true, false, not, cond, List, [], ◌∷◌, ◌++◌, length, Option, Some, None, is_some, slice_index, IsUtf8, ltb-true, refl, sym}
+use Rattle.std.proofs.Common.{◌≡◌, ℕ, ℤ, pos, negsuc, zero, suc, ◌+◌, ◌/◌, ◌%◌, ◌<◌, ◌==◌, ◌||◌, nat_lt, arith, Bool}
+use Rattle.std.proofs.Common.{true, false, not, cond, List, [], ◌∷◌, ◌++◌, length, Option, Some, None, is_some}
+use Rattle.std.proofs.Common.{slice_index, IsUtf8, ltb-true, refl, sym}
 use Rattle.std.proofs.lemmas.Bool.{false≢true, and_parts}
 use Rattle.std.proofs.lemmas.Str.Ascii.{IsAscii-nil, IsAscii-cons}
 use Rattle.std.proofs.lemmas.Str.{IsUtf8-append, IsUtf8-nil, IsUtf8-from_ascii, IsUtf8-from_is_utf8}
@@ -16,10 +18,13 @@ use Rattle.ext_json.specs.declared.form.Form.{Form}
 use Rattle.ext_json.specs.declared.form.Form.TheVariants as forms
 use Rattle.ext_json.specs.Forms.{form_of}
 use Rattle.ext_json.specs.Fixed.{head_text, middle_text, tail_text, truth_text}
-use Rattle.ext_json.specs.Parts.{text_of, subtype_of, contents_of, pattern_of, options_of, namespace_of, id_of, int32_of, int64_of, seconds_of, increment_of, code_of, scope_of}
+use Rattle.ext_json.specs.Parts.{text_of, subtype_of, contents_of, pattern_of, options_of, namespace_of, id_of}
+use Rattle.ext_json.specs.Parts.{int32_of, int64_of, seconds_of, increment_of, code_of, scope_of}
 use Rattle.ext_json.specs.Quoted.{quoted}
-use Rattle.ext_json.specs.Text.{body_text, leaf_text, value_text, name_text, elements_text, opening_text, closing_text, inside_text}
-use Rattle.ext_json.specs.BadText.{is_bad_raw, is_bad_leaf, offset_if, value_bad, element_bad, or_later, elements_bad, inside_bad}
+use Rattle.ext_json.specs.Text.{body_text, leaf_text, value_text, name_text, elements_text, opening_text, closing_text}
+use Rattle.ext_json.specs.Text.{inside_text}
+use Rattle.ext_json.specs.BadText.{is_bad_raw, is_bad_leaf, offset_if, value_bad, element_bad, or_later, elements_bad}
+use Rattle.ext_json.specs.BadText.{inside_bad}
 use Rattle.ext_json.proofs.QuotedUtf8.{are_ascii, ascii_then, ascii_utf8, escaped_utf8, quoted_utf8}
 
 -- ---- fixed parts and digits
@@ -144,10 +149,12 @@ neither false b e = (refl, e)
 two : (first middle last : List ℕ) → IsUtf8 first → IsUtf8 middle → IsUtf8 last → IsUtf8 (first ++ (middle ++ last))
 two first middle last u v w = IsUtf8-append first (middle ++ last) u (IsUtf8-append middle last v w)
 
-body_utf8 : (B : ℕ → Items → Bool) (D : Items → List ℕ) → ((at : ℕ) (is : Items) → B at is ≡ false → IsUtf8 (D is)) → (at : ℕ) (form : Form) (bs : List ℕ) → is_bad_raw B at form bs ≡ false → IsUtf8 (body_text D form bs)
+body_utf8 : (B : ℕ → Items → Bool) (D : Items → List ℕ) → ((at : ℕ) (is : Items) → B at is ≡ false → IsUtf8 (D is))
+    → (at : ℕ) (form : Form) (bs : List ℕ) → is_bad_raw B at form bs ≡ false → IsUtf8 (body_text D form bs)
 body_utf8 B D inside at forms.DoubleBits bs e = hex_utf8 bs
 body_utf8 B D inside at forms.Text bs e = escaped_utf8 (text_of bs) (good (text_of bs) e)
-body_utf8 B D inside at forms.Binary bs e = two _ _ _ (base64_utf8 (contents_of bs)) binary_middle (hex_utf8 (subtype_of bs ∷ []))
+body_utf8 B D inside at forms.Binary bs e = two _ _ _ (base64_utf8 (contents_of bs)) binary_middle
+    (hex_utf8 (subtype_of bs ∷ []))
 body_utf8 B D inside at forms.Undefined bs e = IsUtf8-nil
 body_utf8 B D inside at forms.ObjectId bs e = hex_utf8 bs
 body_utf8 B D inside at forms.Bool bs e = truth_utf8 (slice_index bs 0)
@@ -155,23 +162,29 @@ body_utf8 B D inside at forms.Date bs e = signed_utf8 (int64_of bs)
 body_utf8 B D inside at forms.Null bs e = IsUtf8-nil
 body_utf8 B D inside at forms.Regex bs e =
     let parts = neither (not (is_utf8 (pattern_of bs))) (not (is_utf8 (options_of bs))) e in
-    two _ _ _ (quoted_utf8 (pattern_of bs) (good (pattern_of bs) parts.0)) regex_middle (quoted_utf8 (options_of bs) (good (options_of bs) parts.1))
-body_utf8 B D inside at forms.Pointer bs e = two _ _ _ (quoted_utf8 (namespace_of bs) (good (namespace_of bs) e)) pointer_middle (hex_utf8 (id_of bs))
+    two _ _ _ (quoted_utf8 (pattern_of bs) (good (pattern_of bs) parts.0)) regex_middle
+    (quoted_utf8 (options_of bs) (good (options_of bs) parts.1))
+body_utf8 B D inside at forms.Pointer bs e = two _ _ _
+    (quoted_utf8 (namespace_of bs) (good (namespace_of bs) e)) pointer_middle (hex_utf8 (id_of bs))
 body_utf8 B D inside at forms.Code bs e = quoted_utf8 (text_of bs) (good (text_of bs) e)
 body_utf8 B D inside at forms.Symbol bs e = quoted_utf8 (text_of bs) (good (text_of bs) e)
 body_utf8 B D inside at forms.Scope bs e =
     let parts = neither (not (is_utf8 (code_of bs))) (B (at + (length (code_of bs) + 9)) (scope_of bs)) e in
-    two _ _ _ (quoted_utf8 (code_of bs) (good (code_of bs) parts.0)) scope_middle (inside (at + (length (code_of bs) + 9)) (scope_of bs) parts.1)
+    two _ _ _ (quoted_utf8 (code_of bs) (good (code_of bs) parts.0)) scope_middle
+    (inside (at + (length (code_of bs) + 9)) (scope_of bs) parts.1)
 body_utf8 B D inside at forms.Int32 bs e = signed_utf8 (int32_of bs)
-body_utf8 B D inside at forms.Timestamp bs e = two _ _ _ (decimal_utf8 (seconds_of bs)) timestamp_middle (decimal_utf8 (increment_of bs))
+body_utf8 B D inside at forms.Timestamp bs e =
+    two _ _ _ (decimal_utf8 (seconds_of bs)) timestamp_middle (decimal_utf8 (increment_of bs))
 body_utf8 B D inside at forms.Int64 bs e = signed_utf8 (int64_of bs)
 body_utf8 B D inside at forms.DecimalBits bs e = hex_utf8 bs
 body_utf8 B D inside at forms.MaxKey bs e = IsUtf8-nil
 body_utf8 B D inside at forms.MinKey bs e = IsUtf8-nil
 
-leaf_utf8 : (B : ℕ → Items → Bool) (D : Items → List ℕ) → ((at : ℕ) (is : Items) → B at is ≡ false → IsUtf8 (D is)) → (at : ℕ) (form : Option Form) (bs : List ℕ) → is_bad_leaf B at form bs ≡ false → IsUtf8 (leaf_text D form bs)
+leaf_utf8 : (B : ℕ → Items → Bool) (D : Items → List ℕ) → ((at : ℕ) (is : Items) → B at is ≡ false → IsUtf8 (D is))
+    → (at : ℕ) (form : Option Form) (bs : List ℕ) → is_bad_leaf B at form bs ≡ false → IsUtf8 (leaf_text D form bs)
 leaf_utf8 B D inside at None bs e = IsUtf8-nil
-leaf_utf8 B D inside at (Some form) bs e = two _ _ _ (head_utf8 form) (body_utf8 B D inside at form bs e) (tail_utf8 form)
+leaf_utf8 B D inside at (Some form) bs e = two _ _ _ (head_utf8 form) (body_utf8 B D inside at form bs e)
+    (tail_utf8 form)
 
 none : (b : Bool) (at : ℕ) → offset_if b at ≡ None → b ≡ false
 none true at e = absurd cc
@@ -187,9 +200,11 @@ no_place None e = refl
 abbrev Good : (ℕ → Items → Option ℕ) → (Bool → Items → List ℕ) → Type 0
 Good F D = (named : Bool) (at : ℕ) (is : Items) → F at is ≡ None → IsUtf8 (D named is)
 
-value_utf8 : (F : ℕ → Items → Option ℕ) (D : Bool → Items → List ℕ) → Good F D → (at : ℕ) (t : Tree) → value_bad F at t ≡ None → IsUtf8 (value_text D t)
+value_utf8 : (F : ℕ → Items → Option ℕ) (D : Bool → Items → List ℕ) → Good F D → (at : ℕ) (t : Tree)
+    → value_bad F at t ≡ None → IsUtf8 (value_text D t)
 value_utf8 F D inside at (leaf tag bs) e =
-    leaf_utf8 (λ start is. is_some (F start is)) (D true) (λ start is h. inside true start is (no_place (F start is) h)) at (form_of tag) bs
+    leaf_utf8 (λ start is. is_some (F start is)) (D true)
+    (λ start is h. inside true start is (no_place (F start is) h)) at (form_of tag) bs
     (none (is_bad_leaf (λ start is. is_some (F start is)) at (form_of tag) bs) at e)
 value_utf8 F D inside at (node tag is) e = inside (tag == 3) at is e
 
@@ -205,7 +220,9 @@ element_none : (b : Bool) (at : ℕ) (o : Option ℕ) → cond b o (Some at) ≡
 element_none true at o e = (refl, e)
 element_none false at o e = absurd cc
 
-elements_utf8 : (F : ℕ → Items → Option ℕ) (D : Bool → Items → List ℕ) → Good F D → (named : Bool) (before : List ℕ) → IsUtf8 before → (at : ℕ) (is : Items) → elements_bad F at is ≡ None → IsUtf8 (elements_text (value_text D) named before is)
+elements_utf8 : (F : ℕ → Items → Option ℕ) (D : Bool → Items → List ℕ) → Good F D → (named : Bool) (before : List ℕ)
+    → IsUtf8 before → (at : ℕ) (is : Items) → elements_bad F at is ≡ None
+    → IsUtf8 (elements_text (value_text D) named before is)
 unfolding elements_bad elements_text
 elements_utf8 F D inside named before u at no_items e = IsUtf8-nil
 elements_utf8 F D inside named before u at (item name t is) e =
@@ -213,7 +230,8 @@ elements_utf8 F D inside named before u at (item name t is) e =
     let parts = both_none (element_bad F here name t) (elements_bad F (here + length (value_bytes t)) is) e in
     let named_well = element_none (is_utf8 name) here (value_bad F here t) parts.0 in
     IsUtf8-append (before ++ (name_text named name ++ value_text D t)) (elements_text (value_text D) named (44 ∷ []) is)
-    (two before (name_text named name) (value_text D t) u (name_utf8 named name (IsUtf8-from_is_utf8 name named_well.0)) (value_utf8 F D inside here t named_well.1))
+    (two before (name_text named name) (value_text D t) u (name_utf8 named name (IsUtf8-from_is_utf8 name named_well.0))
+    (value_utf8 F D inside here t named_well.1))
     (elements_utf8 F D inside named (44 ∷ []) (ascii_utf8 (44 ∷ []) refl) (here + length (value_bytes t)) is parts.1)
 
 opening_utf8 : (named : Bool) → IsUtf8 (opening_text named)
@@ -228,4 +246,6 @@ pub inside_utf8 : (levels : ℕ) → Good (inside_bad levels) (inside_text level
 unfolding inside_bad inside_text
 inside_utf8 zero named at is e = IsUtf8-nil
 inside_utf8 (suc levels) named at is e =
-    two (opening_text named) _ (closing_text named) (opening_utf8 named) (elements_utf8 (inside_bad levels) (inside_text levels) (inside_utf8 levels) named [] IsUtf8-nil (at + 4) is e) (closing_utf8 named)
+    two (opening_text named) _ (closing_text named) (opening_utf8 named)
+    (elements_utf8 (inside_bad levels) (inside_text levels) (inside_utf8 levels) named [] IsUtf8-nil (at + 4) is e)
+    (closing_utf8 named)

@@ -1,7 +1,9 @@
 -- No text comes to want of memory.
-use Rattle.std.proofs.Common.{◌≡◌, ℕ, ◌+◌, Bool, true, false, cond, Option, Some, None, Result, Err, List, [], ◌++◌, length}
+use Rattle.std.proofs.Common.{◌≡◌, ℕ, ◌+◌, Bool, true, false, cond, Option, Some, None, Result, Err, List, [], ◌++◌}
+use Rattle.std.proofs.Common.{length}
 use Rattle.std.specs.Str.{is_utf8}
-use Rattle.serde_json.specs.Data.{Data, null, boolean, number, string, array, object, Items as Values, no_items as no_values, item as value_then}
+use Rattle.serde_json.specs.Data.{Data, null, boolean, number, string, array, object, Items as Values}
+use Rattle.serde_json.specs.Data.{no_items as no_values, item as value_then}
 use Rattle.serde_json.specs.Read.{read}
 use Rattle.bson_tree.specs.Tree.{Items}
 use Rattle.bson_tree.specs.Spelling.{doc_bytes}
@@ -9,7 +11,8 @@ use Rattle.ext_json.specs.Infos.{infos_in, json_infos, member_of, member_then, m
 use Rattle.ext_json.specs.declared.fault.JsonFault.{JsonFault}
 use Rattle.ext_json.specs.declared.fault.JsonFault.TheVariants as faults
 
-then_never : (k : ℕ) (next : Items → Result (List ℕ) JsonFault) (o : Option Items) → ((is : Items) → next is ≡ Err faults.Memory → ⊥)
+then_never : (k : ℕ) (next : Items → Result (List ℕ) JsonFault) (o : Option Items)
+    → ((is : Items) → next is ≡ Err faults.Memory → ⊥)
     → member_then (faults.Form k) next o ≡ Err faults.Memory → ⊥
 then_never k next None never e = cc
 then_never k next (Some is) never e = never is e
@@ -17,7 +20,8 @@ then_never k next (Some is) never e = never is e
 members_never : (k : ℕ) (bytes : List ℕ) (ds : Values) → members_of k bytes ds ≡ Err faults.Memory → ⊥
 members_never k bytes no_values e = cc
 members_never k bytes (value_then d ds) e =
-    then_never k (λ is. members_of (k + 1) (bytes ++ doc_bytes is) ds) (member_of (length bytes) d) (λ is. members_never (k + 1) (bytes ++ doc_bytes is) ds) e
+    then_never k (λ is. members_of (k + 1) (bytes ++ doc_bytes is) ds) (member_of (length bytes) d)
+    (λ is. members_never (k + 1) (bytes ++ doc_bytes is) ds) e
 
 infos_never : (o : Option Data) → infos_in o ≡ Err faults.Memory → ⊥
 infos_never None e = cc

@@ -1,5 +1,6 @@
 -- The first 00 of a list of bytes (BSON 1.1, "cstring").
-use Rattle.std.proofs.Common.{◌≡◌, ℕ, ◌+◌, ◌<◌, ◌≤◌, ◌==◌, false, inl, inr, List, [], ◌∷◌, ◌++◌, length, get_or, take, drop, drop-cons, add-one, refl, sym, ap, ◌∙◌, arith, append_assoc, append-nil}
+use Rattle.std.proofs.Common.{◌≡◌, ℕ, ◌+◌, ◌<◌, ◌≤◌, ◌==◌, false, inl, inr, List, [], ◌∷◌, ◌++◌, length, get_or, take}
+use Rattle.std.proofs.Common.{drop, drop-cons, add-one, refl, sym, ap, ◌∙◌, arith, append_assoc, append-nil}
 use Rattle.std.proofs.Math.Seq.{take-suc}
 use Rattle.std.proofs.lemmas.List.{nil_from_length, length-drop}
 use Rattle.std.proofs.lemmas.Bool.Decides.{eqb_tells}
@@ -41,21 +42,28 @@ zero_next bs n d within some so_far =
     let cut : drop n bs ≡ get_or bs n d ∷ drop (n + 1) bs = rw add-one (drop-cons bs n d within) in
     let more : take (n + 1) bs ≡ take n bs ++ (get_or bs n d ∷ []) = rw add-one (take-suc bs n d within) in
     record {
-      before = so_far.before ∙ (ap (λ (x : List ℕ). take n bs ++ before_zero x) cut ∙ (ap (λ (x : List ℕ). take n bs ++ x) (before_more (get_or bs n d) (drop (n + 1) bs) some)
-          ∙ (sym (append_assoc (take n bs) (get_or bs n d ∷ []) (before_zero (drop (n + 1) bs))) ∙ ap (λ (x : List ℕ). x ++ before_zero (drop (n + 1) bs)) (sym more))));
+      before = so_far.before ∙ (ap (λ (x : List ℕ). take n bs ++ before_zero x) cut
+          ∙ (ap (λ (x : List ℕ). take n bs ++ x) (before_more (get_or bs n d) (drop (n + 1) bs) some)
+          ∙ (sym (append_assoc (take n bs) (get_or bs n d ∷ []) (before_zero (drop (n + 1) bs)))
+          ∙ ap (λ (x : List ℕ). x ++ before_zero (drop (n + 1) bs)) (sym more))));
       after = so_far.after ∙ (ap after_zero cut ∙ after_more (get_or bs n d) (drop (n + 1) bs) some);
     }
 
-pub zero_found : (bs : List ℕ) (n d : ℕ) → n < length bs → get_or bs n d ≡ 0 → ZeroStep bs n → (before_zero bs ≡ take n bs) × (after_zero bs ≡ drop 1 (drop n bs))
+pub zero_found : (bs : List ℕ) (n d : ℕ) → n < length bs → get_or bs n d ≡ 0 → ZeroStep bs n
+    → (before_zero bs ≡ take n bs) × (after_zero bs ≡ drop 1 (drop n bs))
 zero_found bs n d within none so_far =
     let cut : drop n bs ≡ get_or bs n d ∷ drop (n + 1) bs = rw add-one (drop-cons bs n d within) in (
-      so_far.before ∙ (ap (λ (x : List ℕ). take n bs ++ before_zero x) cut ∙ (ap (λ (x : List ℕ). take n bs ++ x) (before_here (get_or bs n d) (drop (n + 1) bs) none) ∙ append-nil (take n bs))),
+      so_far.before ∙ (ap (λ (x : List ℕ). take n bs ++ before_zero x) cut
+          ∙ (ap (λ (x : List ℕ). take n bs ++ x) (before_here (get_or bs n d) (drop (n + 1) bs) none)
+          ∙ append-nil (take n bs))),
       so_far.after ∙ (ap after_zero cut ∙ (after_here (get_or bs n d) (drop (n + 1) bs) none ∙ sym (ap (drop 1) cut))),
     )
 
-pub zero_missing : (bs : List ℕ) (n : ℕ) → length bs ≤ n → ZeroStep bs n → (before_zero bs ≡ take n bs) × (after_zero bs ≡ drop 1 (drop n bs))
+pub zero_missing : (bs : List ℕ) (n : ℕ) → length bs ≤ n → ZeroStep bs n
+    → (before_zero bs ≡ take n bs) × (after_zero bs ≡ drop 1 (drop n bs))
 zero_missing bs n past so_far =
     let nothing : drop n bs ≡ [] = nil_from_length (drop n bs) (omega (arith, past, length-drop n bs)) in (
-      so_far.before ∙ (ap (λ (x : List ℕ). take n bs ++ before_zero x) nothing ∙ (ap (λ (x : List ℕ). take n bs ++ x) before_nil ∙ append-nil (take n bs))),
+      so_far.before ∙ (ap (λ (x : List ℕ). take n bs ++ before_zero x) nothing
+          ∙ (ap (λ (x : List ℕ). take n bs ++ x) before_nil ∙ append-nil (take n bs))),
       so_far.after ∙ (ap after_zero nothing ∙ (after_nil ∙ sym (ap (drop 1) nothing))),
     )

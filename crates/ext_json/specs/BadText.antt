@@ -1,5 +1,6 @@
 -- The first place of a document, in reading order, whose name, text or part of a regular expression isn't UTF-8.
-use Rattle.std.specs.Prelude.{ℕ, zero, suc, ◌+◌, ◌||◌, Bool, false, not, List, Option, Some, None, is_some, length, if◌then◌else◌}
+use Rattle.std.specs.Prelude.{ℕ, zero, suc, ◌+◌, ◌||◌, Bool, false, not, List, Option, Some, None, is_some, length}
+use Rattle.std.specs.Prelude.{if◌then◌else◌}
 use Rattle.std.specs.Str.{is_utf8}
 use Rattle.bson_tree.specs.Tree.{Tree, Items, leaf, node, no_items, item}
 use Rattle.bson_tree.specs.Spelling.{value_bytes}
@@ -46,7 +47,8 @@ or_later None later = later
 unfoldable pub elements_bad : (ℕ → Items → Option ℕ) → ℕ → Items → Option ℕ
 elements_bad F at no_items = None
 elements_bad F at (item name t is) =
-    or_later (element_bad F (at + (2 + length name)) name t) (elements_bad F (at + (2 + length name) + length (value_bytes t)) is)
+    or_later (element_bad F (at + (2 + length name)) name t)
+    (elements_bad F (at + (2 + length name) + length (value_bytes t)) is)
 
 -- in a document that begins at `at` and takes at most so many levels of nesting
 unfoldable pub inside_bad : ℕ → ℕ → Items → Option ℕ

@@ -1,5 +1,6 @@
 -- MongoDB Extended JSON v2, "Type wrapper objects": JSON objects that stand for binaries.
-use Rattle.std.specs.Prelude.{ℕ, ◌+◌, ◌==◌, List, [], ◌∷◌, codes, Option, Some, None, option_and_then, option_map, if◌then◌else◌}
+use Rattle.std.specs.Prelude.{ℕ, ◌+◌, ◌==◌, List, [], ◌∷◌, codes, Option, Some, None, option_and_then, option_map}
+use Rattle.std.specs.Prelude.{if◌then◌else◌}
 use Rattle.std.specs.Result.{result_ok}
 use Rattle.base64.specs.Engines.{standard}
 use Rattle.base64.specs.GeneralPurpose.{decode_of}
@@ -32,15 +33,18 @@ contents_in text = result_ok (decode_of standard text)
 
 -- what the two texts of a binary give
 abbrev pub binary_in : List ℕ → List ℕ → Option Contents
-binary_in base64 subtype = option_and_then (λ kind. option_map (λ bytes. (kind, bytes)) (contents_in base64)) (subtype_in subtype)
+binary_in base64 subtype = option_and_then (λ kind. option_map (λ bytes. (kind, bytes)) (contents_in base64))
+    (subtype_in subtype)
 
 -- two members that are texts
 abbrev pub both_texts : Option Data → Option Data → Option (List ℕ × List ℕ)
-both_texts base64 subtype = option_and_then (λ b. option_map (λ s. (b, s)) (option_and_then as_str subtype)) (option_and_then as_str base64)
+both_texts base64 subtype = option_and_then (λ b. option_map (λ s. (b, s)) (option_and_then as_str subtype))
+    (option_and_then as_str base64)
 
 -- the texts `base64` and `subType` of an object that has exactly these two members
 abbrev pub texts_in : Members → Option (List ℕ × List ℕ)
-texts_in ms = if members_count ms == 2 then both_texts (get_member (codes "base64") ms) (get_member (codes "subType") ms) else None
+texts_in ms = if members_count ms == 2 then both_texts (get_member (codes "base64") ms)
+    (get_member (codes "subType") ms) else None
 
 -- what stands under `$binary`: None where it is malformed
 abbrev pub binary_of : Data → Option Contents
@@ -57,4 +61,5 @@ wrapped_by None uuid = option_map uuid_of uuid
 
 -- Some exactly for an object whose single name is `$binary` or `$uuid`: what it gives, None where it is malformed
 abbrev pub wrapped : Members → Option (Option Contents)
-wrapped ms = if members_count ms == 1 then wrapped_by (get_member (codes "$binary") ms) (get_member (codes "$uuid") ms) else None
+wrapped ms = if members_count ms == 1 then wrapped_by (get_member (codes "$binary") ms)
+    (get_member (codes "$uuid") ms) else None

@@ -1,5 +1,6 @@
 -- Collection infos from a JSON text: an array of documents as BSON, or the first fault.
-use Rattle.std.specs.Prelude.{◌+◌, ◌==◌, ◌&&◌, ℕ, Bool, nat_le, List, [], ◌++◌, length, Option, Some, None, option_and_then, Result, Ok, Err, if◌then◌else◌}
+use Rattle.std.specs.Prelude.{◌+◌, ◌==◌, ◌&&◌, ℕ, Bool, nat_le, List, [], ◌++◌, length, Option, Some, None}
+use Rattle.std.specs.Prelude.{option_and_then, Result, Ok, Err, if◌then◌else◌}
 use Rattle.std.specs.Str.{is_utf8}
 use Rattle.serde_json.specs.Data.{Data, array, Items as Values, no_items as no_values, item as value_then}
 use Rattle.serde_json.specs.Read.{read}
@@ -33,7 +34,8 @@ abbrev pub member_then : JsonFault → (Items → Result (List ℕ) JsonFault) �
 member_then fault next None = Err fault
 member_then fault next (Some is) = next is
 
--- the spellings of the members behind `bytes`, of which the first has number k; or the number of the first that has none
+-- the spellings of the members behind `bytes`, of which the first has number k; or the number of the first that has
+-- none
 abbrev pub members_of : ℕ → List ℕ → Values → Result (List ℕ) JsonFault
 members_of k bytes no_values = Ok bytes
 members_of k bytes (value_then d ds) =

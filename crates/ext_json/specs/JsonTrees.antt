@@ -1,8 +1,10 @@
 -- The BSON values that JSON values (RFC 8259) stand for in schemas.
-use Rattle.std.specs.Prelude.{ℕ, ℤ, pos, negsuc, ◌+◌, ◌^◌, Bool, true, false, [], ◌∷◌, Option, Some, None, option_map, option_and_then, nat_lt, if◌then◌else◌}
+use Rattle.std.specs.Prelude.{ℕ, ℤ, pos, negsuc, ◌+◌, ◌^◌, Bool, true, false, [], ◌∷◌, Option, Some, None, option_map}
+use Rattle.std.specs.Prelude.{option_and_then, nat_lt, if◌then◌else◌}
 use Rattle.std.specs.Int.{to_le_bytes, w32, w64, cast_unsigned}
 use Rattle.std.specs.Fmt.{decimal}
-use Rattle.serde_json.specs.Data.{Data, null, boolean, number, string, array, object, Items as Values, no_items as no_values, item as value_then, Members, no_members, member}
+use Rattle.serde_json.specs.Data.{Data, null, boolean, number, string, array, object, Items as Values}
+use Rattle.serde_json.specs.Data.{no_items as no_values, item as value_then, Members, no_members, member}
 use Rattle.serde_json.specs.Find.{as_i64}
 use Rattle.bson_tree.specs.Tree.{Tree, Items, leaf, node, no_items, item}
 use Rattle.bson_codec.specs.Layout.{string_bytes, binary_bytes}
@@ -15,7 +17,8 @@ is_short (negsuc n) = nat_lt n (2 ^ 31)
 
 -- an integer of 32 signed bits is an int, another one a long
 abbrev pub integer_tree : ℤ → Tree
-integer_tree z = if is_short z then leaf 0x10 (to_le_bytes w32 (cast_unsigned w32 z)) else leaf 0x12 (to_le_bytes w64 (cast_unsigned w64 z))
+integer_tree z = if is_short z then leaf 0x10 (to_le_bytes w32 (cast_unsigned w32 z)) else leaf 0x12
+    (to_le_bytes w64 (cast_unsigned w64 z))
 
 -- an integer of 64 signed bits; any other number is undefined, which no rule reads
 abbrev pub number_tree : Option ℤ → Tree
@@ -49,7 +52,8 @@ abbrev mutual
   -- the elements of an array from number i on, named by their numbers
   pub array_items : ℕ → Values → Option Items
   array_items i no_values = Some no_items
-  array_items i (value_then d ds) = option_and_then (λ t. option_map (item (decimal i) t) (array_items (i + 1) ds)) (json_tree d)
+  array_items i (value_then d ds) = option_and_then (λ t. option_map (item (decimal i) t) (array_items (i + 1) ds))
+      (json_tree d)
 
   -- the elements of an object, in the order of its members, which is that of the bytes of their names
   pub object_items : Members → Option Items

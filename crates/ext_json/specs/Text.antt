@@ -1,5 +1,6 @@
 -- Documents as text: compact JSON (RFC 8259) without spaces, after MongoDB Extended JSON v2 in its canonical form.
-use Rattle.std.specs.Prelude.{ℕ, zero, suc, ◌==◌, Bool, true, false, List, [], ◌∷◌, ◌++◌, Option, Some, None, slice_index}
+use Rattle.std.specs.Prelude.{ℕ, zero, suc, ◌==◌, Bool, true, false, List, [], ◌∷◌, ◌++◌, Option, Some, None}
+use Rattle.std.specs.Prelude.{slice_index}
 use Rattle.std.specs.Fmt.{decimal, signed_decimal}
 use Rattle.base64.specs.Engines.{standard}
 use Rattle.base64.specs.GeneralPurpose.{encode_of}
@@ -11,13 +12,15 @@ use Rattle.ext_json.specs.declared.form.Form.TheVariants as forms
 use Rattle.ext_json.specs.Forms.{form_of}
 use Rattle.ext_json.specs.Fixed.{head_text, middle_text, tail_text, truth_text}
 use Rattle.ext_json.specs.Quoted.{escaped, quoted}
-use Rattle.ext_json.specs.Parts.{text_of, subtype_of, contents_of, pattern_of, options_of, namespace_of, id_of, int32_of, int64_of, seconds_of, increment_of, code_of, scope_of}
+use Rattle.ext_json.specs.Parts.{text_of, subtype_of, contents_of, pattern_of, options_of, namespace_of, id_of}
+use Rattle.ext_json.specs.Parts.{int32_of, int64_of, seconds_of, increment_of, code_of, scope_of}
 
 -- what stands between the head and the tail of a raw value, one equation a form; D is the text of a document
 abbrev pub body_text : (Items → List ℕ) → Form → List ℕ → List ℕ
 body_text D forms.DoubleBits bs = encode_lower bs
 body_text D forms.Text bs = escaped (text_of bs)
-body_text D forms.Binary bs = encode_of standard (contents_of bs) ++ (middle_text forms.Binary ++ encode_lower (subtype_of bs ∷ []))
+body_text D forms.Binary bs = encode_of standard (contents_of bs)
+    ++ (middle_text forms.Binary ++ encode_lower (subtype_of bs ∷ []))
 body_text D forms.Undefined bs = []
 body_text D forms.ObjectId bs = encode_lower bs
 body_text D forms.Bool bs = truth_text (slice_index bs 0)
@@ -57,7 +60,8 @@ name_text false name = []
 -- elements, each behind a comma, but the first one behind `before`
 unfoldable pub elements_text : (Tree → List ℕ) → Bool → List ℕ → Items → List ℕ
 elements_text V named before no_items = []
-elements_text V named before (item name t is) = (before ++ (name_text named name ++ V t)) ++ elements_text V named (44 ∷ []) is
+elements_text V named before (item name t is) =
+    (before ++ (name_text named name ++ V t)) ++ elements_text V named (44 ∷ []) is
 
 -- RFC 8259, sections 4 and 5: what a document (true) and an array (false) begin with
 abbrev pub opening_text : Bool → List ℕ
@@ -72,7 +76,8 @@ closing_text false = 93 ∷ []
 -- a document or an array that takes at most so many levels of nesting
 unfoldable pub inside_text : ℕ → Bool → Items → List ℕ
 inside_text zero named is = []
-inside_text (suc levels) named is = opening_text named ++ (elements_text (value_text (inside_text levels)) named [] is ++ closing_text named)
+inside_text (suc levels) named is = opening_text named
+    ++ (elements_text (value_text (inside_text levels)) named [] is ++ closing_text named)
 
 -- the text of a document; `laws::levels_suffice` says that more levels give no other text
 abbrev pub text : Items → List ℕ

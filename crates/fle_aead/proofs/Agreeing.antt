@@ -22,7 +22,8 @@ agree_next a b i d h = (
             let at : k ≡ i = omega arith in
             rw at (xor_none _ _ none.1)
       ],
-  λ all. or_zeros _ _ (h.1 (λ k below. all k (omega arith))) (ap (λ x. bit_xor x (get_or b i 0)) (all i (omega arith)) ∙ xor_self (get_or b i 0)),
+  λ all. or_zeros _ _ (h.1 (λ k below. all k (omega arith)))
+      (ap (λ x. bit_xor x (get_or b i 0)) (all i (omega arith)) ∙ xor_self (get_or b i 0)),
 )
 
 -- lists of one length that agree before their ends are equal

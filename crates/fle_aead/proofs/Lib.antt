@@ -1,3 +1,4 @@
 pub mod SealedForm
 pub mod OpenedMessage
 pub mod Agreeing
+pub mod Published

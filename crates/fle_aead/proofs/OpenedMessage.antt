@@ -1,11 +1,13 @@
 -- The message that sealed bytes open to, as a function, is what the relations say of it.
-use Rattle.std.proofs.Common.{◌≡◌, ◌∙◌, ℕ, ◌-◌, ◌/◌, ◌%◌, ◌<◌, Bool, true, false, List, length, arith, ap, refl, Some, None}
+use Rattle.std.proofs.Common.{◌≡◌, ◌∙◌, ℕ, ◌-◌, ◌/◌, ◌%◌, ◌<◌, Bool, true, false, List, length, arith, ap, refl, Some}
+use Rattle.std.proofs.Common.{None}
 use Rattle.std.specs.Prelude.{◌&&◌, ◌==◌, nat_lt, bytes_eq}
 use Rattle.std.proofs.lemmas.Bool.{eq-eqb, eqb-true}
 use Rattle.std.proofs.lemmas.Bool.Decides.{nat_tests}
 use Rattle.cbc_mode.specs.Padding.{pad, unpad}
 use Rattle.cbc_mode.proofs.Unpadded.{eq_from, eq_yes, unpad-none, unpad-pad}
-use Rattle.fle_aead.specs.Sealed.{body_of, is_sealed_length, is_tagged, opened, opened_message, tag, tag_of, IsSealed, IsSealedLength, IsTagged}
+use Rattle.fle_aead.specs.Sealed.{body_of, is_sealed_length, is_tagged, opened, opened_message, tag, tag_of, IsSealed}
+use Rattle.fle_aead.specs.Sealed.{IsSealedLength, IsTagged}
 use Rattle.fle_aead.proofs.SealedForm.{sealed-opened, sealed-tagged}
 
 both : (x y : Bool) → x ≡ true → y ≡ true → (x && y) ≡ true
@@ -51,7 +53,8 @@ unfolding opened_message
 message-untagged key a c never = rw (not_tagged key a c (is_tagged key a c) refl never) refl
 
 -- a wrong padding
-pub message-unpadded : (key a c : List ℕ) → IsTagged key a c → ((p : List ℕ) → opened key c ≡ pad p → ⊥) → opened_message key a c ≡ None
+pub message-unpadded : (key a c : List ℕ) → IsTagged key a c → ((p : List ℕ) → opened key c ≡ pad p → ⊥)
+    → opened_message key a c ≡ None
 unfolding opened_message
 message-unpadded key a c tagged never = rw (tag_test key a c tagged) (unpad-none (opened key c) never)
 

@@ -1,7 +1,9 @@
 -- A sealed message taken apart, and put together again.
-use Rattle.std.proofs.Common.{◌≡◌, ℕ, ◌+◌, ◌-◌, ◌*◌, ◌/◌, ◌<◌, List, ◌++◌, length, take, drop, arith, ap, sym, ◌∙◌, refl}
+use Rattle.std.proofs.Common.{◌≡◌, ℕ, ◌+◌, ◌-◌, ◌*◌, ◌/◌, ◌<◌, List, ◌++◌, length, take, drop, arith, ap, sym, ◌∙◌}
+use Rattle.std.proofs.Common.{refl}
 use Rattle.std.specs.List.{All}
-use Rattle.std.proofs.lemmas.List.{append_assoc, drop_at, length-append, length-drop, length-take-le, take-append-drop, take-take, take_at}
+use Rattle.std.proofs.lemmas.List.{append_assoc, drop_at, length-append, length-drop, length-take-le, take-append-drop}
+use Rattle.std.proofs.lemmas.List.{take-take, take_at}
 use Rattle.std.proofs.lemmas.List.Elements.{All-drop, All-take}
 use Rattle.aes_block.specs.Block.{IsBlock}
 use Rattle.hmac_sha512.proofs.CodeLength.{length-hmac}
@@ -11,7 +13,8 @@ use Rattle.cbc_mode.proofs.Padded.{pad-injective}
 use Rattle.cbc_mode.proofs.Undone.{cbc_redone, cbc_undone-pad, length-sealed_pad}
 use Rattle.cbc_mode.proofs.WholeBlocks.{IsBlock-take}
 use Rattle.fle_aead.specs.Key.{mac_key, schedule}
-use Rattle.fle_aead.specs.Sealed.{bit_length, body, body_of, tag, tag_of, iv_of, opened, opened_body, IsSealed, IsSealedLength, IsTagged}
+use Rattle.fle_aead.specs.Sealed.{bit_length, body, body_of, tag, tag_of, iv_of, opened, opened_body, IsSealed}
+use Rattle.fle_aead.specs.Sealed.{IsSealedLength, IsTagged}
 
 pub length-tag : (key a s : List ℕ) → length (tag key a s) ≡ 32
 unfolding tag
@@ -25,7 +28,12 @@ length-body key iv p long =
 
 pub sealed-length : (key a iv p c : List ℕ) → IsSealed key a iv p c → length c ≡ 48 + 16 * (length p / 16 + 1)
 sealed-length key a iv p c s =
-    ap length s.form ∙ omega (arith, length-append (body key iv p) (tag key a (body key iv p)), length-body key iv p s.vector.len, length-tag key a (body key iv p))
+    ap length s.form ∙ omega (
+      arith,
+      length-append (body key iv p) (tag key a (body key iv p)),
+      length-body key iv p s.vector.len,
+      length-tag key a (body key iv p),
+    )
 
 pub sealed-is_sealed_length : (key a iv p c : List ℕ) → IsSealed key a iv p c → IsSealedLength (length c)
 sealed-is_sealed_length key a iv p c s = (length p / 16 + 1, omega arith, sealed-length key a iv p c s)
@@ -92,7 +100,8 @@ sealed_from key a p c bytes plain tagged is =
     }
 
 -- a sealed message determines its vector and its message
-pub sealed-determines : (key a iv p iv' p' c : List ℕ) → IsSealed key a iv p c → IsSealed key a iv' p' c → (iv ≡ iv') × (p ≡ p')
+pub sealed-determines : (key a iv p iv' p' c : List ℕ) → IsSealed key a iv p c → IsSealed key a iv' p' c
+    → (iv ≡ iv') × (p ≡ p')
 sealed-determines key a iv p iv' p' c s t = (
   sym (sealed-iv key a iv p c s) ∙ sealed-iv key a iv' p' c t,
   pad-injective p p' (sym (sealed-opened key a iv p c s) ∙ sealed-opened key a iv' p' c t),

@@ -1,7 +1,8 @@
 -- AEAD_AES_256_CBC_HMAC_SHA_512 (draft-mcgrew-aead-aes-cbc-hmac-sha2-05, 2.1 and 2.2, with a key
 -- of 96 bytes and a tag of 32), as MongoDB's client-side field level encryption has it. Bytes are
 -- numbers below 256; a is the associated data.
-use Rattle.std.specs.Prelude.{◌≡◌, ◌≢◌, ℕ, ◌+◌, ◌-◌, ◌*◌, ◌%◌, ◌<◌, List, ◌++◌, All, length, take, drop, Bool, ◌&&◌, ◌==◌, nat_lt, bytes_eq, Option, None, if◌then◌else◌}
+use Rattle.std.specs.Prelude.{◌≡◌, ◌≢◌, ℕ, ◌+◌, ◌-◌, ◌*◌, ◌%◌, ◌<◌, List, ◌++◌, All, length, take, drop, Bool, ◌&&◌}
+use Rattle.std.specs.Prelude.{◌==◌, nat_lt, bytes_eq, Option, None, if◌then◌else◌}
 use Rattle.std.specs.Int.{w64, to_be_bytes}
 use Rattle.aes_block.specs.Block.{IsBlock}
 use Rattle.cbc_mode.specs.Cbc.{cbc_sealed, cbc_opened}

@@ -1,3 +1,3 @@
 pub mod Messages
 pub mod Payloads
-pub mod Sums
+pub mod Turns

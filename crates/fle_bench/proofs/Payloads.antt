@@ -31,16 +31,23 @@ original n long small = record {
 }
 
 -- the kind of a payload, and its length
-pub has-kind : (kind : ℕ) (id key : List ℕ) (type : ℕ) (iv p bytes : List ℕ) → IsSealedPayload kind id key type iv p bytes → IsKind kind
+pub has-kind : (kind : ℕ) (id key : List ℕ) (type : ℕ) (iv p bytes : List ℕ)
+    → IsSealedPayload kind id key type iv p bytes → IsKind kind
     → HasKind bytes
 has-kind kind id key type iv p bytes s known = subst HasKind (sym s.parts) known
 
-pub has-length : (kind : ℕ) (id key : List ℕ) (type : ℕ) (iv p bytes : List ℕ) → IsSealedPayload kind id key type iv p bytes
+pub has-length : (kind : ℕ) (id key : List ℕ) (type : ℕ) (iv p bytes : List ℕ)
+    → IsSealedPayload kind id key type iv p bytes
     → IsPayloadLength (length bytes)
-has-length kind id key type iv p bytes s = (length p / 16 + 1, omega arith, payload-length kind id key type iv p bytes s)
+has-length kind id key type iv p bytes s = (
+  length p / 16 + 1,
+  omega arith,
+  payload-length kind id key type iv p bytes s,
+)
 
 -- a payload in two parts is that of these parts
-pub parted : (kind kind' : ℕ) (id id' key : List ℕ) (type type' : ℕ) (iv p h c bytes : List ℕ) → length id' ≡ 16 → h ≡ head kind' id' type'
+pub parted : (kind kind' : ℕ) (id id' key : List ℕ) (type type' : ℕ) (iv p h c bytes : List ℕ) → length id' ≡ 16
+    → h ≡ head kind' id' type'
     → h ++ c ≡ bytes → IsSealedPayload kind id key type iv p bytes
     → IsSealedPayload kind' id' key type' iv p (h ++ c) × (type ≡ type')
 parted kind kind' id id' key type type' iv p h c bytes long is joined s =

@@ -1,6 +1,7 @@
-pub mod Adler32
+pub mod Checksum
 pub mod Message
 pub mod Payload
 pub mod Value
+pub mod Turns
 pub mod Words
 pub mod Protected

@@ -29,5 +29,6 @@ payload_of algorithm key id type iv p =
 
 -- where the bytes are the payload of a value that may be opened, out begins with it
 pub record IsOpened (key bytes out : List ℕ) : Type 0 where
-  pub begins : (kind : ℕ) (id : List ℕ) (type : ℕ) (iv p : List ℕ) → IsSealedPayload kind id key type iv p bytes → IsKind kind
+  pub begins : (kind : ℕ) (id : List ℕ) (type : ℕ) (iv p : List ℕ) → IsSealedPayload kind id key type iv p bytes
+      → IsKind kind
       → IsOriginal 100 type p → take (length p) out ≡ p

@@ -5,7 +5,8 @@ use Rattle.fle_bench.specs.declared.job.Direction.TheVariants.{Seal, Open}
 use Rattle.fle_bench.specs.declared.job.Way.TheVariants.{Tables, Closures, Boxes}
 use Rattle.fle_bench.specs.declared.job.KeySetup.TheVariants.{Kept, Fresh}
 use Rattle.fle_bench.specs.declared.job.Subject.{Subject}
-use Rattle.fle_bench.specs.declared.job.Subject.TheVariants.{Cbc, Hmac, AeadSeal, AeadOpen, Payload, BsonCheck, RuleNames}
+use Rattle.fle_bench.specs.declared.job.Subject.TheVariants.{Cbc, Hmac, AeadSeal, AeadOpen, Payload, BsonCheck}
+use Rattle.fle_bench.specs.declared.job.Subject.TheVariants.{RuleNames}
 
 -- the word for a subject
 abbrev pub word_of : Subject → List ℕ

@@ -3,12 +3,12 @@
 
 ghost use Rattle.std.specs.Prelude.{◌≡◌, ◌≤◌, ◌<◌, ◌+◌, ◌*◌, ◌/◌, ◌^◌, length, List, take, ℕ, IfOk};
 ghost use Rattle.fle_aead.specs.Sealed.{derived_iv, IsSealed};
-ghost use Rattle.fle_bench.specs.Adler32.{adler32};
+ghost use Rattle.fle_bench.specs.Checksum.{checksum};
 ghost use Rattle.fle_bench.specs.Message.{message_bytes};
-ghost use Rattle.fle_bench.specs.Value.{sealed_value};
+ghost use Rattle.fle_bench.specs.Turns.{value_turns};
 
-use crate::checksum::adler32;
-use crate::input::message;
+use crate::checksum::checksum;
+use crate::input::{last_18, message};
 use crate::job::{KeySetup, MOST_BYTES};
 use crypto_hooks::Tables;
 use fle_aead::{DataKey, derive_iv, open_into, seal_into, sealed_len};
@@ -30,51 +30,54 @@ pub fn run_sealing(
 ) -> Result<u32, AllocError>
     requires { size ≤ MOST_BYTES }
     ensures { IfOk result (λ sum. 0 < turns
-        → sum ≡ adler32 (sealed_value DATA_KEY ASSOCIATED (message_bytes size))) }
+        → sum ≡ checksum (value_turns DATA_KEY ASSOCIATED (message_bytes size) turns)) }
 {
     let plain = message(alloc, size)?;
     let mut sealed = vec![in alloc; 0u8; sealed_len(size)]?;
     match setup {
-        KeySetup::Kept => seal_kept(DATA_KEY, &ASSOCIATED, &plain, &mut sealed, turns),
-        KeySetup::Fresh => seal_fresh(DATA_KEY, &ASSOCIATED, &plain, &mut sealed, turns),
+        KeySetup::Kept => seal_kept(DATA_KEY, ASSOCIATED, &plain, &mut sealed, turns),
+        KeySetup::Fresh => seal_fresh(DATA_KEY, ASSOCIATED, &plain, &mut sealed, turns),
     }
-    Ok(adler32(&sealed))
+    Ok(checksum(&sealed))
 }
 
 /// Opens what a message of some length is sealed to, and gives the checksum of the message that it
 /// found last.
 pub fn run_opening(alloc: Global, size: usize, turns: u32) -> Result<u32, AllocError>
     requires { size ≤ MOST_BYTES }
-    ensures { IfOk result (λ sum. 0 < turns → sum ≡ adler32 (message_bytes size)) }
+    ensures { IfOk result (λ sum. 0 < turns → sum ≡ checksum (message_bytes size)) }
 {
     let plain = message(alloc, size)?;
     let mut sealed = vec![in alloc; 0u8; sealed_len(size)]?;
-    seal_kept(DATA_KEY, &ASSOCIATED, &plain, &mut sealed, 1);
+    seal_once(&DataKey::new(DATA_KEY), &ASSOCIATED, &plain, &mut sealed);
     let mut opened = vec![in alloc; 0u8; sealed_len(size)]?;
     open_kept(DATA_KEY, &ASSOCIATED, &sealed, &mut opened, turns);
-    Ok(adler32(&opened[..size]))
+    Ok(checksum(&opened[..size]))
 }
 
-/// Seals a message some times over, to the same bytes each time, under a key that is kept.
-fn seal_kept(bytes: [u8; 96], aad: &[u8], plain: &[u8], out: &mut [u8], turns: u32)
-    requires aad { length aad.now < 2 ^ 31 }
+/// Seals a message some times over under a key that is kept, the last 18 bytes of each time being the
+/// next associated data.
+fn seal_kept(bytes: [u8; 96], first: [u8; 18], plain: &[u8], out: &mut [u8], turns: u32)
     requires room { length out.old ≡ 48 + 16 * (length plain.now / 16 + 1) }
-    ensures { 0 < turns → IsSealed bytes aad.now (derived_iv bytes aad.now plain.now) plain.now out.new }
+    ensures { 0 < turns → out.new ≡ value_turns bytes first plain.now turns }
 {
     let key = DataKey::new(bytes);
+    let mut aad = first;
     for _turn in 0..turns {
-        seal_once(&key, aad, plain, out);
+        seal_once(&key, &aad, plain, out);
+        aad = last_18(out);
     }
 }
 
 /// The same with nothing kept: each turn makes the key ready anew.
-fn seal_fresh(bytes: [u8; 96], aad: &[u8], plain: &[u8], out: &mut [u8], turns: u32)
-    requires aad { length aad.now < 2 ^ 31 }
+fn seal_fresh(bytes: [u8; 96], first: [u8; 18], plain: &[u8], out: &mut [u8], turns: u32)
     requires room { length out.old ≡ 48 + 16 * (length plain.now / 16 + 1) }
-    ensures { 0 < turns → IsSealed bytes aad.now (derived_iv bytes aad.now plain.now) plain.now out.new }
+    ensures { 0 < turns → out.new ≡ value_turns bytes first plain.now turns }
 {
+    let mut aad = first;
     for _turn in 0..turns {
-        seal_once(&DataKey::new(bytes), aad, plain, out);
+        seal_once(&DataKey::new(bytes), &aad, plain, out);
+        aad = last_18(out);
     }
 }
 

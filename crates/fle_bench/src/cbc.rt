@@ -5,11 +5,12 @@ ghost use Rattle.aes_block.specs.Cipher.{cipher, inv_cipher};
 ghost use Rattle.aes_block.specs.Expansion.{expanded};
 ghost use Rattle.cbc_mode.specs.Cbc.{cbc_opened, cbc_sealed, IsWholeBlocks};
 ghost use Rattle.cbc_mode.specs.Padding.{pad};
-ghost use Rattle.fle_bench.specs.Adler32.{adler32};
+ghost use Rattle.fle_bench.specs.Checksum.{checksum};
 ghost use Rattle.fle_bench.specs.Message.{message_bytes};
+ghost use Rattle.fle_bench.specs.Turns.{sealed_turns};
 
-use crate::checksum::adler32;
-use crate::input::message;
+use crate::checksum::checksum;
+use crate::input::{last_block, message};
 use crate::job::{Direction, MOST_BYTES, Way};
 use aes_block::{Schedule, cipher_tables, expand, inv_cipher_tables, inv_cipher_tables_pair};
 use cbc_mode::{cbc_open_into, cbc_seal_into, padded_len};
@@ -27,9 +28,9 @@ pub fn run(
 ) -> Result<u32, AllocError>
     requires { size ≤ MOST_BYTES }
     ensures sealed { IfOk result (λ sum. direction ≡ Direction.Seal → 0 < turns
-        → sum ≡ adler32 (cbc_sealed (expanded CBC_AES256.key) CBC_AES256.iv (pad (message_bytes size)))) }
+        → sum ≡ checksum (sealed_turns (expanded CBC_AES256.key) CBC_AES256.iv (message_bytes size) turns)) }
     ensures opened { IfOk result (λ sum. direction ≡ Direction.Open → 0 < turns
-        → sum ≡ adler32 (cbc_opened (expanded CBC_AES256.key) CBC_AES256.iv
+        → sum ≡ checksum (cbc_opened (expanded CBC_AES256.key) CBC_AES256.iv
         (cbc_sealed (expanded CBC_AES256.key) CBC_AES256.iv (pad (message_bytes size))))) }
 {
     let seal = |s: &Schedule, b: [u8; 16]| -> [u8; 16]
@@ -68,9 +69,9 @@ fn through<B: Block256>(
     requires hooks { B.answers hooks.now }
     requires bounded { size ≤ MOST_BYTES }
     ensures sealed { IfOk result (λ sum. direction ≡ Direction.Seal → 0 < turns
-        → sum ≡ adler32 (cbc_sealed (expanded CBC_AES256.key) CBC_AES256.iv (pad (message_bytes size)))) }
+        → sum ≡ checksum (sealed_turns (expanded CBC_AES256.key) CBC_AES256.iv (message_bytes size) turns)) }
     ensures opened { IfOk result (λ sum. direction ≡ Direction.Open → 0 < turns
-        → sum ≡ adler32 (cbc_opened (expanded CBC_AES256.key) CBC_AES256.iv
+        → sum ≡ checksum (cbc_opened (expanded CBC_AES256.key) CBC_AES256.iv
         (cbc_sealed (expanded CBC_AES256.key) CBC_AES256.iv (pad (message_bytes size))))) }
 {
     let schedule = expand(&CBC_AES256.key);
@@ -79,32 +80,34 @@ fn through<B: Block256>(
     match direction {
         Direction::Seal => {
             seal_turns(hooks, &schedule, CBC_AES256.iv, &plain, &mut sealed, turns);
-            Ok(adler32(&sealed))
+            Ok(checksum(&sealed))
         }
         Direction::Open => {
-            seal_turns(hooks, &schedule, CBC_AES256.iv, &plain, &mut sealed, 1);
+            cbc_seal_into(hooks, &schedule, CBC_AES256.iv, &plain, &mut sealed);
             let mut opened = vec![in alloc; 0u8; padded_len(size)]?;
             open_turns(hooks, &schedule, CBC_AES256.iv, &sealed, &mut opened, turns);
-            Ok(adler32(&opened))
+            Ok(checksum(&opened))
         }
     }
 }
 
-/// Seals a message some times over, to the same bytes each time.
+/// Seals a message some times over, the last block of each time being the next vector.
 fn seal_turns<B: Block256>(
     hooks: &B,
     schedule: &Schedule,
-    iv: [u8; 16],
+    first: [u8; 16],
     plain: &[u8],
     out: &mut [u8],
     turns: u32,
 )
     requires hooks { B.answers hooks.now }
     requires room { length out.old ≡ 16 * (length plain.now / 16 + 1) }
-    ensures { 0 < turns → out.new ≡ cbc_sealed schedule.now iv (pad plain.now) }
+    ensures { 0 < turns → out.new ≡ sealed_turns schedule.now first plain.now turns }
 {
+    let mut iv = first;
     for _turn in 0..turns {
         cbc_seal_into(hooks, schedule, iv, plain, out);
+        iv = last_block(out);
     }
 }
 

@@ -1,20 +1,22 @@
-//! Adler-32 (RFC 1950, 8.2).
+//! The first 4 bytes of a SHA-256 digest (FIPS 180-4, 6.2).
 
-ghost use Rattle.std.specs.Prelude.{◌≡◌};
-ghost use Rattle.fle_bench.specs.Adler32.{adler32};
+ghost use Rattle.std.specs.Prelude.{◌≡◌, take};
+ghost use Rattle.fle_bench.specs.Checksum.{checksum};
 
-/// The largest prime below 2^16.
-const BASE: u32 = 65521;
+use sha2::{Digest, Sha256};
 
 /// The checksum of the bytes.
-pub fn adler32(bytes: &[u8]) -> u32
-    ensures { result ≡ adler32 bytes.now }
+pub fn checksum(bytes: &[u8]) -> u32
+    ensures { result ≡ checksum bytes.now }
 {
-    let mut s1 = 1;
-    let mut s2 = 0;
-    for b in bytes {
-        s1 = (s1 + u32::from(*b)) % BASE;
-        s2 = (s2 + s1) % BASE;
-    }
-    s2 * 65536 + s1
+    u32::from_be_bytes(first_4(&Sha256::digest(bytes)))
+}
+
+/// The first 4 bytes of a digest.
+fn first_4(digest: &[u8; 32]) -> [u8; 4]
+    ensures { result ≡ take 4 digest.now }
+{
+    let mut front = [0; 4];
+    front.copy_from_slice(&digest[..4]);
+    front
 }

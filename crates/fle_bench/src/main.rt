@@ -4,9 +4,10 @@
 //! fle_bench cbc-seal-tables 1024 100000
 //! ```
 //!
-//! The words are what is run, the number of bytes, and how many times. It writes one line, with the Adler-32 checksum of
-//! the last answer; or, for the check of a document, 1 where it is right; or, for the names of a document among rules, how
-//! many are those of rules. It reads no clock: the same words and the same input always give the same line.
+//! The words are what is run, the number of bytes, and how many times. It writes one line, with the first 8 digits of
+//! the SHA-256 digest of the last answer; or, for the check of a document, 1 where it is right; or, for the names of a
+//! document among rules, how many are those of rules. It reads no clock: the same words and the same input always give
+//! the same line.
 #![tactic(auto)]
 
 mod aead;
@@ -36,6 +37,11 @@ fn main(rt: HostRuntime) -> anyhow::Result<()> {
     let turns = times.parse::<u32>()?;
     if size > MOST_BYTES {
         anyhow::bail!("the message is longer than 64 MiB");
+    }
+    if let Subject::Hmac(_) = subject {
+        if size < 16 {
+            anyhow::bail!("the message of a code is shorter than 16 bytes");
+        }
     }
     let checksum = match subject {
         Subject::Cbc(direction, way) => cbc::run(rt.alloc(), direction, way, size, turns)?,

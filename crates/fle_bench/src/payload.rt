@@ -2,13 +2,14 @@
 //! under a vector that is given.
 
 ghost use Rattle.std.specs.Prelude.{◌≡◌, ◌≤◌, ◌<◌, ◌+◌, ◌*◌, ◌/◌, ◌^◌, length, take, IfOk};
-ghost use Rattle.fle_bench.specs.Adler32.{adler32};
-ghost use Rattle.fle_bench.specs.Payload.{binary_value, payload_of, vector_of, IsOpened};
+ghost use Rattle.fle_bench.specs.Checksum.{checksum};
+ghost use Rattle.fle_bench.specs.Payload.{binary_value, vector_of, IsOpened};
+ghost use Rattle.fle_bench.specs.Turns.{payload_turns};
 ghost use Rattle.payload6.specs.Opening.{IsOriginal};
 ghost use Rattle.payload6.specs.Payload.{algorithm_number, IsSealedPayload};
 
-use crate::checksum::adler32;
-use crate::input::message;
+use crate::checksum::checksum;
+use crate::input::{last_block, message};
 use crate::job::MOST_BYTES;
 use bson_tree::types::BINARY;
 use crypto_hooks::Tables;
@@ -21,7 +22,7 @@ use payload6::{
 };
 use std::alloc::{AllocError, Global};
 
-/// The id of the data key.
+/// The id of the data key, until an answer stands in its place.
 const KEY_ID: [u8; 16] = [
     0x00, 0x11, 0x22, 0x33, 0x44, 0x55, 0x46, 0x77, 0x88, 0x99, 0xaa, 0xbb, 0xcc, 0xdd, 0xee, 0xff,
 ];
@@ -41,12 +42,12 @@ pub fn run_sealing(
 ) -> Result<u32, AllocError>
     requires { size ≤ MOST_BYTES }
     ensures { IfOk result (λ sum. 0 < turns
-        → sum ≡ adler32 (payload_of algorithm DATA_KEY KEY_ID BINARY VECTOR (binary_value size))) }
+        → sum ≡ checksum (payload_turns algorithm DATA_KEY KEY_ID BINARY VECTOR (binary_value size) turns)) }
 {
     let plain = binary(alloc, size)?;
     let mut payload = vec![in alloc; 0u8; payload_len(size + 5)]?;
     seal(algorithm, &plain, &mut payload, turns);
-    Ok(adler32(&payload))
+    Ok(checksum(&payload))
 }
 
 /// Opens the payload of a binary with contents of some length, and gives the checksum of the value
@@ -58,13 +59,13 @@ pub fn run_opening(
     turns: u32,
 ) -> Result<u32, AllocError>
     requires { size ≤ MOST_BYTES }
-    ensures { IfOk result (λ sum. 0 < turns → sum ≡ adler32 (binary_value size)) }
+    ensures { IfOk result (λ sum. 0 < turns → sum ≡ checksum (binary_value size)) }
 {
     let plain = binary(alloc, size)?;
     let mut payload = vec![in alloc; 0u8; payload_len(size + 5)]?;
     let mut opened = vec![in alloc; 0u8; payload_len(size + 5)]?;
     seal_and_open(algorithm, &plain, &mut payload, &mut opened, turns);
-    Ok(adler32(&opened[..size + 5]))
+    Ok(checksum(&opened[..size + 5]))
 }
 
 /// The bytes of a binary whose contents are the message.
@@ -82,34 +83,34 @@ fn binary(alloc: Global, size: usize) -> Result<Vec<u8>, AllocError>
     Ok(bytes)
 }
 
-/// Seals a binary some times over, to the same payload each time.
+/// Seals a binary some times over, the last block of each payload being the next one's key id.
 fn seal(algorithm: Algorithm, plain: &[u8], out: &mut [u8], turns: u32)
     requires room { length out.old ≡ 66 + 16 * (length plain.now / 16 + 1) }
-    ensures sealed { 0 < turns → IsSealedPayload (algorithm_number algorithm) KEY_ID DATA_KEY BINARY
-        (vector_of algorithm DATA_KEY KEY_ID BINARY VECTOR plain.now) plain.now out.new }
-    ensures bytes { 0 < turns
-        → out.new ≡ payload_of algorithm DATA_KEY KEY_ID BINARY VECTOR plain.now }
+    ensures { 0 < turns
+        → out.new ≡ payload_turns algorithm DATA_KEY KEY_ID BINARY VECTOR plain.now turns }
 {
     let key = DataKey::new(DATA_KEY);
+    let mut id = KEY_ID;
     for _turn in 0..turns {
-        seal_once(&key, algorithm, plain, out);
+        seal_once(&key, algorithm, id, plain, out);
+        id = last_block(out);
     }
 }
 
 /// Seals a binary.
 #[tactic(auto, unfolding(crate::specs::Payload::vector_of))]
-fn seal_once(key: &DataKey, algorithm: Algorithm, plain: &[u8], out: &mut [u8])
+fn seal_once(key: &DataKey, algorithm: Algorithm, id: [u8; 16], plain: &[u8], out: &mut [u8])
     requires room { length out.old ≡ 66 + 16 * (length plain.now / 16 + 1) }
-    ensures { IsSealedPayload (algorithm_number algorithm) KEY_ID key.now BINARY
-        (vector_of algorithm key.now KEY_ID BINARY VECTOR plain.now) plain.now out.new }
+    ensures { IsSealedPayload (algorithm_number algorithm) id key.now BINARY
+        (vector_of algorithm key.now id BINARY VECTOR plain.now) plain.now out.new }
 {
     match algorithm {
         Algorithm::Deterministic => {
-            let iv = det_iv(key, KEY_ID, BINARY, plain);
-            seal_payload_into(&Tables, key, DETERMINISTIC, KEY_ID, BINARY, iv, plain, out);
+            let iv = det_iv(key, id, BINARY, plain);
+            seal_payload_into(&Tables, key, DETERMINISTIC, id, BINARY, iv, plain, out);
         }
         Algorithm::Random => {
-            seal_payload_into(&Tables, key, RANDOM, KEY_ID, BINARY, VECTOR, plain, out);
+            seal_payload_into(&Tables, key, RANDOM, id, BINARY, VECTOR, plain, out);
         }
     }
 }
@@ -122,7 +123,7 @@ fn seal_and_open(algorithm: Algorithm, plain: &[u8], payload: &mut [u8], out: &m
     requires room { length payload.old ≤ length out.old }
     ensures { 0 < turns → take (length plain.now) out.new ≡ plain.now }
 {
-    seal(algorithm, plain, payload, 1);
+    seal_once(&DataKey::new(DATA_KEY), algorithm, KEY_ID, plain, payload);
     open(payload, out, turns);
 }
 

@@ -1,33 +1,39 @@
 use crate::aead::{run_opening, run_sealing};
 use crate::cbc::run;
-use crate::checksum::adler32;
+use crate::checksum::checksum;
 use crate::job::{Direction, KeySetup, Way};
 use crate::{hmac, payload};
 use encrypt_schema::Algorithm;
 use std::alloc::AllocError;
 
-// What zlib's adler32 gives.
+// The front of FIPS 180-4's example digest.
 #[test]
-fn adler32_of_a_word(rt: HostRuntime) {
-    assert_eq!(rt; adler32(b"Wikipedia"), 0x11e60398);
+fn checksum_of_a_word(rt: HostRuntime) {
+    assert_eq!(rt; checksum(b"abc"), 0xba7816bf);
 }
 
-// The checksums of what OpenSSL writes for the same key, initialization vector and message.
+// The checksums of what OpenSSL's command writes for the same key, vectors and message in one turn and in three.
 #[test]
 fn each_way_writes_what_openssl_does(rt: HostRuntime) -> Result<(), AllocError> {
+    let rows = [(1, 0x57b7ca07, 0xc76726a6), (3, 0x314ee436, 0xc76726a6)];
     for way in [Way::Tables, Way::Closures, Way::Boxes] {
-        assert_eq!(rt; run(rt.alloc(), Direction::Seal, way, 1024, 2)?, 0xe13f0c20);
-        assert_eq!(rt; run(rt.alloc(), Direction::Open, way, 1024, 2)?, 0x1eb9ec0a);
+        for (turns, sealed, opened) in rows {
+            assert_eq!(rt; run(rt.alloc(), Direction::Seal, way, 1024, turns)?, sealed);
+            assert_eq!(rt; run(rt.alloc(), Direction::Open, way, 1024, turns)?, opened);
+        }
     }
     Ok(())
 }
 
-// The checksums of the codes that Python's hmac makes.
+// The checksums of the codes that Python's hmac makes in one turn and in three.
 #[test]
 fn codes_are_those_of_python(rt: HostRuntime) -> Result<(), AllocError> {
+    let rows = [(1, 0xee290495, 0xe0af49e9), (3, 0x68509b3e, 0xa98966d7)];
     for setup in [KeySetup::Kept, KeySetup::Fresh] {
-        assert_eq!(rt; hmac::run(rt.alloc(), setup, 42, 2)?, 0x2350218c);
-        assert_eq!(rt; hmac::run(rt.alloc(), setup, 74, 2)?, 0x464120e3);
+        for (turns, vector_text, tag_text) in rows {
+            assert_eq!(rt; hmac::run(rt.alloc(), setup, 42, turns)?, vector_text);
+            assert_eq!(rt; hmac::run(rt.alloc(), setup, 74, turns)?, tag_text);
+        }
     }
     Ok(())
 }
@@ -35,29 +41,32 @@ fn codes_are_those_of_python(rt: HostRuntime) -> Result<(), AllocError> {
 // The checksums of what Python's hmac and OpenSSL's AES-256-CBC make together, and of the message.
 #[test]
 fn values_are_sealed_as_elsewhere_and_opened(rt: HostRuntime) -> Result<(), AllocError> {
-    for setup in [KeySetup::Kept, KeySetup::Fresh] {
-        assert_eq!(rt; run_sealing(rt.alloc(), setup, 16, 2)?, 0x92e128a0);
+    for (turns, sealed, opened) in [(1, 0x49d838f7, 0xbe45cb26), (3, 0xaf8f1339, 0xbe45cb26)] {
+        for setup in [KeySetup::Kept, KeySetup::Fresh] {
+            assert_eq!(rt; run_sealing(rt.alloc(), setup, 16, turns)?, sealed);
+        }
+        assert_eq!(rt; run_opening(rt.alloc(), 16, turns)?, opened);
     }
-    assert_eq!(rt; run_opening(rt.alloc(), 16, 2)?, 0x02b80079);
     Ok(())
 }
 
-// The checksums of the payloads that Python's hmac and OpenSSL's AES-256-CBC make together, of which
-// the deterministic one is libmongocrypt's too, and of the value.
+// The checksums of the payloads that Python's hmac and OpenSSL's AES-256-CBC make together, and of the value.
 #[test]
 fn payloads_are_those_made_elsewhere(rt: HostRuntime) -> Result<(), AllocError> {
     let rows = [
-        (Algorithm::Deterministic, 0xbc282ee5),
-        (Algorithm::Random, 0x218228eb),
+        (Algorithm::Deterministic, 1, 0x75b78a09, 0x87a52941),
+        (Algorithm::Deterministic, 3, 0xa1b4595d, 0x87a52941),
+        (Algorithm::Random, 1, 0x5ada8e43, 0x87a52941),
+        (Algorithm::Random, 3, 0x599a3a3a, 0x87a52941),
     ];
-    for (algorithm, checksum) in rows {
+    for (algorithm, turns, sealed, opened) in rows {
         assert_eq!(rt;
-            payload::run_sealing(rt.alloc(), algorithm, 11, 2)?,
-            checksum
+            payload::run_sealing(rt.alloc(), algorithm, 11, turns)?,
+            sealed
         );
         assert_eq!(rt;
-            payload::run_opening(rt.alloc(), algorithm, 11, 2)?,
-            0x019c0043
+            payload::run_opening(rt.alloc(), algorithm, 11, turns)?,
+            opened
         );
     }
     Ok(())

@@ -1,5 +1,6 @@
 -- Named files, and what one read of a folder says, by its answer.
-use Rattle.std.specs.Prelude.{◌≡◌, ℕ, ◌<◌, ◌≤◌, Option, Some, None, List, [], ◌∷◌, take, drop, length, nat_eq, nat_le, min, ◌-◌, cond, if◌then◌else◌, ◌++◌}
+use Rattle.std.specs.Prelude.{◌≡◌, ℕ, ◌<◌, ◌≤◌, Option, Some, None, List, [], ◌∷◌, take, drop, length, nat_eq, nat_le}
+use Rattle.std.specs.Prelude.{min, ◌-◌, cond, if◌then◌else◌, ◌++◌}
 use denote.Ref.{Bor}
 use Rattle.std.specs.Cmp.Lexicographic.{pointwise}
 use Rattle.fle_outside.specs.Counts.{Rose}
@@ -27,7 +28,8 @@ abbrev pub GivesAt : Option (List ℕ) → ℕ → FileAnswer → List ℕ → T
 GivesAt None at (reads.Took n) piece = ⊥
 GivesAt None at reads.End piece = ⊥
 GivesAt None at reads.Missing piece = Unit {0}
-GivesAt (Some bytes) at (reads.Took n) piece = (at < length bytes) × (drop at bytes ≡ take n piece ++ drop n (drop at bytes))
+GivesAt (Some bytes) at (reads.Took n) piece =
+    (at < length bytes) × (drop at bytes ≡ take n piece ++ drop n (drop at bytes))
 GivesAt (Some bytes) at reads.End piece = length bytes ≤ at
 GivesAt (Some bytes) at reads.Missing piece = ⊥
 GivesAt file at reads.Failed piece = Unit {0}
@@ -35,7 +37,8 @@ GivesAt file at reads.Failed piece = Unit {0}
 -- the exact answer of a read that doesn't fail, into a piece of this size
 abbrev pub answer_at : Option (List ℕ) → ℕ → ℕ → FileAnswer
 answer_at None at size = reads.Missing
-answer_at (Some bytes) at size = if nat_le (length bytes) at then reads.End else reads.Took (min size (length bytes - at))
+answer_at (Some bytes) at size = if nat_le (length bytes) at then reads.End else reads.Took
+    (min size (length bytes - at))
 
 -- a borrowed file is the one that was looked for
 abbrev pub IsFile : Option (List ℕ) → Option (Bor (List ℕ)) → Type 0

@@ -3,9 +3,11 @@ use Rattle.std.specs.Prelude.{◌≡◌, ℕ, ◌+◌, ◌-◌, ◌^◌, ◌<◌
 use Rattle.fle_outside.specs.declared.filling.Fill.{Fill}
 use Rattle.fle_outside.specs.declared.filling.Fill.TheVariants as fills
 
--- whole: the piece is the front of what was left; ended: the piece begins with all that was left; failed: at most the piece's length was handed out
+-- whole: the piece is the front of what was left; ended: the piece begins with all that was left; failed: at most the
+-- piece's length was handed out
 abbrev pub FillTakes : List ℕ → Option (List ℕ) → Fill → List ℕ → Type 0
-FillTakes told after fills.Whole piece = (told ≡ piece ++ drop (length piece) told) × (after ≡ Some (drop (length piece) told))
+FillTakes told after fills.Whole piece = (told ≡ piece ++ drop (length piece) told)
+    × (after ≡ Some (drop (length piece) told))
 FillTakes told after (fills.Ended n) piece = (length told ≡ n) × (after ≡ Some [])
 FillTakes told after fills.Failed piece = (m : ℕ) × (m ≤ length piece) × (after ≡ Some (drop m told))
 
@@ -23,7 +25,8 @@ RoseBy before after n = (min (before + n) (2 ^ 64 - 1) ≤ after) × (after ≤ 
 abbrev pub RoseWithin : ℕ → ℕ → ℕ → Type 0
 RoseWithin before after n = (min before (2 ^ 64 - 1) ≤ after) × (after ≤ before + n)
 
--- the bytes that a source handed out, told or not: as many as the answer says, and by a failure at most the piece's length
+-- the bytes that a source handed out, told or not: as many as the answer says, and by a failure at most the piece's
+-- length
 abbrev pub FillCounts : ℕ → ℕ → Fill → ℕ → Type 0
 FillCounts before after fills.Whole size = RoseBy before after size
 FillCounts before after (fills.Ended n) size = RoseBy before after n

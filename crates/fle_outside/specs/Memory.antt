@@ -1,5 +1,6 @@
 -- The objects in memory: what each call of theirs answers, and what it leaves.
-use Rattle.std.specs.Prelude.{◌≡◌, ℕ, ◌-◌, ◌==◌, ◌||◌, Some, None, Bool, true, false, Result, Ok, Err, List, [], ◌∷◌, ◌++◌, length, take, drop, min, if◌then◌else◌, Vec, String, string_bytes}
+use Rattle.std.specs.Prelude.{◌≡◌, ℕ, ◌-◌, ◌==◌, ◌||◌, Some, None, Bool, true, false, Result, Ok, Err, List, [], ◌∷◌}
+use Rattle.std.specs.Prelude.{◌++◌, length, take, drop, min, if◌then◌else◌, Vec, String, string_bytes}
 use Rattle.std.specs.Global.{Global}
 use Rattle.fle_outside.specs.Counts.{next_count, fails_at}
 use Rattle.fle_outside.specs.Files.{Files, file_of, answer_at}
@@ -14,7 +15,8 @@ use Rattle.fle_outside.specs.declared.answers.FileAnswer.TheVariants as files
 use Rattle.fle_outside.specs.declared.answers.WriteAnswer.{WriteAnswer}
 use Rattle.fle_outside.specs.declared.answers.WriteAnswer.TheVariants as writes
 
--- a source: what is left, the bytes that it handed out, the most bytes of a call, the calls that are to fail, the next call's number, the calls that failed
+-- a source: what is left, the bytes that it handed out, the most bytes of a call, the calls that are to fail, the next
+-- call's number, the calls that failed
 pub record SourceState : Type 0 where
   pub left : List ℕ
   pub taken : ℕ
@@ -31,7 +33,11 @@ read_answer s size =
 
 -- the source after that answer
 abbrev pub after_read : SourceState → ReadAnswer → SourceState
-after_read s (reads.Took n) = record s { left = drop n s.left; taken = taken_by s.taken (reads.Took n); calls = next_count s.calls }
+after_read s (reads.Took n) = record s {
+  left = drop n s.left;
+  taken = taken_by s.taken (reads.Took n);
+  calls = next_count s.calls;
+}
 after_read s reads.End = record s { calls = next_count s.calls }
 after_read s reads.Failed = record s { calls = next_count s.calls; faults = next_count s.faults }
 
@@ -48,7 +54,8 @@ pub record FolderState : Type 0 where
 
 -- what a read of a file at a place into a piece of this size answers
 abbrev pub file_answer : FolderState → List ℕ → ℕ → ℕ → FileAnswer
-file_answer s name at size = if fails_at s.failing s.calls then files.Failed else answer_at (file_of s.files name) at size
+file_answer s name at size = if fails_at s.failing s.calls then files.Failed else answer_at
+    (file_of s.files name) at size
 
 -- the folder after that answer
 abbrev pub after_file : FolderState → FileAnswer → FolderState
@@ -70,7 +77,8 @@ abbrev pub HasDistinctNames : Files → Type 0
 HasDistinctNames [] = Unit {0}
 HasDistinctNames (f ∷ fs) = (file_of fs f.0 ≡ None) × HasDistinctNames fs
 
--- a sink: what it took, its free room, the most bytes of a call, the calls that are to fail, the next call's number, the calls that failed
+-- a sink: what it took, its free room, the most bytes of a call, the calls that are to fail, the next call's number,
+-- the calls that failed
 pub record SinkState : Type 0 where
   pub written : List ℕ
   pub room : ℕ
@@ -86,7 +94,11 @@ write_answer s size =
 
 -- the sink after that answer to a piece
 abbrev pub after_write : SinkState → List ℕ → WriteAnswer → SinkState
-after_write s piece (writes.Took n) = record s { written = s.written ++ take n piece; room = s.room - n; calls = next_count s.calls }
+after_write s piece (writes.Took n) = record s {
+  written = s.written ++ take n piece;
+  room = s.room - n;
+  calls = next_count s.calls;
+}
 after_write s piece writes.Failed = record s { calls = next_count s.calls; faults = next_count s.faults }
 
 -- the bytes that a sink takes for certain: its free room where no call is to fail

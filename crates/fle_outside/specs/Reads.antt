@@ -10,10 +10,12 @@ ReadWithin (reads.Took n) size = (0 < n) × (n ≤ size)
 ReadWithin reads.End size = Unit {0}
 ReadWithin reads.Failed size = Unit {0}
 
--- a source that tells what it has left hands out the next bytes, ends exactly where none is left, and loses none by a failure
+-- a source that tells what it has left hands out the next bytes, ends exactly where none is left, and loses none by a
+-- failure
 abbrev pub ReadTakes : Option (List ℕ) → Option (List ℕ) → ReadAnswer → List ℕ → Type 0
 ReadTakes None after answer piece = after ≡ None
-ReadTakes (Some bytes) after (reads.Took n) piece = (bytes ≡ take n piece ++ drop n bytes) × (after ≡ Some (drop n bytes))
+ReadTakes (Some bytes) after (reads.Took n) piece =
+    (bytes ≡ take n piece ++ drop n bytes) × (after ≡ Some (drop n bytes))
 ReadTakes (Some bytes) after reads.End piece = (bytes ≡ []) × (after ≡ Some bytes)
 ReadTakes (Some bytes) after reads.Failed piece = after ≡ Some bytes
 

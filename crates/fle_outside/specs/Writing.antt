@@ -1,5 +1,6 @@
 -- What a sink has gained by what was written into it.
-use Rattle.std.specs.Prelude.{◌≡◌, ℕ, ◌+◌, ◌<◌, ◌≤◌, Option, Some, Result, Ok, Err, List, [], ◌∷◌, ◌++◌, length, OnOk, OnErr, IsOk}
+use Rattle.std.specs.Prelude.{◌≡◌, ℕ, ◌+◌, ◌<◌, ◌≤◌, Option, Some, Result, Ok, Err, List, [], ◌∷◌, ◌++◌, length, OnOk}
+use Rattle.std.specs.Prelude.{OnErr, IsOk}
 use denote.Ref.{Bor}
 use Rattle.fle_outside.specs.Counts.{Rose}
 use Rattle.fle_outside.specs.Seen.{SinkSeen}
@@ -18,7 +19,8 @@ abbrev pub Puts : Option (List ℕ) → Option (List ℕ) → Result (Unit {0}) 
 Puts before after (Ok _) bytes = Gains before after bytes
 Puts before after (Err _) bytes = (front : List ℕ) × IsProperPrefix front bytes × Gains before after front
 
--- writing these bytes whole: what was gained; a failure comes only where the count rose, and never where the sink is assured of their number
+-- writing these bytes whole: what was gained; a failure comes only where the count rose, and never where the sink is
+-- assured of their number
 pub record WritesWhole (before after : SinkSeen) (result : Result (Unit {0}) Failed) (bytes : List ℕ) : Type 0 where
   pub puts : Puts before.told after.told result bytes
   pub later : before.faults ≤ after.faults

@@ -20,12 +20,14 @@ pub enum Fill {
 
 /// Fills a piece with the next bytes of a source, and reads no byte behind them.
 pub fn fill_piece<S: Source>(source: &mut S, piece: &mut [u8]) -> Fill
-    ensures bytes { (told : List ℕ) → (S.seen source.old).told ≡ Some told → FillTakes told (S.seen source.new).told result piece.new }
+    ensures bytes { (told : List ℕ) → (S.seen source.old).told ≡ Some told
+        → FillTakes told (S.seen source.new).told result piece.new }
     ensures within { FillWithin result (length piece.new) }
     ensures counts { FillCounts (S.seen source.old).taken (S.seen source.new).taken result (length piece.new) }
     ensures later { (S.seen source.old).faults ≤ (S.seen source.new).faults }
     ensures cause { result ≡ Fill.Failed → Rose (S.seen source.old).faults (S.seen source.new).faults }
-    ensures sure { (S.seen source.old).assured ≡ true → (result ≡ Fill.Failed → ⊥) × ((S.seen source.new).assured ≡ true) }
+    ensures sure { (S.seen source.old).assured ≡ true
+        → (result ≡ Fill.Failed → ⊥) × ((S.seen source.new).assured ≡ true) }
 {
     let mut at = 0;
     while at < piece.len() {

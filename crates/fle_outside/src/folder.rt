@@ -20,5 +20,6 @@ pub trait Folder {
         ensures bytes { FileGives (seen self.old).told name.now at result piece.new }
         ensures same { (seen self.new).told ≡ (seen self.old).told }
         ensures cause { FileCause (seen self.old).faults (seen self.new).faults result }
-        ensures sure { (seen self.old).assured ≡ true → (result ≡ FileAnswer.Failed → ⊥) × ((seen self.new).assured ≡ true) };
+        ensures sure { (seen self.old).assured ≡ true
+            → (result ≡ FileAnswer.Failed → ⊥) × ((seen self.new).assured ≡ true) };
 }

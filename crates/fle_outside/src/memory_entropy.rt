@@ -27,7 +27,12 @@ impl Model for MemEntropy {
 
     ghost Value = { EntropyState };
 
-    ghost view = { λ s. record { left = drop s.at s.blocks.items; failing = s.failing.items; calls = s.calls; faults = s.faults } };
+    ghost view = { λ s. record {
+      left = drop s.at s.blocks.items;
+      failing = s.failing.items;
+      calls = s.calls;
+      faults = s.faults;
+    } };
 
     ghost invariant = { λ s. s.at ≤ vec_len s.blocks };
 }

@@ -25,7 +25,12 @@ impl Model for MemFolder {
 
     ghost Value = { FolderState };
 
-    ghost view = { λ s. record { files = map entry s.entries.items; failing = s.failing.items; calls = s.calls; faults = s.faults } };
+    ghost view = { λ s. record {
+      files = map entry s.entries.items;
+      failing = s.failing.items;
+      calls = s.calls;
+      faults = s.faults;
+    } };
 }
 
 impl MemFolder {
@@ -53,7 +58,8 @@ impl Folder for MemFolder {
         ensures bytes { FileGives (Some self.old.files) name.now at result piece.new }
         ensures same { Some self.new.files ≡ Some self.old.files }
         ensures cause { FileCause self.old.faults self.new.faults result }
-        ensures sure { (folder_seen self.old).assured ≡ true → (result ≡ FileAnswer.Failed → ⊥) × ((folder_seen self.new).assured ≡ true) }
+        ensures sure { (folder_seen self.old).assured ≡ true
+            → (result ≡ FileAnswer.Failed → ⊥) × ((folder_seen self.new).assured ≡ true) }
         ensures exact { result ≡ file_answer self.old name.now at (length piece.new) }
         ensures state { self.new ≡ after_file self.old result }
     {

@@ -10,7 +10,8 @@ use crate::source::Source;
 use std::marker::Model;
 
 /// Bytes in memory that are handed out in small steps, and whose calls fail where a list says so.
-/// Contracts see what is left, how many bytes it handed out, the step, the numbers of the calls that are to fail, the number of
+/// Contracts see what is left, how many bytes it handed out, the step, the numbers of the calls that are to fail, the
+/// number of
 /// the next call and the count of faults.
 #[derive(Drop)]
 pub struct MemSource {
@@ -29,7 +30,14 @@ impl Model for MemSource {
 
     ghost Value = { SourceState };
 
-    ghost view = { λ s. record { left = drop s.at s.bytes.items; taken = s.taken; step = s.step; failing = s.failing.items; calls = s.calls; faults = s.faults } };
+    ghost view = { λ s. record {
+      left = drop s.at s.bytes.items;
+      taken = s.taken;
+      step = s.step;
+      failing = s.failing.items;
+      calls = s.calls;
+      faults = s.faults;
+    } };
 
     ghost invariant = { λ s. (s.at ≤ vec_len s.bytes) × (0 < s.step) };
 }
@@ -39,7 +47,14 @@ impl MemSource {
     /// in `failing`, counted from 0, fail. It is assured of never failing where that list is empty.
     pub fn new(bytes: Vec<u8>, step: usize, failing: Vec<u64>) -> MemSource
         requires { 0 < step }
-        ensures { result ≡ record { left = bytes.items; taken = 0; step = step; failing = failing.items; calls = 0; faults = 0 } }
+        ensures { result ≡ record {
+          left = bytes.items;
+          taken = 0;
+          step = step;
+          failing = failing.items;
+          calls = 0;
+          faults = 0;
+        } }
     {
         MemSource {
             bytes,
@@ -62,7 +77,8 @@ impl Source for MemSource {
         ensures bytes { ReadTakes (Some self.old.left) (Some self.new.left) result piece.new }
         ensures counts { self.new.taken ≡ taken_by self.old.taken result }
         ensures cause { ReadCause self.old.faults self.new.faults result }
-        ensures sure { (source_seen self.old).assured ≡ true → (result ≡ ReadAnswer.Failed → ⊥) × ((source_seen self.new).assured ≡ true) }
+        ensures sure { (source_seen self.old).assured ≡ true
+            → (result ≡ ReadAnswer.Failed → ⊥) × ((source_seen self.new).assured ≡ true) }
         ensures exact { result ≡ read_answer self.old (length piece.new) }
         ensures state { self.new ≡ after_read self.old result }
     {

@@ -20,5 +20,6 @@ pub trait Source {
         ensures bytes { ReadTakes (seen self.old).told (seen self.new).told result piece.new }
         ensures counts { (seen self.new).taken ≡ taken_by (seen self.old).taken result }
         ensures cause { ReadCause (seen self.old).faults (seen self.new).faults result }
-        ensures sure { (seen self.old).assured ≡ true → (result ≡ ReadAnswer.Failed → ⊥) × ((seen self.new).assured ≡ true) };
+        ensures sure { (seen self.old).assured ≡ true
+            → (result ≡ ReadAnswer.Failed → ⊥) × ((seen self.new).assured ≡ true) };
 }

@@ -18,8 +18,10 @@ use Rattle.fle_stream.specs.declared.why.Why.TheVariants as whys
 use Rattle.fle_stream.proofs.Judgings.{gains_none, memory_none}
 
 -- a run that wrote nothing
-abbrev ran_none : (o : Outcome) (told : List ℕ) (after : Option (List ℕ)) (most : List ℕ → ℕ) (entropy : EntropySeen) (out : SinkSeen) (number : ℕ) (why : Why)
-    → EndsIn why number o o.outputs [] [] 0 (most told) told after → Ran o told after most entropy entropy out out number why
+abbrev ran_none : (o : Outcome) (told : List ℕ) (after : Option (List ℕ)) (most : List ℕ
+    → ℕ) (entropy : EntropySeen) (out : SinkSeen) (number : ℕ) (why : Why)
+    → EndsIn why number o o.outputs [] [] 0 (most told) told after
+    → Ran o told after most entropy entropy out out number why
 ran_none o told after most entropy out number why end = record {
   done = [];
   rest = o.outputs;
@@ -34,9 +36,12 @@ ran_none o told after most entropy out number why end = record {
 }
 
 -- the task is this one
-pub did_task : {t u : Task} {told : List ℕ} {after : Option (List ℕ)} {entropy entropy_after : EntropySeen} {out out_after : SinkSeen} {number : ℕ} {why : Why}
-    → t ≡ u → Did u told after entropy entropy_after out out_after number why → Did t told after entropy entropy_after out out_after number why
-did_task {told = told} {after = after} {entropy = entropy} {entropy_after = entropy_after} {out = out} {out_after = out_after} {number = number} {why = why} is did =
+pub did_task : {t u : Task} {told : List ℕ} {after : Option (List ℕ)} {entropy entropy_after : EntropySeen}
+    {out out_after : SinkSeen} {number : ℕ} {why : Why}
+    → t ≡ u → Did u told after entropy entropy_after out out_after number why
+    → Did t told after entropy entropy_after out out_after number why
+did_task {told = told} {after = after} {entropy = entropy} {entropy_after = entropy_after} {out = out}
+    {out_after = out_after} {number = number} {why = why} is did =
     subst (λ (x : Task). Did x told after entropy entropy_after out out_after number why) (sym is) did
 
 pub ends_task : {t u : Task} (why : Why) → t ≡ u → EndsAs u why → EndsAs t why
@@ -52,30 +57,40 @@ did_fail finish told after entropy out is = record {
 }
 
 -- a named file failed
-pub did_folder : (t : Task) (told : List ℕ) (after : Option (List ℕ)) (entropy : EntropySeen) (out : SinkSeen) → after ≡ Some told → Did t told after entropy entropy out out 0 (whys.Cut cuts.Folder)
+pub did_folder : (t : Task) (told : List ℕ) (after : Option (List ℕ)) (entropy : EntropySeen) (out : SinkSeen)
+    → after ≡ Some told → Did t told after entropy entropy out out 0 (whys.Cut cuts.Folder)
 did_folder t told after entropy out is = record {
-  ran = ran_none (outcome_of t told) told after (most_of t) entropy out 0 (whys.Cut cuts.Folder) ((refl, refl), is, λ no. absurd no);
+  ran = ran_none (outcome_of t told) told after (most_of t) entropy out 0 (whys.Cut cuts.Folder)
+      ((refl, refl), is, λ no. absurd no);
   unread = λ _. refl;
 }
 
 -- there was no memory before the input was read
-pub did_memory : (t : Task) (told : List ℕ) (after : Option (List ℕ)) (entropy : EntropySeen) (out : SinkSeen) → after ≡ Some told → Did t told after entropy entropy out out 0 (whys.Cut cuts.Memory)
+pub did_memory : (t : Task) (told : List ℕ) (after : Option (List ℕ)) (entropy : EntropySeen) (out : SinkSeen)
+    → after ≡ Some told → Did t told after entropy entropy out out 0 (whys.Cut cuts.Memory)
 did_memory t told after entropy out is = record {
-  ran = ran_none (outcome_of t told) told after (most_of t) entropy out 0 (whys.Cut cuts.Memory) (memory_none (outcome_of t told).outputs, (0, omega arith, is), λ no. absurd no);
+  ran = ran_none (outcome_of t told) told after (most_of t) entropy out 0 (whys.Cut cuts.Memory)
+      (memory_none (outcome_of t told).outputs, (0, omega arith, is), λ no. absurd no);
   unread = λ _. refl;
 }
 
 -- a file wasn't loaded
-pub did_load : (number limit : ℕ) (file : Option (List ℕ)) (why : Why) (next : List ℕ → Task) (told : List ℕ) (after : Option (List ℕ)) (entropy : EntropySeen) (out : SinkSeen)
-    → LoadIs number limit file (Err why) → after ≡ Some told → Did (with_file number limit file next) told after entropy entropy out out 0 why
-did_load number limit file (whys.Finished finish) next told after entropy out is left = did_task (is next) (did_fail finish told after entropy out left)
-did_load number limit file (whys.Cut cuts.Folder) next told after entropy out is left = did_folder (with_file number limit file next) told after entropy out left
-did_load number limit file (whys.Cut cuts.Memory) next told after entropy out is left = did_memory (with_file number limit file next) told after entropy out left
+pub did_load : (number limit : ℕ) (file : Option (List ℕ)) (why : Why) (next : List ℕ
+    → Task) (told : List ℕ) (after : Option (List ℕ)) (entropy : EntropySeen) (out : SinkSeen)
+    → LoadIs number limit file (Err why) → after ≡ Some told
+    → Did (with_file number limit file next) told after entropy entropy out out 0 why
+did_load number limit file (whys.Finished finish) next told after entropy out is left =
+    did_task (is next) (did_fail finish told after entropy out left)
+did_load number limit file (whys.Cut cuts.Folder) next told after entropy out is left =
+    did_folder (with_file number limit file next) told after entropy out left
+did_load number limit file (whys.Cut cuts.Memory) next told after entropy out is left =
+    did_memory (with_file number limit file next) told after entropy out left
 did_load number limit file (whys.Cut cuts.Input) next told after entropy out is left = absurd is
 did_load number limit file (whys.Cut cuts.Output) next told after entropy out is left = absurd is
 did_load number limit file (whys.Cut cuts.Entropy) next told after entropy out is left = absurd is
 
-pub ends_load : (number limit : ℕ) (file : Option (List ℕ)) (why : Why) (next : List ℕ → Task) → LoadIs number limit file (Err why) → EndsAs (with_file number limit file next) why
+pub ends_load : (number limit : ℕ) (file : Option (List ℕ)) (why : Why) (next : List ℕ → Task)
+    → LoadIs number limit file (Err why) → EndsAs (with_file number limit file next) why
 ends_load number limit file (whys.Finished finish) next is = ends_task (whys.Finished finish) (is next) refl
 ends_load number limit file (whys.Cut cuts.Folder) next is = tt
 ends_load number limit file (whys.Cut cuts.Memory) next is = tt

@@ -1,5 +1,7 @@
 -- Reading a stream goes document by document, however much is left.
-use Rattle.std.proofs.Common.{◌≡◌, ℕ, zero, suc, ◌+◌, ◌^◌, ◌<◌, ◌≤◌, ◌==◌, ◌||◌, Bool, true, false, Result, Ok, Err, List, length, take, drop, nat_lt, nat_le, min, inl, inr, cond, refl, ◌∙◌, ap, subst, arith, length-drop, add-one}
+use Rattle.std.proofs.Common.{◌≡◌, ℕ, zero, suc, ◌+◌, ◌^◌, ◌<◌, ◌≤◌, ◌==◌, ◌||◌, Bool, true, false, Result, Ok, Err}
+use Rattle.std.proofs.Common.{List, length, take, drop, nat_lt, nat_le, min, inl, inr, cond, refl, ◌∙◌, ap, subst}
+use Rattle.std.proofs.Common.{arith, length-drop, add-one}
 use Rattle.std.proofs.lemmas.Bool.{cases_lt}
 use Rattle.std.proofs.lemmas.Bool.Decides.{nat_tests}
 use Rattle.bson_tree.specs.Tree.{Items}
@@ -7,7 +9,8 @@ use Rattle.bson_codec.specs.Fault.{fault}
 use Rattle.bson_codec.specs.Reading.{document, signed_below, stated_at}
 use Rattle.bson_codec.specs.declared.fault.BsonKind.TheVariants as kinds
 use Rattle.bson_codec.specs.declared.fault.BsonFault.{BsonFault}
-use Rattle.fle_stream.specs.Streams.{Rest, nothing, over, faulty, Docs, ends, doc, Standing, whole, stops, short, low, standing_of, stated, standing, spelled, first_by, rounds, documents, first_size}
+use Rattle.fle_stream.specs.Streams.{Rest, nothing, over, faulty, Docs, ends, doc, Standing, whole, stops, short, low}
+use Rattle.fle_stream.specs.Streams.{standing_of, stated, standing, spelled, first_by, rounds, documents, first_size}
 
 abbrev made_err : BsonFault → Result ℕ BsonFault
 made_err f = Err f
@@ -60,16 +63,19 @@ standing_whole n m k e =
     }
 
 -- two readers that agree behind the first document give the same documents
-spelled_same : (f g : List ℕ → Docs) (m : ℕ) (bytes : List ℕ) (read : Result Items BsonFault) → f (drop m bytes) ≡ g (drop m bytes) → spelled f m bytes read ≡ spelled g m bytes read
+spelled_same : (f g : List ℕ → Docs) (m : ℕ) (bytes : List ℕ) (read : Result Items BsonFault)
+    → f (drop m bytes) ≡ g (drop m bytes) → spelled f m bytes read ≡ spelled g m bytes read
 spelled_same f g m bytes (Ok is) same = ap (λ (x : Docs). doc m is x) same
 spelled_same f g m bytes (Err fault) same = refl
 
-first_same : (f g : List ℕ → Docs) (bytes : List ℕ) (fr : Standing) → ((m : ℕ) → fr ≡ whole m → f (drop m bytes) ≡ g (drop m bytes)) → first_by f bytes fr ≡ first_by g bytes fr
+first_same : (f g : List ℕ → Docs) (bytes : List ℕ) (fr : Standing)
+    → ((m : ℕ) → fr ≡ whole m → f (drop m bytes) ≡ g (drop m bytes)) → first_by f bytes fr ≡ first_by g bytes fr
 first_same f g bytes (stops r) same = refl
 first_same f g bytes (whole m) same = spelled_same f g m bytes (document (take m bytes)) (same m refl)
 
 -- what is left behind the first document is shorter
-behind_shorter : (m n : ℕ) (bytes : List ℕ) → standing bytes ≡ whole m → length bytes < suc n → length (drop m bytes) < n
+behind_shorter : (m n : ℕ) (bytes : List ℕ) → standing bytes ≡ whole m → length bytes < suc n
+    → length (drop m bytes) < n
 unfolding standing
 behind_shorter m n bytes e fits =
     let w = standing_whole (length bytes) (stated bytes) m e in
@@ -96,12 +102,14 @@ documents_step bytes =
     rounds_same (length bytes) (length (drop k bytes) + 1) (drop k bytes) shorter more))
 
 -- how a stream begins, by its length and its stated length
-by_standing : (bytes : List ℕ) (fr : Standing) → standing_of (length bytes) (stated bytes) ≡ fr → documents bytes ≡ first_by documents bytes fr
+by_standing : (bytes : List ℕ) (fr : Standing) → standing_of (length bytes) (stated bytes) ≡ fr
+    → documents bytes ≡ first_by documents bytes fr
 unfolding standing
 by_standing bytes fr is = documents_step bytes ∙ ap (λ (x : Standing). first_by documents bytes x) is
 
 pub none_left : (bytes : List ℕ) → length bytes ≡ 0 → documents bytes ≡ ends nothing
-none_left bytes none = by_standing bytes (stops nothing) (let t : (length bytes == 0) ≡ true = grind (arith, nat_tests) in rw t refl)
+none_left bytes none = by_standing bytes (stops nothing) (let t : (length bytes == 0)
+    ≡ true = grind (arith, nat_tests) in rw t refl)
 
 pub short_head : (bytes : List ℕ) → 0 < length bytes → length bytes < 4 → documents bytes ≡ ends (short (length bytes))
 short_head bytes some few = by_standing bytes (stops (short (length bytes)))
@@ -109,11 +117,13 @@ short_head bytes some few = by_standing bytes (stops (short (length bytes)))
     let u : nat_lt (length bytes) 4 ≡ true = grind (arith, nat_tests) in
     rw (t, u) refl)
 
-least_read : (bytes : List ℕ) (m : ℕ) (read : Result Items BsonFault) → WholeStanding (length bytes) (stated bytes) m → min 4 (length bytes) ≤ first_size (spelled documents m bytes read) (length bytes)
+least_read : (bytes : List ℕ) (m : ℕ) (read : Result Items BsonFault) → WholeStanding (length bytes) (stated bytes) m
+    → min 4 (length bytes) ≤ first_size (spelled documents m bytes read) (length bytes)
 least_read bytes m (Ok is) w = omega (arith, w.least)
 least_read bytes m (Err fault) w = omega arith
 
-body_read : (bytes : List ℕ) (m : ℕ) (read : Result Items BsonFault) → m ≤ length bytes → min m (length bytes) ≤ first_size (spelled documents m bytes read) (length bytes)
+body_read : (bytes : List ℕ) (m : ℕ) (read : Result Items BsonFault) → m ≤ length bytes
+    → min m (length bytes) ≤ first_size (spelled documents m bytes read) (length bytes)
 body_read bytes m (Ok is) w = omega arith
 body_read bytes m (Err fault) w = omega (arith, w)
 
@@ -145,7 +155,8 @@ pub record StatedOk (m n : ℕ) : Type 0 where
   pub plain : signed_below m 5 ≡ false
   pub same : n ≡ m
 
-low_by : (b : Bool) (m : ℕ) (f : BsonFault) → made_err f ≡ cond b (fault kinds.Length 0) (Ok m) → (b ≡ true) × (faulty 4 f ≡ low)
+low_by : (b : Bool) (m : ℕ) (f : BsonFault) → made_err f ≡ cond b (fault kinds.Length 0) (Ok m)
+    → (b ≡ true) × (faulty 4 f ≡ low)
 low_by true m f is = (refl, ap (faulty 4) (err_is f (record { kind = kinds.Length; offset = 0 }) is))
 low_by false m f is = cc
 
@@ -163,7 +174,8 @@ pub low_length : (bytes : List ℕ) → 4 ≤ length bytes → signed_below (sta
 low_length bytes four below =
     by_standing bytes (stops low) (rw (is_some (length bytes) four, is_four (length bytes) four, below) refl)
 
-pub over_limit : (bytes : List ℕ) → 4 ≤ length bytes → signed_below (stated bytes) 5 ≡ false → 2 ^ 24 < stated bytes → documents bytes ≡ ends over
+pub over_limit : (bytes : List ℕ) → 4 ≤ length bytes → signed_below (stated bytes) 5 ≡ false → 2 ^ 24 < stated bytes
+    → documents bytes ≡ ends over
 over_limit bytes four plain above =
     by_standing bytes (stops over)
     (rw (is_some (length bytes) four, is_four (length bytes) four, plain, is_lower (2 ^ 24) (stated bytes) above) refl)
@@ -175,27 +187,41 @@ pub record IsSize (bytes : List ℕ) (m : ℕ) : Type 0 where
   pub most : m ≤ 2 ^ 24
   pub four : 4 ≤ length bytes
 
-sized : (bytes : List ℕ) (m : ℕ) (fr : Standing) → IsSize bytes m → (cond (nat_lt (length bytes) m) (stops (short (length bytes))) (whole m)) ≡ fr → documents bytes ≡ first_by documents bytes fr
+sized : (bytes : List ℕ) (m : ℕ) (fr : Standing) → IsSize bytes m
+    → (cond (nat_lt (length bytes) m) (stops (short (length bytes))) (whole m)) ≡ fr
+    → documents bytes ≡ first_by documents bytes fr
 sized bytes m fr size is =
     by_standing bytes fr
-    (rw (size.says, is_some (length bytes) size.four, is_four (length bytes) size.four, is_plain m size.least (omega (arith, size.most)), is_not_lower (2 ^ 24) m size.most) is)
+    (rw (
+      size.says,
+      is_some (length bytes) size.four,
+      is_four (length bytes) size.four,
+      is_plain m size.least (omega (arith, size.most)),
+      is_not_lower (2 ^ 24) m size.most,
+    ) is)
 
-pub short_body : (bytes : List ℕ) (m : ℕ) → IsSize bytes m → length bytes < m → documents bytes ≡ ends (short (length bytes))
-short_body bytes m size less = sized bytes m (stops (short (length bytes))) size (rw (is_lower (length bytes) m less) refl)
+pub short_body : (bytes : List ℕ) (m : ℕ) → IsSize bytes m → length bytes < m
+    → documents bytes ≡ ends (short (length bytes))
+short_body bytes m size less = sized bytes m (stops (short (length bytes))) size
+    (rw (is_lower (length bytes) m less) refl)
 
-pub whole_body : (bytes : List ℕ) (m : ℕ) → IsSize bytes m → m ≤ length bytes → documents bytes ≡ spelled documents m bytes (document (take m bytes))
+pub whole_body : (bytes : List ℕ) (m : ℕ) → IsSize bytes m → m ≤ length bytes
+    → documents bytes ≡ spelled documents m bytes (document (take m bytes))
 whole_body bytes m size enough = sized bytes m (whole m) size (rw (is_not_lower (length bytes) m enough) refl)
 
-least_by : (bytes : List ℕ) (fr : Standing) → standing bytes ≡ fr → min 4 (length bytes) ≤ first_size (first_by documents bytes fr) (length bytes)
+least_by : (bytes : List ℕ) (fr : Standing) → standing bytes ≡ fr
+    → min 4 (length bytes) ≤ first_size (first_by documents bytes fr) (length bytes)
 unfolding standing
 least_by bytes (stops r) is = omega arith
-least_by bytes (whole m) is = least_read bytes m (document (take m bytes)) (standing_whole (length bytes) (stated bytes) m is)
+least_by bytes (whole m) is = least_read bytes m (document (take m bytes))
+    (standing_whole (length bytes) (stated bytes) m is)
 
 -- how much of the stream the first document takes, at least
 pub first_size_least : (bytes : List ℕ) → min 4 (length bytes) ≤ first_size (documents bytes) (length bytes)
 first_size_least bytes = rw (documents_step bytes) (least_by bytes (standing bytes) refl)
 
-pub first_size_body : (bytes : List ℕ) (m : ℕ) → IsSize bytes m → min m (length bytes) ≤ first_size (documents bytes) (length bytes)
+pub first_size_body : (bytes : List ℕ) (m : ℕ) → IsSize bytes m
+    → min m (length bytes) ≤ first_size (documents bytes) (length bytes)
 first_size_body bytes m size = elim (cases_lt (length bytes) m) [
   | inl less ↦ rw (short_body bytes m size less) (omega arith)
   | inr enough ↦ rw (whole_body bytes m size enough) (body_read bytes m (document (take m bytes)) enough)

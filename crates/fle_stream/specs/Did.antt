@@ -8,6 +8,7 @@ use Rattle.fle_stream.specs.declared.why.Why.TheVariants as whys
 use Rattle.fle_stream.specs.declared.why.Cut.TheVariants as cuts
 
 -- the run over the input; no output is written where a folder failed
-pub record Did (t : Task) (told : List ℕ) (after : Option (List ℕ)) (entropy entropy_after : EntropySeen) (out out_after : SinkSeen) (number : ℕ) (why : Why) : Type 0 where
+pub record Did (t : Task) (told : List ℕ) (after : Option (List ℕ)) (entropy entropy_after : EntropySeen)
+    (out out_after : SinkSeen) (number : ℕ) (why : Why) : Type 0 where
   pub ran : Ran (outcome_of t told) told after (most_of t) entropy entropy_after out out_after number why
   pub unread : why ≡ whys.Cut cuts.Folder → ran.done ≡ []

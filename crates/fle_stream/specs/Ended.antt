@@ -31,7 +31,8 @@ pub record World : Type 0 where
 abbrev pub world : SourceSeen → FolderSeen → SinkSeen → SinkSeen → EntropySeen → World
 world input files out diag entropy = record { input = input; files = files; out = out; diag = diag; entropy = entropy }
 
--- how a task ends: one that fails ends so, and no end is of words or files where each document is judged; a folder's failure and want of memory may come first
+-- how a task ends: one that fails ends so, and no end is of words or files where each document is judged; a folder's
+-- failure and want of memory may come first
 abbrev pub EndsAs : Task → Why → Type 0
 EndsAs t (whys.Cut cuts.Folder) = Unit {0}
 EndsAs t (whys.Cut cuts.Memory) = Unit {0}
@@ -77,7 +78,8 @@ pub record Unfailed (before after : World) : Type 0 where
 abbrev pub Settles : (Files → Task) → World → World → Status → Type 0
 Settles task before after status =
     (all : Files) (told : List ℕ) → before.files.told ≡ Some all → before.input.told ≡ Some told
-    → Unfailed before after → (status ≡ statuses.Memory → ⊥) → status ≡ status_of_finish (outcome_of (task all) told).finish
+    → Unfailed before after → (status ≡ statuses.Memory → ⊥)
+    → status ≡ status_of_finish (outcome_of (task all) told).finish
 
 -- all outputs were written, each with its own blocks
 pub record Whole (o : Outcome) (entropy entropy_after : EntropySeen) (out out_after : SinkSeen) : Type 0 where

@@ -8,7 +8,8 @@ use Rattle.fle_stream.specs.Plan.{Verdict, writes, refused, too_long}
 use Rattle.fle_stream.specs.declared.judging.Judged.{Judged}
 use Rattle.fle_stream.specs.declared.judging.Judged.TheVariants as judgements
 
--- a block couldn't be drawn: fewer than so many were, the count of faults rose, and no more blocks were assured than drawn
+-- a block couldn't be drawn: fewer than so many were, the count of faults rose, and no more blocks were assured than
+-- drawn
 pub record DrawsShort (before after : EntropySeen) (draws : ℕ) : Type 0 where
   pub drawn : List Block
   pub fewer : length drawn < draws
@@ -19,10 +20,13 @@ pub record DrawsShort (before after : EntropySeen) (draws : ℕ) : Type 0 where
 -- the output's bytes, under the blocks that it drew; the refusal; the limit; too few blocks; or want of memory
 abbrev pub JudgeIs : Verdict → EntropySeen → EntropySeen → Judged → Type 0
 JudgeIs (writes plan) before after (judgements.Written output) =
-    (drawn : List Block) × (length drawn ≡ plan.draws) × Draws before after drawn × (output.items ≡ plan.bytes drawn) × (length (plan.bytes drawn) ≡ plan.size)
+    (drawn : List Block) × (length drawn ≡ plan.draws) × Draws before after drawn × (output.items ≡ plan.bytes drawn)
+    × (length (plan.bytes drawn) ≡ plan.size)
 JudgeIs (writes plan) before after judgements.Undrawn = DrawsShort before after plan.draws
-JudgeIs (writes plan) before after judgements.Memory = (drawn : List Block) × (length drawn ≤ plan.draws) × Draws before after drawn
-JudgeIs (refused reason place) before after (judgements.Refused r p) = (reason ≡ r) × (place ≡ p) × Draws before after []
+JudgeIs (writes plan) before after judgements.Memory =
+    (drawn : List Block) × (length drawn ≤ plan.draws) × Draws before after drawn
+JudgeIs (refused reason place) before after (judgements.Refused r p) =
+    (reason ≡ r) × (place ≡ p) × Draws before after []
 JudgeIs (refused reason place) before after judgements.Memory = Draws before after []
 JudgeIs too_long before after judgements.TooLong = Draws before after []
 JudgeIs too_long before after judgements.Memory = Draws before after []

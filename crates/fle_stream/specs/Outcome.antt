@@ -7,14 +7,16 @@ use Rattle.fle_stream.specs.declared.why.Finish.{Finish}
 use Rattle.fle_stream.specs.declared.why.Finish.TheVariants as finishes
 use Rattle.fle_stream.specs.declared.why.Bound.TheVariants as bounds
 
--- how the run ends, the number of the document that ends it, the outputs before that in order, and the bytes of the input up to the end of that document
+-- how the run ends, the number of the document that ends it, the outputs before that in order, and the bytes of the
+-- input up to the end of that document
 pub record Outcome : Type 0 where
   pub finish : Finish
   pub number : ℕ
   pub outputs : List Output
   pub used : ℕ
 
--- what a run comes to, by the number of the next document, the number of bytes that it took before and the bytes that are left
+-- what a run comes to, by the number of the next document, the number of bytes that it took before and the bytes that
+-- are left
 abbrev pub Course : Type 0
 Course = ℕ → ℕ → List ℕ → Outcome
 
@@ -24,7 +26,12 @@ finished finish number used = record { finish = finish; number = number; outputs
 
 -- these outputs, from n bytes, come before
 abbrev pub preceded : List Output → ℕ → Outcome → Outcome
-preceded outputs n o = record { finish = o.finish; number = o.number; outputs = outputs ++ o.outputs; used = n + o.used }
+preceded outputs n o = record {
+  finish = o.finish;
+  number = o.number;
+  outputs = outputs ++ o.outputs;
+  used = n + o.used;
+}
 
 -- the end that the rest of a stream makes
 abbrev pub rest_finish : Rest → Finish
@@ -41,9 +48,11 @@ judged too_long number n o = finished (finishes.Limit bounds.Output) number n
 -- documents are judged one by one; before each, the bytes taken so far are tested against 2^40
 unfoldable pub outcome : (Items → Verdict) → ℕ → ℕ → Docs → Outcome
 outcome v number taken (ends rest) =
-    if nat_lt taken (2 ^ 40) then finished (rest_finish rest) number (rest_size rest) else finished (finishes.Limit bounds.Stream) number 0
+    if nat_lt taken (2 ^ 40) then finished (rest_finish rest) number (rest_size rest) else finished
+    (finishes.Limit bounds.Stream) number 0
 outcome v number taken (doc n is docs) =
-    if nat_lt taken (2 ^ 40) then judged (v is) number n (outcome v (number + 1) (taken + n) docs) else finished (finishes.Limit bounds.Stream) number 0
+    if nat_lt taken (2 ^ 40) then judged (v is) number n (outcome v (number + 1) (taken + n) docs) else finished
+    (finishes.Limit bounds.Stream) number 0
 
 -- the number of the document that comes next, where these outputs are left
 abbrev pub next_number : Outcome → List Output → ℕ

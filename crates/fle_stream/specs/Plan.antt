@@ -1,4 +1,5 @@
--- What a document or a verb comes to: an output, whose bytes are a function of the random blocks that it draws, or a refusal.
+-- What a document or a verb comes to: an output, whose bytes are a function of the random blocks that it draws, or a
+-- refusal.
 use Rattle.std.specs.Prelude.{◌≡◌, ℕ, ◌+◌, List, [], ◌∷◌, ◌++◌, take, drop}
 use Rattle.bson_tree.specs.Tree.{Items}
 use Rattle.fle_outside.specs.Blocks.{Block}

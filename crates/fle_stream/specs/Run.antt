@@ -12,7 +12,8 @@ use Rattle.fle_stream.specs.declared.why.Cut.TheVariants as cuts
 use Rattle.fle_stream.specs.declared.why.Why.{Why}
 use Rattle.fle_stream.specs.declared.why.Why.TheVariants as whys
 
--- what was written of the outputs that are left, by what cut the run short: the blocks that the next one drew, and the part of it that was written
+-- what was written of the outputs that are left, by what cut the run short: the blocks that the next one drew, and the
+-- part of it that was written
 abbrev pub CutsIn : Cut → List Output → List Block → List ℕ → Type 0
 CutsIn cuts.Folder outputs more part = (more ≡ []) × (part ≡ [])
 CutsIn cuts.Input outputs more part = (more ≡ []) × (part ≡ [])
@@ -27,7 +28,8 @@ CutsIn cuts.Memory (o ∷ os) more part = (length more ≤ o.plan.draws) × (par
 abbrev pub HandedPast : ℕ → ℕ → List ℕ → Option (List ℕ) → Type 0
 HandedPast read most told after = (m : ℕ) × (m ≤ most) × (after ≡ Some (drop (read + m) told))
 
--- what the input has left of a run that was cut short: at most the next document is taken beside those whose outputs were written, and nothing where a folder failed
+-- what the input has left of a run that was cut short: at most the next document is taken beside those whose outputs
+-- were written, and nothing where a folder failed
 abbrev pub CutAfter : Cut → ℕ → ℕ → List ℕ → Option (List ℕ) → Type 0
 CutAfter cuts.Folder read most told after = after ≡ Some told
 CutAfter cuts.Input read most told after = HandedPast read most told after
@@ -43,8 +45,10 @@ IsNumbered cuts.Output = Unit {0}
 IsNumbered cuts.Entropy = Unit {0}
 IsNumbered cuts.Memory = ⊥
 
--- nothing cut the run short: it ends as its outcome says, nothing is left of the outputs, and exactly the bytes up to its end are taken
-pub record Finishes (o : Outcome) (finish : Finish) (number : ℕ) (rest : List Output) (more : List Block) (part told : List ℕ) (after : Option (List ℕ)) : Type 0 where
+-- nothing cut the run short: it ends as its outcome says, nothing is left of the outputs, and exactly the bytes up to
+-- its end are taken
+pub record Finishes (o : Outcome) (finish : Finish) (number : ℕ) (rest : List Output) (more : List Block)
+    (part told : List ℕ) (after : Option (List ℕ)) : Type 0 where
   pub same : finish ≡ o.finish
   pub at : number ≡ o.number
   pub all : rest ≡ []
@@ -54,12 +58,14 @@ pub record Finishes (o : Outcome) (finish : Finish) (number : ℕ) (rest : List 
 
 -- how the run ends before the outputs that are left, `read` bytes of the input having been taken
 abbrev pub EndsIn : Why → ℕ → Outcome → List Output → List Block → List ℕ → ℕ → ℕ → List ℕ → Option (List ℕ) → Type 0
-EndsIn (whys.Finished finish) number o rest more part read most told after = Finishes o finish number rest more part told after
+EndsIn (whys.Finished finish) number o rest more part read most told after =
+    Finishes o finish number rest more part told after
 EndsIn (whys.Cut cut) number o rest more part read most told after =
     CutsIn cut rest more part × CutAfter cut read most told after × (IsNumbered cut → number ≡ next_number o rest)
 
 -- how one step of a run ended it: of the outputs that the input comes to, none is written whole any more
-pub record LastStep (o : Outcome) (told : List ℕ) (after : Option (List ℕ)) (most : ℕ) (entropy entropy_after : EntropySeen) (out out_after : SinkSeen) (number : ℕ) (why : Why) : Type 0 where
+pub record LastStep (o : Outcome) (told : List ℕ) (after : Option (List ℕ)) (most : ℕ)
+    (entropy entropy_after : EntropySeen) (out out_after : SinkSeen) (number : ℕ) (why : Why) : Type 0 where
   pub more : List Block
   pub draws : Draws entropy entropy_after more
   pub part : List ℕ
@@ -67,9 +73,11 @@ pub record LastStep (o : Outcome) (told : List ℕ) (after : Option (List ℕ)) 
   pub end : EndsIn why number o o.outputs more part 0 most told after
 
 -- one step of a run wrote one output, from n bytes of the input
-pub record OneStep (course : Course) (number taken : ℕ) (told : List ℕ) (after : Option (List ℕ)) (entropy entropy_after : EntropySeen) (out out_after : SinkSeen) (n : ℕ) : Type 0 where
+pub record OneStep (course : Course) (number taken : ℕ) (told : List ℕ) (after : Option (List ℕ))
+    (entropy entropy_after : EntropySeen) (out out_after : SinkSeen) (n : ℕ) : Type 0 where
   pub plan : Plan
-  pub comes : course number taken told ≡ preceded (record { read = n; number = number; plan = plan } ∷ []) n (course (number + 1) (taken + n) (drop n told))
+  pub comes : course number taken told ≡ preceded (record { read = n; number = number; plan = plan } ∷ []) n
+      (course (number + 1) (taken + n) (drop n told))
   pub left : after ≡ Some (drop n told)
   pub drawn : List Block
   pub enough : length drawn ≡ plan.draws
@@ -77,8 +85,10 @@ pub record OneStep (course : Course) (number taken : ℕ) (told : List ℕ) (aft
   pub wrote : Gains out.told out_after.told (plan.bytes drawn)
   pub filled : out.assured ≤ out_after.assured + plan.size
 
--- a whole run: of the outputs that the input comes to, the first are written whole, each with its own blocks, and then came the end
-pub record Ran (o : Outcome) (told : List ℕ) (after : Option (List ℕ)) (most : List ℕ → ℕ) (entropy entropy_after : EntropySeen) (out out_after : SinkSeen) (number : ℕ) (why : Why) : Type 0 where
+-- a whole run: of the outputs that the input comes to, the first are written whole, each with its own blocks, and then
+-- came the end
+pub record Ran (o : Outcome) (told : List ℕ) (after : Option (List ℕ)) (most : List ℕ
+    → ℕ) (entropy entropy_after : EntropySeen) (out out_after : SinkSeen) (number : ℕ) (why : Why) : Type 0 where
   pub done : List Output
   pub rest : List Output
   pub split : o.outputs ≡ done ++ rest

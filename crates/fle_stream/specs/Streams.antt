@@ -1,12 +1,14 @@
 -- BSON 1.1: a stream is the spellings of documents, one after another, and a rest.
-use Rattle.std.specs.Prelude.{ℕ, zero, suc, ◌+◌, ◌^◌, ◌==◌, Result, Ok, Err, List, length, take, drop, nat_lt, if◌then◌else◌}
+use Rattle.std.specs.Prelude.{ℕ, zero, suc, ◌+◌, ◌^◌, ◌==◌, Result, Ok, Err, List, length, take, drop, nat_lt}
+use Rattle.std.specs.Prelude.{if◌then◌else◌}
 use Rattle.std.specs.Int.{from_le_bytes, w32}
 use Rattle.bson_tree.specs.Tree.{Items}
 use Rattle.bson_codec.specs.Reading.{document, signed_below}
 use Rattle.bson_codec.specs.declared.fault.BsonFault.{BsonFault}
 use Rattle.bson_codec.specs.declared.fault.BsonKind.TheVariants as kinds
 
--- what stands behind the last document: nothing, a length above the limit, or bytes with this fault, so many of which are read
+-- what stands behind the last document: nothing, a length above the limit, or bytes with this fault, so many of which
+-- are read
 pub data Rest : Type 0 where
   nothing : Rest
   over : Rest
@@ -36,7 +38,8 @@ short n = faulty n (record { kind = kinds.Short; offset = n })
 abbrev pub low : Rest
 low = faulty 4 (record { kind = kinds.Length; offset = 0 })
 
--- n bytes are left, and the 32 bits in front of them are the signed number whose bits are those of m: what is judged first comes first
+-- n bytes are left, and the 32 bits in front of them are the signed number whose bits are those of m: what is judged
+-- first comes first
 abbrev pub standing_of : ℕ → ℕ → Standing
 standing_of n m =
     if n == 0 then stops nothing

@@ -17,7 +17,12 @@ pub data Task : Type 0 where
 -- what a task comes to over an input
 abbrev pub outcome_of : Task → List ℕ → Outcome
 outcome_of (fails finish) told = finished finish 0 0
-outcome_of (makes plan) told = record { finish = finishes.Done; number = 0; outputs = record { read = 0; number = 0; plan = plan } ∷ []; used = 0 }
+outcome_of (makes plan) told = record {
+  finish = finishes.Done;
+  number = 0;
+  outputs = record { read = 0; number = 0; plan = plan } ∷ [];
+  used = 0;
+}
 outcome_of (each v) told = outcome v 1 0 (documents told)
 
 -- how many of the bytes that are left one step of a task reads at most
@@ -26,7 +31,9 @@ most_of (fails finish) told = 0
 most_of (makes plan) told = 0
 most_of (each v) told = first_size (documents told) (length told)
 
--- the file of this number in the order of the words, of at most `limit` bytes: missing, too long, or what its bytes lead to
+-- the file of this number in the order of the words, of at most `limit` bytes: missing, too long, or what its bytes
+-- lead to
 abbrev pub with_file : ℕ → ℕ → Option (List ℕ) → (List ℕ → Task) → Task
 with_file number limit None next = fails (finishes.Setup number setups.Missing 0)
-with_file number limit (Some bytes) next = if nat_lt limit (length bytes) then fails (finishes.Setup number setups.TooLong 0) else next bytes
+with_file number limit (Some bytes) next = if nat_lt limit (length bytes) then fails
+    (finishes.Setup number setups.TooLong 0) else next bytes

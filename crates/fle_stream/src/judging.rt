@@ -52,7 +52,8 @@ pub trait Judge {
         requires ready { ready self.old }
         ensures ready { ready self.new }
         ensures same { verdict self.new ≡ verdict self.old }
-        ensures judged { JudgeIs (verdict self.old document.now.tree) (N.seen entropy.old) (N.seen entropy.new) result };
+        ensures judged { JudgeIs (verdict self.old document.now.tree) (N.seen entropy.old)
+            (N.seen entropy.new) result };
 }
 
 /// The verb of a judge: one document a turn.
@@ -116,17 +117,24 @@ fn judge_document<J: Judge, O: Sink, N: Entropy>(
     ensures size { (n : ℕ) → result ≡ Turn.Wrote n → n ≡ size }
     ensures kind { (why : Why) → result ≡ Turn.Ended why → IsOfStream why }
     ensures turn { (course : Course) (most : List ℕ → ℕ) (number taken : ℕ) (told : List ℕ) (after : Option (List ℕ))
-        → course number taken told ≡ judged (J.verdict judge.old document.now.tree) number size (course (number + 1) (taken + size) (drop size told))
+        → course number taken told ≡ judged (J.verdict judge.old document.now.tree) number size
+        (course (number + 1) (taken + size) (drop size told))
         → size ≤ most told → after ≡ Some (drop size told)
-        → TurnOf course most number taken told after (N.seen entropy.old) (N.seen entropy.new) (O.seen out.old) (O.seen out.new) result }
+        → TurnOf course most number taken told after (N.seen entropy.old) (N.seen entropy.new) (O.seen out.old)
+        (O.seen out.new) result }
     ensures no_read { result ≡ Turn.Ended (Why.Cut Cut.Input) → ⊥ }
     ensures out_later { (O.seen out.old).faults ≤ (O.seen out.new).faults }
-    ensures out_cause { result ≡ Turn.Ended (Why.Cut Cut.Output) → Rose (O.seen out.old).faults (O.seen out.new).faults }
-    ensures out_sure { size_in (J.verdict judge.old document.now.tree) ≤ (O.seen out.old).assured → result ≡ Turn.Ended (Why.Cut Cut.Output) → ⊥ }
+    ensures out_cause { result ≡ Turn.Ended (Why.Cut Cut.Output)
+        → Rose (O.seen out.old).faults (O.seen out.new).faults }
+    ensures out_sure { size_in (J.verdict judge.old document.now.tree) ≤ (O.seen out.old).assured
+        → result ≡ Turn.Ended (Why.Cut Cut.Output) → ⊥ }
     ensures entropy_later { (N.seen entropy.old).faults ≤ (N.seen entropy.new).faults }
-    ensures entropy_cause { result ≡ Turn.Ended (Why.Cut Cut.Entropy) → Rose (N.seen entropy.old).faults (N.seen entropy.new).faults }
-    ensures entropy_sure { draws_in (J.verdict judge.old document.now.tree) ≤ (N.seen entropy.old).assured → result ≡ Turn.Ended (Why.Cut Cut.Entropy) → ⊥ }
-    ensures undrawn { draws_in (J.verdict judge.old document.now.tree) ≡ 0 → result ≡ Turn.Ended (Why.Cut Cut.Entropy) → ⊥ }
+    ensures entropy_cause { result ≡ Turn.Ended (Why.Cut Cut.Entropy)
+        → Rose (N.seen entropy.old).faults (N.seen entropy.new).faults }
+    ensures entropy_sure { draws_in (J.verdict judge.old document.now.tree) ≤ (N.seen entropy.old).assured
+        → result ≡ Turn.Ended (Why.Cut Cut.Entropy) → ⊥ }
+    ensures undrawn { draws_in (J.verdict judge.old document.now.tree) ≡ 0 → result ≡ Turn.Ended (Why.Cut Cut.Entropy)
+        → ⊥ }
 {
     match judge.judge(alloc, document, entropy) {
         Judged::Written(output) => match write_whole(out, &output) {

@@ -33,12 +33,14 @@ pub enum Next {
 
 /// Reads the bytes of the next document of a stream, and no byte behind it. What they spell isn't judged.
 pub fn next_document<S: Source>(alloc: Global, source: &mut S) -> Next
-    ensures next { (told : List ℕ) → (S.seen source.old).told ≡ Some told → NextIs told (S.seen source.new).told result }
+    ensures next { (told : List ℕ) → (S.seen source.old).told ≡ Some told
+        → NextIs told (S.seen source.new).told result }
     ensures sound { NextSound result }
     ensures took { NextTook 0 (S.seen source.old).taken (S.seen source.new).taken result }
     ensures later { (S.seen source.old).faults ≤ (S.seen source.new).faults }
     ensures cause { result ≡ Next.Failed → Rose (S.seen source.old).faults (S.seen source.new).faults }
-    ensures sure { (S.seen source.old).assured ≡ true → (result ≡ Next.Failed → ⊥) × ((S.seen source.new).assured ≡ true) }
+    ensures sure { (S.seen source.old).assured ≡ true
+        → (result ≡ Next.Failed → ⊥) × ((S.seen source.new).assured ≡ true) }
 {
     let mut head = [0u8; 4];
     match fill_piece(source, &mut head) {
@@ -59,12 +61,14 @@ fn next_body<S: Source>(alloc: Global, source: &mut S, head: &[u8], size: usize)
     requires says { from_le_bytes w32 head.now ≡ size }
     requires least { 5 ≤ size }
     requires most { size ≤ 2 ^ 24 }
-    ensures next { (told : List ℕ) → (S.seen source.old).told ≡ Some told → NextIs (head.now ++ told) (S.seen source.new).told result }
+    ensures next { (told : List ℕ) → (S.seen source.old).told ≡ Some told
+        → NextIs (head.now ++ told) (S.seen source.new).told result }
     ensures sound { NextSound result }
     ensures took { NextTook 4 (S.seen source.old).taken (S.seen source.new).taken result }
     ensures later { (S.seen source.old).faults ≤ (S.seen source.new).faults }
     ensures cause { result ≡ Next.Failed → Rose (S.seen source.old).faults (S.seen source.new).faults }
-    ensures sure { (S.seen source.old).assured ≡ true → (result ≡ Next.Failed → ⊥) × ((S.seen source.new).assured ≡ true) }
+    ensures sure { (S.seen source.old).assured ≡ true
+        → (result ≡ Next.Failed → ⊥) × ((S.seen source.new).assured ≡ true) }
 {
     match vec![in alloc; 0u8; size] {
         Err(_) => Next::Memory,
@@ -79,13 +83,17 @@ fn next_body<S: Source>(alloc: Global, source: &mut S, head: &[u8], size: usize)
 /// Fills the buffer of a document, whose first bytes are read.
 fn fill_document<S: Source>(source: &mut S, head: &[u8], document: &mut [u8]) -> Fill
     requires { length head.now ≤ length document.old }
-    ensures bytes { (told : List ℕ) → (S.seen source.old).told ≡ Some told → FillTakes (head.now ++ told) (S.seen source.new).told result document.new }
+    ensures bytes { (told : List ℕ) → (S.seen source.old).told ≡ Some told
+        → FillTakes (head.now ++ told) (S.seen source.new).told result document.new }
     ensures within { FillWithin result (length document.new) }
-    ensures whole { result ≡ Fill.Whole → RoseBy (S.seen source.old).taken (S.seen source.new).taken (length document.new - length head.now) }
-    ensures took { RoseWithin (S.seen source.old).taken (S.seen source.new).taken (length document.new - length head.now) }
+    ensures whole { result ≡ Fill.Whole → RoseBy (S.seen source.old).taken (S.seen source.new).taken
+        (length document.new - length head.now) }
+    ensures took { RoseWithin (S.seen source.old).taken (S.seen source.new).taken
+        (length document.new - length head.now) }
     ensures later { (S.seen source.old).faults ≤ (S.seen source.new).faults }
     ensures cause { result ≡ Fill.Failed → Rose (S.seen source.old).faults (S.seen source.new).faults }
-    ensures sure { (S.seen source.old).assured ≡ true → (result ≡ Fill.Failed → ⊥) × ((S.seen source.new).assured ≡ true) }
+    ensures sure { (S.seen source.old).assured ≡ true
+        → (result ≡ Fill.Failed → ⊥) × ((S.seen source.new).assured ≡ true) }
 {
     let (front, rest) = document.split_at_mut(head.len());
     front.copy_from_slice(head);

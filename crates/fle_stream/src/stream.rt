@@ -24,7 +24,8 @@ pub fn judge_stream<J: Judge + Drop, S: Source, O: Sink, N: Entropy>(
 ) -> End
     requires ready { J.ready judge }
     ensures did { (told : List ℕ) → (S.seen input.old).told ≡ Some told
-        → Did (each (J.verdict judge)) told (S.seen input.new).told (N.seen entropy.old) (N.seen entropy.new) (O.seen out.old) (O.seen out.new) result.number result.why }
+        → Did (each (J.verdict judge)) told (S.seen input.new).told (N.seen entropy.old) (N.seen entropy.new)
+        (O.seen out.old) (O.seen out.new) result.number result.why }
     ensures kind { IsOfStream result.why }
     ensures numbered { 0 < result.number }
     ensures took { RunTook (S.seen input.old).taken (S.seen input.new).taken result.number }
@@ -32,10 +33,13 @@ pub fn judge_stream<J: Judge + Drop, S: Source, O: Sink, N: Entropy>(
     ensures in_sure { (S.seen input.old).assured ≡ true → result.why ≡ Why.Cut Cut.Input → ⊥ }
     ensures out_cause { result.why ≡ Why.Cut Cut.Output → Rose (O.seen out.old).faults (O.seen out.new).faults }
     ensures out_sure { (told : List ℕ) → (S.seen input.old).told ≡ Some told
-        → size_of (outcome_of (each (J.verdict judge)) told).outputs ≤ (O.seen out.old).assured → result.why ≡ Why.Cut Cut.Output → ⊥ }
-    ensures entropy_cause { result.why ≡ Why.Cut Cut.Entropy → Rose (N.seen entropy.old).faults (N.seen entropy.new).faults }
+        → size_of (outcome_of (each (J.verdict judge)) told).outputs ≤ (O.seen out.old).assured
+        → result.why ≡ Why.Cut Cut.Output → ⊥ }
+    ensures entropy_cause { result.why ≡ Why.Cut Cut.Entropy
+        → Rose (N.seen entropy.old).faults (N.seen entropy.new).faults }
     ensures entropy_sure { (told : List ℕ) → (S.seen input.old).told ≡ Some told
-        → draws_of (outcome_of (each (J.verdict judge)) told).outputs ≤ (N.seen entropy.old).assured → result.why ≡ Why.Cut Cut.Entropy → ⊥ }
+        → draws_of (outcome_of (each (J.verdict judge)) told).outputs ≤ (N.seen entropy.old).assured
+        → result.why ≡ Why.Cut Cut.Entropy → ⊥ }
     ensures undrawn { DrawsNone (J.verdict judge) → result.why ≡ Why.Cut Cut.Entropy → ⊥ }
 {
     let mut verb = Judging { judge };

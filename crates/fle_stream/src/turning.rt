@@ -54,19 +54,26 @@ pub trait Verb {
         ensures progress { (n : ℕ) → result ≡ Turn.Wrote n → (taken < 2 ^ 40) × (5 ≤ n) × (n ≤ 2 ^ 24) }
         ensures kind { (why : Why) → result ≡ Turn.Ended why → IsOfStream why }
         ensures turn { (told : List ℕ) → (S.seen input.old).told ≡ Some told
-            → TurnOf (course self.old) (most self.old) number taken told (S.seen input.new).told (N.seen entropy.old) (N.seen entropy.new) (O.seen out.old) (O.seen out.new) result }
+            → TurnOf (course self.old) (most self.old) number taken told (S.seen input.new).told (N.seen entropy.old)
+            (N.seen entropy.new) (O.seen out.old) (O.seen out.new) result }
         ensures took { TurnTook (S.seen input.old).taken (S.seen input.new).taken result }
         ensures in_later { (S.seen input.old).faults ≤ (S.seen input.new).faults }
-        ensures in_cause { result ≡ Turn.Ended (Why.Cut Cut.Input) → Rose (S.seen input.old).faults (S.seen input.new).faults }
-        ensures in_sure { (S.seen input.old).assured ≡ true → (result ≡ Turn.Ended (Why.Cut Cut.Input) → ⊥) × ((S.seen input.new).assured ≡ true) }
+        ensures in_cause { result ≡ Turn.Ended (Why.Cut Cut.Input)
+            → Rose (S.seen input.old).faults (S.seen input.new).faults }
+        ensures in_sure { (S.seen input.old).assured ≡ true
+            → (result ≡ Turn.Ended (Why.Cut Cut.Input) → ⊥) × ((S.seen input.new).assured ≡ true) }
         ensures out_later { (O.seen out.old).faults ≤ (O.seen out.new).faults }
-        ensures out_cause { result ≡ Turn.Ended (Why.Cut Cut.Output) → Rose (O.seen out.old).faults (O.seen out.new).faults }
+        ensures out_cause { result ≡ Turn.Ended (Why.Cut Cut.Output)
+            → Rose (O.seen out.old).faults (O.seen out.new).faults }
         ensures out_sure { (told : List ℕ) → (S.seen input.old).told ≡ Some told
-            → size_of (course self.old number taken told).outputs ≤ (O.seen out.old).assured → result ≡ Turn.Ended (Why.Cut Cut.Output) → ⊥ }
+            → size_of (course self.old number taken told).outputs ≤ (O.seen out.old).assured
+            → result ≡ Turn.Ended (Why.Cut Cut.Output) → ⊥ }
         ensures entropy_later { (N.seen entropy.old).faults ≤ (N.seen entropy.new).faults }
-        ensures entropy_cause { result ≡ Turn.Ended (Why.Cut Cut.Entropy) → Rose (N.seen entropy.old).faults (N.seen entropy.new).faults }
+        ensures entropy_cause { result ≡ Turn.Ended (Why.Cut Cut.Entropy)
+            → Rose (N.seen entropy.old).faults (N.seen entropy.new).faults }
         ensures entropy_sure { (told : List ℕ) → (S.seen input.old).told ≡ Some told
-            → draws_of (course self.old number taken told).outputs ≤ (N.seen entropy.old).assured → result ≡ Turn.Ended (Why.Cut Cut.Entropy) → ⊥ }
+            → draws_of (course self.old number taken told).outputs ≤ (N.seen entropy.old).assured
+            → result ≡ Turn.Ended (Why.Cut Cut.Entropy) → ⊥ }
         ensures undrawn { quiet self.old → (result ≡ Turn.Ended (Why.Cut Cut.Entropy) → ⊥) × quiet self.new };
 }
 
@@ -80,7 +87,8 @@ pub fn run_turns<T: Verb, S: Source, O: Sink, N: Entropy>(
 ) -> End
     requires ready { T.ready verb.old }
     ensures ran { (told : List ℕ) → (S.seen input.old).told ≡ Some told
-        → Ran (T.course verb.old 1 0 told) told (S.seen input.new).told (T.most verb.old) (N.seen entropy.old) (N.seen entropy.new) (O.seen out.old) (O.seen out.new) result.number result.why }
+        → Ran (T.course verb.old 1 0 told) told (S.seen input.new).told (T.most verb.old) (N.seen entropy.old)
+        (N.seen entropy.new) (O.seen out.old) (O.seen out.new) result.number result.why }
     ensures kind { IsOfStream result.why }
     ensures numbered { 0 < result.number }
     ensures took { RunTook (S.seen input.old).taken (S.seen input.new).taken result.number }
@@ -88,10 +96,13 @@ pub fn run_turns<T: Verb, S: Source, O: Sink, N: Entropy>(
     ensures in_sure { (S.seen input.old).assured ≡ true → result.why ≡ Why.Cut Cut.Input → ⊥ }
     ensures out_cause { result.why ≡ Why.Cut Cut.Output → Rose (O.seen out.old).faults (O.seen out.new).faults }
     ensures out_sure { (told : List ℕ) → (S.seen input.old).told ≡ Some told
-        → size_of (T.course verb.old 1 0 told).outputs ≤ (O.seen out.old).assured → result.why ≡ Why.Cut Cut.Output → ⊥ }
-    ensures entropy_cause { result.why ≡ Why.Cut Cut.Entropy → Rose (N.seen entropy.old).faults (N.seen entropy.new).faults }
+        → size_of (T.course verb.old 1 0 told).outputs ≤ (O.seen out.old).assured → result.why ≡ Why.Cut Cut.Output
+        → ⊥ }
+    ensures entropy_cause { result.why ≡ Why.Cut Cut.Entropy
+        → Rose (N.seen entropy.old).faults (N.seen entropy.new).faults }
     ensures entropy_sure { (told : List ℕ) → (S.seen input.old).told ≡ Some told
-        → draws_of (T.course verb.old 1 0 told).outputs ≤ (N.seen entropy.old).assured → result.why ≡ Why.Cut Cut.Entropy → ⊥ }
+        → draws_of (T.course verb.old 1 0 told).outputs ≤ (N.seen entropy.old).assured
+        → result.why ≡ Why.Cut Cut.Entropy → ⊥ }
     ensures undrawn { T.quiet verb.old → result.why ≡ Why.Cut Cut.Entropy → ⊥ }
 {
     let mut taken: u64 = 0;

@@ -1,1 +1,2 @@
 pub mod CodeLength
+pub mod Computed

@@ -12,8 +12,8 @@
 //! let code: [u8; 64] = running.finish();
 //! ```
 //!
-//! It doesn't compare codes, doesn't run in constant time and doesn't wipe what it leaves in
-//! memory.
+//! It doesn't compare codes and doesn't wipe what it leaves in memory. How long it runs depends on
+//! the lengths of key and message alone, by its form: no clause says so.
 #![tactic(auto)]
 
 pub use keyed::KeyedMac;
@@ -22,6 +22,7 @@ pub use whole::mac;
 
 mod key_block;
 mod keyed;
+pub mod laws;
 mod running;
 #[cfg(test)]
 mod tests;

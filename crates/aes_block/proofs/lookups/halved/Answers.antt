@@ -22,7 +22,8 @@ look_up-requires-3 c =
     let x = c.args.x in
     let j_is = summed high low x c.high-i.ensures c.low-k.ensures in
     let r_is = looked_up RATIO low x c.look_up-ratio.ensures c.low-k.ensures in
-    let p_is = summed (λ b. entry INVERSE (high b)) (λ b. entry RATIO (low b)) x (looked_up INVERSE high x c.look_up.ensures c.high-i.ensures) r_is in
+    let p_is = summed (λ b. entry INVERSE (high b)) (λ b. entry RATIO (low b)) x
+    (looked_up INVERSE high x c.look_up.ensures c.high-i.ensures) r_is in
     ap all_places p_is ∙ mapped_places (λ b. bit_xor (entry INVERSE (high b)) (entry RATIO (low b))) refl x c.fits-x.1
 
 pub look_up-requires-4 : goal.look_up-requires-4
@@ -30,23 +31,31 @@ look_up-requires-4 c =
     let x = c.args.x in
     let j_is = summed high low x c.high-i.ensures c.low-k.ensures in
     let r_is = looked_up RATIO low x c.look_up-ratio.ensures c.low-k.ensures in
-    let q_is = summed (λ b. entry INVERSE (bit_xor (high b) (low b))) (λ b. entry RATIO (low b)) x (looked_up INVERSE (λ b. bit_xor (high b) (low b)) x c.look_up-2.ensures j_is) r_is in
-    ap all_places q_is ∙ mapped_places (λ b. bit_xor (entry INVERSE (bit_xor (high b) (low b))) (entry RATIO (low b))) refl x c.fits-x.1
+    let q_is = summed (λ b. entry INVERSE (bit_xor (high b) (low b))) (λ b. entry RATIO (low b)) x
+    (looked_up INVERSE (λ b. bit_xor (high b) (low b)) x c.look_up-2.ensures j_is) r_is in
+    ap all_places q_is ∙ mapped_places (λ b. bit_xor (entry INVERSE (bit_xor (high b) (low b))) (entry RATIO (low b)))
+    refl x c.fits-x.1
 
 pub returns-clause-u : goal.returns-clause-u
 returns-clause-u c =
     let x = c.args.x in
     let j_is = summed high low x c.high-i.ensures c.low-k.ensures in
     let r_is = looked_up RATIO low x c.look_up-ratio.ensures c.low-k.ensures in
-    let p_is = summed (λ b. entry INVERSE (high b)) (λ b. entry RATIO (low b)) x (looked_up INVERSE high x c.look_up.ensures c.high-i.ensures) r_is in
-    let e = looked_up INVERSE (λ b. bit_xor (entry INVERSE (high b)) (entry RATIO (low b))) x c.look_up-3.ensures p_is in
-    summed (λ b. entry INVERSE (bit_xor (entry INVERSE (high b)) (entry RATIO (low b)))) (λ b. bit_xor (high b) (low b)) x e j_is
+    let p_is = summed (λ b. entry INVERSE (high b)) (λ b. entry RATIO (low b)) x
+    (looked_up INVERSE high x c.look_up.ensures c.high-i.ensures) r_is in
+    let e = looked_up INVERSE (λ b. bit_xor (entry INVERSE (high b)) (entry RATIO (low b))) x c.look_up-3.ensures p_is
+    in
+    summed (λ b. entry INVERSE (bit_xor (entry INVERSE (high b)) (entry RATIO (low b))))
+    (λ b. bit_xor (high b) (low b)) x e j_is
 
 pub returns-clause-v : goal.returns-clause-v
 returns-clause-v c =
     let x = c.args.x in
     let j_is = summed high low x c.high-i.ensures c.low-k.ensures in
     let r_is = looked_up RATIO low x c.look_up-ratio.ensures c.low-k.ensures in
-    let q_is = summed (λ b. entry INVERSE (bit_xor (high b) (low b))) (λ b. entry RATIO (low b)) x (looked_up INVERSE (λ b. bit_xor (high b) (low b)) x c.look_up-2.ensures j_is) r_is in
-    let e = looked_up INVERSE (λ b. bit_xor (entry INVERSE (bit_xor (high b) (low b))) (entry RATIO (low b))) x c.look_up-4.ensures q_is in
-    summed (λ b. entry INVERSE (bit_xor (entry INVERSE (bit_xor (high b) (low b))) (entry RATIO (low b)))) high x e c.high-i.ensures
+    let q_is = summed (λ b. entry INVERSE (bit_xor (high b) (low b))) (λ b. entry RATIO (low b)) x
+    (looked_up INVERSE (λ b. bit_xor (high b) (low b)) x c.look_up-2.ensures j_is) r_is in
+    let e = looked_up INVERSE (λ b. bit_xor (entry INVERSE (bit_xor (high b) (low b))) (entry RATIO (low b))) x
+    c.look_up-4.ensures q_is in
+    summed (λ b. entry INVERSE (bit_xor (entry INVERSE (bit_xor (high b) (low b))) (entry RATIO (low b)))) high x e
+    c.high-i.ensures

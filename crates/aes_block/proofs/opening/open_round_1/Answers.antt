@@ -13,4 +13,6 @@ pub turned-requires-3 : goal.turned-requires-3
 turned-requires-3 c = ap all_places c.turn-once.ensures
 
 pub returns : goal.returns
-returns c s k bs bk ex ek = rw (c.turned-3.ensures, c.turned-2.ensures, c.turned.ensures) (open_round_1-is s k bs bk ex ek c.products.ensures.nine c.products.ensures.eleven c.products.ensures.thirteen c.products.ensures.fourteen c.turn-once.ensures c.turn-twice.ensures)
+returns c s k bs bk ex ek = rw (c.turned-3.ensures, c.turned-2.ensures, c.turned.ensures)
+    (open_round_1-is s k bs bk ex ek c.products.ensures.nine c.products.ensures.eleven c.products.ensures.thirteen
+    c.products.ensures.fourteen c.turn-once.ensures c.turn-twice.ensures)

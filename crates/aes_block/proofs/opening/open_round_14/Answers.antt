@@ -21,4 +21,10 @@ turned-requires c = ap all_places c.turn.ensures
 
 pub returns : goal.returns
 unfolding at_halves
-returns c s k bs bk ex ek = c.turned.ensures ∙ open_ended s k bs bk ex ek (sum_keyed xor_right c.look_up.result c.args.key c.look_up-2.result ∙ ap (λ z. xor_bytes z c.args.key) (summed (λ b. entry OPEN_LAST_U (half_u INVERSE RATIO b)) (λ b. entry OPEN_LAST_V (half_v INVERSE RATIO b)) c.args.x (looked_up OPEN_LAST_U (half_u INVERSE RATIO) c.args.x c.look_up.ensures c.halved.ensures.u) (looked_up OPEN_LAST_V (half_v INVERSE RATIO) c.args.x c.look_up-2.ensures c.halved.ensures.v))) c.turn.ensures
+returns c s k bs bk ex ek = c.turned.ensures ∙ open_ended s k bs bk ex ek
+    (sum_keyed xor_right c.look_up.result c.args.key c.look_up-2.result
+    ∙ ap (λ z. xor_bytes z c.args.key) (summed (λ b. entry OPEN_LAST_U (half_u INVERSE RATIO b))
+    (λ b. entry OPEN_LAST_V (half_v INVERSE RATIO b)) c.args.x
+    (looked_up OPEN_LAST_U (half_u INVERSE RATIO) c.args.x c.look_up.ensures c.halved.ensures.u)
+    (looked_up OPEN_LAST_V (half_v INVERSE RATIO) c.args.x c.look_up-2.ensures c.halved.ensures.v)))
+    c.turn.ensures

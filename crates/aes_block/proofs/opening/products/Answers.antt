@@ -1,7 +1,8 @@
 use Rattle.std.proofs.Common.{refl, ap, ◌∙◌}
 use Rattle.aes_block.specs.Block.{xor_bytes}
 use Rattle.aes_block.specs.declared.tables.TheConstants.{INVERSE, RATIO}
-use Rattle.aes_block.specs.declared.open_tables.TheConstants.{FOURTEEN_U, FOURTEEN_V, ELEVEN_U, ELEVEN_V, THIRTEEN_U, THIRTEEN_V, NINE_U, NINE_V}
+use Rattle.aes_block.specs.declared.open_tables.TheConstants.{FOURTEEN_U, FOURTEEN_V, ELEVEN_U, ELEVEN_V, THIRTEEN_U}
+use Rattle.aes_block.specs.declared.open_tables.TheConstants.{THIRTEEN_V, NINE_U, NINE_V}
 use Rattle.aes_block.specs.Nibbles.{all_places, entry, half_u, half_v}
 use Rattle.aes_block.specs.Sealing.{at_halves}
 use Rattle.aes_block.proofs.Lanes.{mapped_places, looked_up, summed}
@@ -35,16 +36,29 @@ look_up-requires-8 c = ap all_places c.halved.ensures.v ∙ mapped_places (half_
 
 pub returns-clause-nine : goal.returns-clause-nine
 unfolding at_halves
-returns-clause-nine c = summed (λ b. entry NINE_U (half_u INVERSE RATIO b)) (λ b. entry NINE_V (half_v INVERSE RATIO b)) c.args.x (looked_up NINE_U (half_u INVERSE RATIO) c.args.x c.look_up.ensures c.halved.ensures.u) (looked_up NINE_V (half_v INVERSE RATIO) c.args.x c.look_up-2.ensures c.halved.ensures.v)
+returns-clause-nine c = summed (λ b. entry NINE_U (half_u INVERSE RATIO b))
+    (λ b. entry NINE_V (half_v INVERSE RATIO b)) c.args.x
+    (looked_up NINE_U (half_u INVERSE RATIO) c.args.x c.look_up.ensures c.halved.ensures.u)
+    (looked_up NINE_V (half_v INVERSE RATIO) c.args.x c.look_up-2.ensures c.halved.ensures.v)
 
 pub returns-clause-thirteen : goal.returns-clause-thirteen
 unfolding at_halves
-returns-clause-thirteen c = summed (λ b. entry THIRTEEN_U (half_u INVERSE RATIO b)) (λ b. entry THIRTEEN_V (half_v INVERSE RATIO b)) c.args.x (looked_up THIRTEEN_U (half_u INVERSE RATIO) c.args.x c.look_up-3.ensures c.halved.ensures.u) (looked_up THIRTEEN_V (half_v INVERSE RATIO) c.args.x c.look_up-4.ensures c.halved.ensures.v)
+returns-clause-thirteen c = summed (λ b. entry THIRTEEN_U (half_u INVERSE RATIO b))
+    (λ b. entry THIRTEEN_V (half_v INVERSE RATIO b)) c.args.x
+    (looked_up THIRTEEN_U (half_u INVERSE RATIO) c.args.x c.look_up-3.ensures c.halved.ensures.u)
+    (looked_up THIRTEEN_V (half_v INVERSE RATIO) c.args.x c.look_up-4.ensures c.halved.ensures.v)
 
 pub returns-clause-eleven : goal.returns-clause-eleven
 unfolding at_halves
-returns-clause-eleven c = summed (λ b. entry ELEVEN_U (half_u INVERSE RATIO b)) (λ b. entry ELEVEN_V (half_v INVERSE RATIO b)) c.args.x (looked_up ELEVEN_U (half_u INVERSE RATIO) c.args.x c.look_up-5.ensures c.halved.ensures.u) (looked_up ELEVEN_V (half_v INVERSE RATIO) c.args.x c.look_up-6.ensures c.halved.ensures.v)
+returns-clause-eleven c = summed (λ b. entry ELEVEN_U (half_u INVERSE RATIO b))
+    (λ b. entry ELEVEN_V (half_v INVERSE RATIO b)) c.args.x
+    (looked_up ELEVEN_U (half_u INVERSE RATIO) c.args.x c.look_up-5.ensures c.halved.ensures.u)
+    (looked_up ELEVEN_V (half_v INVERSE RATIO) c.args.x c.look_up-6.ensures c.halved.ensures.v)
 
 pub returns-clause-fourteen : goal.returns-clause-fourteen
 unfolding at_halves
-returns-clause-fourteen c = sum_keyed xor_right c.look_up-7.result c.args.key c.look_up-8.result ∙ ap (λ z. xor_bytes z c.args.key) (summed (λ b. entry FOURTEEN_U (half_u INVERSE RATIO b)) (λ b. entry FOURTEEN_V (half_v INVERSE RATIO b)) c.args.x (looked_up FOURTEEN_U (half_u INVERSE RATIO) c.args.x c.look_up-7.ensures c.halved.ensures.u) (looked_up FOURTEEN_V (half_v INVERSE RATIO) c.args.x c.look_up-8.ensures c.halved.ensures.v))
+returns-clause-fourteen c = sum_keyed xor_right c.look_up-7.result c.args.key c.look_up-8.result
+    ∙ ap (λ z. xor_bytes z c.args.key) (summed (λ b. entry FOURTEEN_U (half_u INVERSE RATIO b))
+    (λ b. entry FOURTEEN_V (half_v INVERSE RATIO b)) c.args.x
+    (looked_up FOURTEEN_U (half_u INVERSE RATIO) c.args.x c.look_up-7.ensures c.halved.ensures.u)
+    (looked_up FOURTEEN_V (half_v INVERSE RATIO) c.args.x c.look_up-8.ensures c.halved.ensures.v))

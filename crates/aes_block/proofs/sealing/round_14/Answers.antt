@@ -16,4 +16,9 @@ look_up-requires-2 c = ap all_places c.halved.ensures.v ∙ mapped_places (half_
 
 pub returns : goal.returns
 unfolding at_halves
-returns c s k bs bk ex ek = ended s k bs bk ex ek (sum_keyed xor_right c.look_up.result c.args.key c.look_up-2.result ∙ ap (λ z. xor_bytes z c.args.key) (summed (λ b. entry LAST_U (half_u INVERSE RATIO b)) (λ b. entry LAST_V (half_v INVERSE RATIO b)) c.args.x (looked_up LAST_U (half_u INVERSE RATIO) c.args.x c.look_up.ensures c.halved.ensures.u) (looked_up LAST_V (half_v INVERSE RATIO) c.args.x c.look_up-2.ensures c.halved.ensures.v)))
+returns c s k bs bk ex ek = ended s k bs bk ex ek
+    (sum_keyed xor_right c.look_up.result c.args.key c.look_up-2.result
+    ∙ ap (λ z. xor_bytes z c.args.key) (summed (λ b. entry LAST_U (half_u INVERSE RATIO b))
+    (λ b. entry LAST_V (half_v INVERSE RATIO b)) c.args.x
+    (looked_up LAST_U (half_u INVERSE RATIO) c.args.x c.look_up.ensures c.halved.ensures.u)
+    (looked_up LAST_V (half_v INVERSE RATIO) c.args.x c.look_up-2.ensures c.halved.ensures.v)))

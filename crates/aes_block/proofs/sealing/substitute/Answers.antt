@@ -22,8 +22,15 @@ look_up-requires-4 c = ap all_places c.halved.ensures.v ∙ mapped_places (half_
 
 pub returns-clause-a : goal.returns-clause-a
 unfolding at_halves
-returns-clause-a c = sum_keyed xor_right c.look_up.result c.args.key c.look_up-2.result ∙ ap (λ z. xor_bytes z c.args.key) (summed (λ b. entry ONE_U (half_u INVERSE RATIO b)) (λ b. entry ONE_V (half_v INVERSE RATIO b)) c.args.x (looked_up ONE_U (half_u INVERSE RATIO) c.args.x c.look_up.ensures c.halved.ensures.u) (looked_up ONE_V (half_v INVERSE RATIO) c.args.x c.look_up-2.ensures c.halved.ensures.v))
+returns-clause-a c = sum_keyed xor_right c.look_up.result c.args.key c.look_up-2.result
+    ∙ ap (λ z. xor_bytes z c.args.key) (summed (λ b. entry ONE_U (half_u INVERSE RATIO b))
+    (λ b. entry ONE_V (half_v INVERSE RATIO b)) c.args.x
+    (looked_up ONE_U (half_u INVERSE RATIO) c.args.x c.look_up.ensures c.halved.ensures.u)
+    (looked_up ONE_V (half_v INVERSE RATIO) c.args.x c.look_up-2.ensures c.halved.ensures.v))
 
 pub returns-clause-m : goal.returns-clause-m
 unfolding at_halves
-returns-clause-m c = summed (λ b. entry TWO_U (half_u INVERSE RATIO b)) (λ b. entry TWO_V (half_v INVERSE RATIO b)) c.args.x (looked_up TWO_U (half_u INVERSE RATIO) c.args.x c.look_up-3.ensures c.halved.ensures.u) (looked_up TWO_V (half_v INVERSE RATIO) c.args.x c.look_up-4.ensures c.halved.ensures.v)
+returns-clause-m c = summed (λ b. entry TWO_U (half_u INVERSE RATIO b))
+    (λ b. entry TWO_V (half_v INVERSE RATIO b)) c.args.x
+    (looked_up TWO_U (half_u INVERSE RATIO) c.args.x c.look_up-3.ensures c.halved.ensures.u)
+    (looked_up TWO_V (half_v INVERSE RATIO) c.args.x c.look_up-4.ensures c.halved.ensures.v)

@@ -15,5 +15,7 @@ look_up-requires-2 c = ap all_places c.halved.ensures.v ∙ mapped_places (half_
 pub returns : goal.returns
 unfolding at_halves
 returns c =
-    let s_is = summed (λ b. entry LAST_U (half_u INVERSE RATIO b)) (λ b. entry LAST_V (half_v INVERSE RATIO b)) c.args.x (looked_up LAST_U (half_u INVERSE RATIO) c.args.x c.look_up.ensures c.halved.ensures.u) (looked_up LAST_V (half_v INVERSE RATIO) c.args.x c.look_up-2.ensures c.halved.ensures.v) in
+    let s_is = summed (λ b. entry LAST_U (half_u INVERSE RATIO b)) (λ b. entry LAST_V (half_v INVERSE RATIO b)) c.args.x
+    (looked_up LAST_U (half_u INVERSE RATIO) c.args.x c.look_up.ensures c.halved.ensures.u)
+    (looked_up LAST_V (half_v INVERSE RATIO) c.args.x c.look_up-2.ensures c.halved.ensures.v) in
     boxed_is c.args.x c.fits-x.0 s_is

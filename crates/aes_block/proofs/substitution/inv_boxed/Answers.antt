@@ -14,4 +14,7 @@ look_up-requires-2 c = ap all_places c.halved.ensures.v ∙ mapped_places (half_
 
 pub returns : goal.returns
 unfolding at_halves
-returns c = summed (λ b. entry OPEN_LAST_U (half_u INVERSE RATIO b)) (λ b. entry OPEN_LAST_V (half_v INVERSE RATIO b)) c.args.x (looked_up OPEN_LAST_U (half_u INVERSE RATIO) c.args.x c.look_up.ensures c.halved.ensures.u) (looked_up OPEN_LAST_V (half_v INVERSE RATIO) c.args.x c.look_up-2.ensures c.halved.ensures.v)
+returns c = summed (λ b. entry OPEN_LAST_U (half_u INVERSE RATIO b))
+    (λ b. entry OPEN_LAST_V (half_v INVERSE RATIO b)) c.args.x
+    (looked_up OPEN_LAST_U (half_u INVERSE RATIO) c.args.x c.look_up.ensures c.halved.ensures.u)
+    (looked_up OPEN_LAST_V (half_v INVERSE RATIO) c.args.x c.look_up-2.ensures c.halved.ensures.v)

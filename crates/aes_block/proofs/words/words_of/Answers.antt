@@ -6,4 +6,5 @@ use Rattle.aes_block.proofs.words.words_of.Goals as goal
 
 pub returns : goal.returns
 unfolding four_words
-returns c = words_bytes c.args.s (search rules) _ _ _ _ c.from_be_bytes.ensures c.from_be_bytes-2.ensures c.from_be_bytes-3.ensures c.from_be_bytes-4.ensures ∙ sym (sixteen c.args.s (search rules))
+returns c = words_bytes c.args.s (search rules) _ _ _ _ c.from_be_bytes.ensures c.from_be_bytes-2.ensures
+    c.from_be_bytes-3.ensures c.from_be_bytes-4.ensures ∙ sym (sixteen c.args.s (search rules))

@@ -4,12 +4,16 @@ use Rattle.bson_codec.proofs.Views.{checked, checked_spells, checked_only, refus
 use Rattle.bson_codec.proofs.borrowed.check_bson.Goals as goal
 
 pub invariant_of-result : goal.invariant_of-result
-invariant_of-result c =
-    (omega (arith, c.requires), checked_spells c.args.bytes.now c.in-Ok.field-0 (λ i. omega (arith, c.type_inv.bytes i)) (sym c.in-Ok.ensures.read))
+invariant_of-result c = (
+  omega (arith, c.requires),
+  checked_spells c.args.bytes.now c.in-Ok.field-0 (λ i. omega (arith, c.type_inv.bytes i))
+      (sym c.in-Ok.ensures.read),
+)
 
 pub returns-in-Ok-clause-found : goal.returns-in-Ok-clause-found
 returns-in-Ok-clause-found c =
-    let spells = checked_spells c.args.bytes.now c.in-Ok.field-0 (λ i. omega (arith, c.type_inv.bytes i)) (sym c.in-Ok.ensures.read) in
+    let spells = checked_spells c.args.bytes.now c.in-Ok.field-0 (λ i. omega (arith, c.type_inv.bytes i))
+    (sym c.in-Ok.ensures.read) in
     (spelled_doc c.args.bytes.now spells, spells_itself c.args.bytes.now spells, refl)
 
 pub returns-in-Ok-clause-only : goal.returns-in-Ok-clause-only

@@ -27,7 +27,8 @@ decreases-check_framed l = 7 * l.levels + 6
 abbrev pub invariant-check_elements-loop-rest : goal.invariant-check_elements-loop-rest
 invariant-check_elements-loop-rest l = record {
   place : l.p + length l.rest ≡ l.at + length l.bytes;
-  read : fault_of (elements_at (inside_at l.levels) l.p l.rest) ≡ fault_of (elements_at (inside_at l.levels) l.at l.bytes);
+  read : fault_of (elements_at (inside_at l.levels) l.p l.rest)
+      ≡ fault_of (elements_at (inside_at l.levels) l.at l.bytes);
 }
 
 abbrev pub decreases-check_elements-loop-rest : goal.decreases-check_elements-loop-rest

@@ -8,8 +8,14 @@ returns-in-None c = record { spelled = no_type c.args.levels c.args.tag c.args.b
 
 pub returns-in-Ok : goal.returns-in-Ok
 returns-in-Ok c =
-    record { spelled = value_judged c.args.levels c.args.tag c.in-Some.layout c.args.bytes.now (sym c.in-Some.ensures.row) c.in-Ok.n (λ i. omega (arith, c.type_inv.bytes i)) (sym c.in-Ok.ensures.read) }
+    record {
+      spelled = value_judged c.args.levels c.args.tag c.in-Some.layout c.args.bytes.now
+          (sym c.in-Some.ensures.row) c.in-Ok.n (λ i. omega (arith, c.type_inv.bytes i)) (sym c.in-Ok.ensures.read);
+    }
 
 pub returns-in-Err : goal.returns-in-Err
 returns-in-Err c =
-    record { spelled = value_refused c.args.levels c.args.tag c.in-Some.layout c.args.bytes.now (sym c.in-Some.ensures.row) c.in-Err.field-0 (sym c.in-Err.ensures.read) }
+    record {
+      spelled = value_refused c.args.levels c.args.tag c.in-Some.layout c.args.bytes.now
+          (sym c.in-Some.ensures.row) c.in-Err.field-0 (sym c.in-Err.ensures.read);
+    }

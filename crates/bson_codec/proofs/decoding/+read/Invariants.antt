@@ -22,7 +22,8 @@ decreases-inside_of l = 5 * l.levels
 abbrev pub invariant-elements_of-loop-rest : goal.invariant-elements_of-loop-rest
 invariant-elements_of-loop-rest l = record {
   place : l.p + length l.rest ≡ l.at + length l.bytes;
-  read : with_front l.kids (elements_at (inside_at l.levels) l.p l.rest) ≡ elements_at (inside_at l.levels) l.at l.bytes;
+  read : with_front l.kids (elements_at (inside_at l.levels) l.p l.rest)
+      ≡ elements_at (inside_at l.levels) l.at l.bytes;
 }
 
 abbrev pub decreases-elements_of-loop-rest : goal.decreases-elements_of-loop-rest

@@ -11,5 +11,6 @@ put_items-returns t c =
     let past : count c.args.kids.now ≤ c.loop-i.i = omega arith in
     let none : after c.loop-i.i c.args.kids.now ≡ no_items = after_all c.loop-i.i c.args.kids.now past in
     record {
-      appended = sym (append-nil c.loop-i.out.items) ∙ ap (λ (is : Items). c.loop-i.out.items ++ items_bytes is) (sym none) ∙ c.loop-i.invariant.written;
+      appended = sym (append-nil c.loop-i.out.items)
+          ∙ ap (λ (is : Items). c.loop-i.out.items ++ items_bytes is) (sym none) ∙ c.loop-i.invariant.written;
     }

@@ -15,4 +15,7 @@ split_at-requires-2 c =
     rw c.split_at.ensures.back (omega (arith, long, length-drop 4 c.args.value.now))
 
 pub returns : goal.returns
-returns c = record { contents = rw (c.split_at-2.ensures.back, c.split_at.ensures.back) (contents_are c.args.value.now (binary_spelled c.args.value.now c.requires)) }
+returns c = record {
+  contents = rw (c.split_at-2.ensures.back, c.split_at.ensures.back)
+      (contents_are c.args.value.now (binary_spelled c.args.value.now c.requires));
+}

@@ -10,7 +10,9 @@ pub measure_items-returns : goal.measure_items-returns
 measure_items-returns t c =
     let past : count c.args.kids.now ≤ c.loop-i.i = omega arith in
     let none : after c.loop-i.i c.args.kids.now ≡ no_items = after_all c.loop-i.i c.args.kids.now past in
-    let nothing : length (items_bytes (after c.loop-i.i c.args.kids.now)) ≡ 0 = ap (λ (is : Items). length (items_bytes is)) none in
+    let nothing : length (items_bytes (after c.loop-i.i c.args.kids.now)) ≡ 0 =
+    ap (λ (is : Items). length (items_bytes is)) none in
     let all : c.loop-i.sum ≡ length (items_bytes c.args.kids.now) = omega (arith, c.loop-i.invariant.size, nothing) in
-    let laid : AreElements (IsItems c.args.levels) (after c.loop-i.i c.args.kids.now) = subst (λ (is : Items). AreElements (IsItems c.args.levels) is) (sym none) tt in
+    let laid : AreElements (IsItems c.args.levels) (after c.loop-i.i c.args.kids.now) =
+    subst (λ (is : Items). AreElements (IsItems c.args.levels) is) (sym none) tt in
     record { size = (c.loop-i.invariant.front laid, all, omega (arith, c.loop-i.invariant.within, all)) }

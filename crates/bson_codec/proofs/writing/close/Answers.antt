@@ -19,7 +19,9 @@ returns c = record {
         c.len.ensures,
         c.append.new.out.ok,
       ) in
-      let whole : length c.put_length.new.out ≡ c.append.new.out.len = omega (arith, c.put_length.auto.out, c.deref_mut.ensures.len) in
+      let whole : length c.put_length.new.out ≡ c.append.new.out.len =
+      omega (arith, c.put_length.auto.out, c.deref_mut.ensures.len) in
       take_at c.put_length.new.out _ c.append.new.out.len whole
-      ∙ (c.put_length.ensures ∙ framed_at front elements c.deref_mut.result.now c.args.at _ here (c.deref_mut.ensures.value ∙ items) sized);
+      ∙ (c.put_length.ensures ∙ framed_at front elements c.deref_mut.result.now c.args.at _ here
+      (c.deref_mut.ensures.value ∙ items) sized);
 }

@@ -8,5 +8,6 @@ loop-i-preserved c = record {
   long = length-set _ _ _ ∙ c.loop-i.invariant.long;
   so_far =
       take_more_set c.loop-i.out c.loop-i.i _ (omega arith)
-      ∙ rw (c.loop-i.invariant.so_far, add-one) (sym (xor_bytes-more c.args.a c.args.b c.loop-i.i (search rules) (search rules)));
+      ∙ rw (c.loop-i.invariant.so_far, add-one) (sym
+      (xor_bytes-more c.args.a c.args.b c.loop-i.i (search rules) (search rules)));
 }

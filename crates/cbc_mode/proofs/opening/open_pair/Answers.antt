@@ -15,5 +15,6 @@ returns-clause-opened g c = λ n whole inside kept.
 
 pub returns-clause-behind : goal.returns-clause-behind
 returns-clause-behind g c =
-    put-behind (c.args.i + 1) _ c.put.new.out _ c.put-2.new.out c.put-2.ensures (omega arith) (search rules) (omega arith)
+    put-behind (c.args.i + 1) _ c.put.new.out _ c.put-2.new.out c.put-2.ensures (omega arith) (search rules)
+    (omega arith)
     ∙ put-behind c.args.i _ _ _ c.put.new.out c.put.ensures (omega arith) (search rules) (omega arith)

@@ -5,4 +5,5 @@ use Rattle.cbc_mode.proofs.padding.from.Goals as goal
 
 pub returns-clause-behind : goal.returns-clause-behind
 returns-clause-behind c = λ h.
-    let inside : leb c.args.n c.args.i ≡ true = grind (arith, nat_tests) in rw inside (masked c.args.byte c.ranges.byte.fits)
+    let inside : leb c.args.n c.args.i ≡ true = grind (arith, nat_tests) in rw inside
+    (masked c.args.byte c.ranges.byte.fits)

@@ -27,4 +27,5 @@ abbrev pub invariant-bad_elements-loop-item : goal.invariant-bad_elements-loop-i
 invariant-bad_elements-loop-item l =
     (goal.iterator-bad_elements-loop-item).can_next l.item-iterator ×
     (goal.iterator-bad_elements-loop-item).is_finite l.item-iterator ×
-    (elements_bad (inside_bad l.levels) l.item-iterator.start l.item-iterator.tree ≡ elements_bad (inside_bad l.levels) (l.document.start + 4) l.document.tree)
+    (elements_bad (inside_bad l.levels) l.item-iterator.start l.item-iterator.tree
+    ≡ elements_bad (inside_bad l.levels) (l.document.start + 4) l.document.tree)

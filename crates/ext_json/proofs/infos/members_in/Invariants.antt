@@ -8,4 +8,5 @@ abbrev pub invariant-loop-item : goal.invariant-loop-item
 invariant-loop-item l =
     (length l.out.items ≤ longest)
     × (5 * l.number ≤ length l.out.items + 5)
-    × (members_of l.number l.out.items (items_view (drop l.item-index l.item-items)) ≡ members_of 1 [] (items_view l.item-items))
+    × (members_of l.number l.out.items (items_view (drop l.item-index l.item-items))
+    ≡ members_of 1 [] (items_view l.item-items))

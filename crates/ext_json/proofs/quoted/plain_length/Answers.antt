@@ -7,5 +7,8 @@ loop-n-init c = (omega arith, escaped_nil)
 
 pub loop-n-preserved : goal.loop-n-preserved
 loop-n-preserved c =
-    let within = c.loop-n-test.true in
-    (omega (arith, within), plain_more c.loop-n.n c.args.text.now _ within c.loop-n.invariant.1 (sym c.is_plain.ensures ∙ c.if-is_plain.true))
+    let within = c.loop-n-test.true in (
+      omega (arith, within),
+      plain_more c.loop-n.n c.args.text.now _ within c.loop-n.invariant.1
+          (sym c.is_plain.ensures ∙ c.if-is_plain.true),
+    )

@@ -5,7 +5,9 @@ pub returns-in-Err : goal.returns-in-Err
 returns-in-Err g c = put_stops _ (rw c.quote.ensures at c.in-Err.ensures.wrote)
 
 pub returns-in-Err-put_escaped : goal.returns-in-Err-put_escaped
-returns-in-Err-put_escaped g c = put_then _ (rw c.quote.ensures at c.in-Ok.ensures.wrote) (put_stops _ c.in-Err-put_escaped.ensures)
+returns-in-Err-put_escaped g c = put_then _ (rw c.quote.ensures at c.in-Ok.ensures.wrote)
+    (put_stops _ c.in-Err-put_escaped.ensures)
 
 pub returns : goal.returns
-returns g c = put_then _ (rw c.quote.ensures at c.in-Ok.ensures.wrote) (put_then _ c.in-Ok-put_escaped.ensures (rw c.quote-2.ensures at c.write_whole-2.ensures.wrote))
+returns g c = put_then _ (rw c.quote.ensures at c.in-Ok.ensures.wrote)
+    (put_then _ c.in-Ok-put_escaped.ensures (rw c.quote-2.ensures at c.write_whole-2.ensures.wrote))

@@ -5,7 +5,9 @@ pub returns-in-Err : goal.returns-in-Err
 returns-in-Err g c = put_stops _ c.in-Err.ensures
 
 pub returns-in-Err-write_whole : goal.returns-in-Err-write_whole
-returns-in-Err-write_whole g c = put_then _ c.in-Ok.ensures (put_stops _ (rw c.middle.ensures at c.in-Err-write_whole.ensures.wrote))
+returns-in-Err-write_whole g c = put_then _ c.in-Ok.ensures
+    (put_stops _ (rw c.middle.ensures at c.in-Err-write_whole.ensures.wrote))
 
 pub returns : goal.returns
-returns g c = put_then _ c.in-Ok.ensures (put_then _ (rw c.middle.ensures at c.in-Ok-write_whole.ensures.wrote) c.put_hex.ensures)
+returns g c = put_then _ c.in-Ok.ensures (put_then _
+    (rw c.middle.ensures at c.in-Ok-write_whole.ensures.wrote) c.put_hex.ensures)

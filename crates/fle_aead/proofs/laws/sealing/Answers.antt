@@ -1,4 +1,5 @@
-use Rattle.fle_aead.proofs.SealedForm.{sealed-determines, sealed-is_sealed_length, sealed-tagged, sealed-iv, sealed-opened}
+use Rattle.fle_aead.proofs.SealedForm.{sealed-determines, sealed-is_sealed_length, sealed-tagged, sealed-iv}
+use Rattle.fle_aead.proofs.SealedForm.{sealed-opened}
 use Rattle.fle_aead.proofs.OpenedMessage.{message-sealed}
 use Rattle.fle_aead.proofs.laws.sealing.Goals as goal
 

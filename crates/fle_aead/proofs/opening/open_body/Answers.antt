@@ -15,7 +15,10 @@ returns-in-Ok-clause-opened g c =
     (c.iv_in.ensures ∙ c.split_at.ensures.front) c.split_at.ensures.back in
     let long : length c.split_at.result.1.now ≡ length c.args.body.now - 16 = omega arith in
     let whole : IsWholeBlocks (length c.split_at.result.1.now) =
-    record { some = omega (arith, c.requires.whole.1, c.requires.whole.2); whole = omega (arith, c.requires.whole.2) } in
+    record {
+      some = omega (arith, c.requires.whole.1, c.requires.whole.2);
+      whole = omega (arith, c.requires.whole.2);
+    } in
     rw long at (c.cbc_open_into.ensures.opened whole) ∙ sym parts
 
 pub returns-in-Err-Padding-clause-wrong : goal.returns-in-Err-Padding-clause-wrong
@@ -30,5 +33,8 @@ returns-in-Err-Padding-clause-opened g c =
     (c.iv_in.ensures ∙ c.split_at.ensures.front) c.split_at.ensures.back in
     let long : length c.split_at.result.1.now ≡ length c.args.body.now - 16 = omega arith in
     let whole : IsWholeBlocks (length c.split_at.result.1.now) =
-    record { some = omega (arith, c.requires.whole.1, c.requires.whole.2); whole = omega (arith, c.requires.whole.2) } in
+    record {
+      some = omega (arith, c.requires.whole.1, c.requires.whole.2);
+      whole = omega (arith, c.requires.whole.2);
+    } in
     rw long at (c.cbc_open_into.ensures.opened whole) ∙ sym parts

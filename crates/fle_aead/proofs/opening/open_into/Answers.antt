@@ -2,7 +2,8 @@ use Rattle.std.proofs.Common.{◌≡◌, ◌-◌, ◌<◌, ◌∙◌, Ok, ap, sy
 use Rattle.std.proofs.lemmas.List.{length-take-le}
 use Rattle.std.proofs.lemmas.List.Elements.{All-from_get_or, All-take}
 use Rattle.cbc_mode.proofs.Padded.{pad-injective}
-use Rattle.fle_aead.proofs.SealedForm.{opened-body, sealed-is_sealed_length, sealed-opened, sealed-tagged, sealed_from, tagged_from, tags_agree_from}
+use Rattle.fle_aead.proofs.SealedForm.{opened-body, sealed-is_sealed_length, sealed-opened, sealed-tagged, sealed_from}
+use Rattle.fle_aead.proofs.SealedForm.{tagged_from, tags_agree_from}
 use Rattle.fle_aead.proofs.OpenedMessage.{message-tagged, message-unpadded, message-untagged}
 use Rattle.fle_aead.proofs.opening.open_into.Goals as goal
 
@@ -23,7 +24,8 @@ returns-in-Some-clause-ok g c =
     let same = c.if-not-tags_agree.ensures in
     sealed_from _ _ _ _
     (All-from_get_or (λ b. b < 256) c.args.sealed.now 0 (λ i _. search rules))
-    (All-take (λ b. b < 256) c.in-Some.n c.open_body.new.out (All-from_get_or (λ b. b < 256) c.open_body.new.out 0 (λ i _. search rules)))
+    (All-take (λ b. b < 256) c.in-Some.n c.open_body.new.out
+    (All-from_get_or (λ b. b < 256) c.open_body.new.out 0 (λ i _. search rules)))
     (tagged_from _ _ _ _ _ _ _ (len.0 refl) c.split_at.ensures.front c.split_at.ensures.back
     c.tag-computed.ensures c.tag_in-found.ensures (same.0 refl))
     (opened-body _ _ _ c.split_at.ensures.front ∙ c.in-Some.ensures.plain)
@@ -31,7 +33,8 @@ returns-in-Some-clause-ok g c =
 pub returns-in-Some-clause-opens : goal.returns-in-Some-clause-opens
 returns-in-Some-clause-opens g c = λ iv p s.
     let is : take c.in-Some.n c.open_body.new.out ≡ p =
-    pad-injective _ p (sym c.in-Some.ensures.plain ∙ sym (opened-body _ _ _ c.split_at.ensures.front) ∙ sealed-opened _ _ iv p _ s) in
+    pad-injective _ p (sym c.in-Some.ensures.plain ∙ sym (opened-body _ _ _ c.split_at.ensures.front)
+    ∙ sealed-opened _ _ iv p _ s) in
     let count : length (take c.in-Some.n c.open_body.new.out) ≡ c.in-Some.n =
     length-take-le c.in-Some.n c.open_body.new.out (omega (arith, c.in-Some.ensures.shorter)) in
     ap Ok (sym count ∙ ap length is)

@@ -13,6 +13,7 @@ returns c = (
   λ t.
       let found : length c.args.found.now ≡ 32 = search rules in
       let computed : length c.args.computed.now ≡ 32 = search rules in
-      agree_all c.args.found.now c.args.computed.now 32 c.loop-i.i found computed (omega arith) (c.loop-i.invariant.agree.0 (eqb-true _ _ t)),
+      agree_all c.args.found.now c.args.computed.now 32 c.loop-i.i found computed (omega arith)
+      (c.loop-i.invariant.agree.0 (eqb-true _ _ t)),
   λ e. eq-eqb _ _ (c.loop-i.invariant.agree.1 (λ k below. ap (λ z. get_or z k 0) e)),
 )

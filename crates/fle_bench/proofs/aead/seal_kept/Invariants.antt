@@ -1,6 +1,9 @@
-use Rattle.std.proofs.Common.{◌<◌}
-use Rattle.fle_aead.specs.Sealed.{derived_iv, IsSealed}
+use Rattle.std.proofs.Common.{◌≡◌, ◌<◌}
+use Rattle.fle_bench.specs.Turns.{last, value_turns}
 use Rattle.fle_bench.proofs.aead.seal_kept.Given as goal
 
 abbrev pub invariant-loop-turn : goal.invariant-loop-turn
-invariant-loop-turn l = 0 < l._turn → IsSealed l.fn.bytes l.aad (derived_iv l.fn.bytes l.aad l.plain) l.plain l.out
+invariant-loop-turn l = record {
+  fed : l.aad ≡ last 18 (value_turns l.fn.bytes l.fn.first l.plain l._turn);
+  out : 0 < l._turn → l.out ≡ value_turns l.fn.bytes l.fn.first l.plain l._turn;
+}

@@ -1,7 +1,9 @@
 use Rattle.std.proofs.Common.{◌≡◌, ◌<◌}
-use Rattle.cbc_mode.specs.Cbc.{cbc_sealed}
-use Rattle.cbc_mode.specs.Padding.{pad}
+use Rattle.fle_bench.specs.Turns.{last, sealed_turns}
 use Rattle.fle_bench.proofs.cbc.seal_turns.Given as goal
 
 abbrev pub invariant-loop-turn : goal.invariant-loop-turn
-invariant-loop-turn g l = 0 < l._turn → l.out ≡ cbc_sealed l.schedule l.fn.iv (pad l.plain)
+invariant-loop-turn g l = record {
+  fed : l.iv ≡ last 16 (sealed_turns l.schedule l.fn.first l.plain l._turn);
+  out : 0 < l._turn → l.out ≡ sealed_turns l.schedule l.fn.first l.plain l._turn;
+}

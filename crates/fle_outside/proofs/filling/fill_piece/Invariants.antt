@@ -9,7 +9,8 @@ invariant-loop-at g l = record {
   later : (g.S.Source.seen l.fn.source).faults ≤ (g.S.Source.seen l.source).faults;
   sure : (g.S.Source.seen l.fn.source).assured ≡ true → (g.S.Source.seen l.source).assured ≡ true;
   counted : RoseBy (g.S.Source.seen l.fn.source).taken (g.S.Source.seen l.source).taken l.at;
-  filled : (told : List ℕ) → (g.S.Source.seen l.fn.source).told ≡ Some told → (told ≡ take l.at l.piece ++ drop l.at told) × ((g.S.Source.seen l.source).told ≡ Some (drop l.at told));
+  filled : (told : List ℕ) → (g.S.Source.seen l.fn.source).told ≡ Some told
+      → (told ≡ take l.at l.piece ++ drop l.at told) × ((g.S.Source.seen l.source).told ≡ Some (drop l.at told));
 }
 
 abbrev pub decreases-loop-at : goal.decreases-loop-at

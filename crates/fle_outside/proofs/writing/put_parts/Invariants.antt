@@ -5,4 +5,5 @@ use Rattle.fle_outside.proofs.PartWay.{PartWay}
 use Rattle.fle_outside.proofs.writing.put_parts.Given as goal
 
 abbrev pub invariant-loop-part : goal.invariant-loop-part
-invariant-loop-part g l = PartWay (g.O.Sink.seen l.fn.out) (g.O.Sink.seen l.out) (joined l.parts) (joined (drop l.part-index l.parts))
+invariant-loop-part g l = PartWay (g.O.Sink.seen l.fn.out) (g.O.Sink.seen l.out) (joined l.parts)
+    (joined (drop l.part-index l.parts))

@@ -5,4 +5,5 @@ use Rattle.fle_outside.proofs.writing.write_whole.Goals as goal
 pub loop-left-preserved : goal.loop-left-preserved
 loop-left-preserved g c =
     rw c.split_at.ensures.back
-    (part_took c.in-Took.n c.loop-left.invariant c.in-Took.ensures.bytes c.in-Took.ensures.within.1 c.in-Took.ensures.cause.later c.in-Took.ensures.sure)
+    (part_took c.in-Took.n c.loop-left.invariant c.in-Took.ensures.bytes c.in-Took.ensures.within.1
+    c.in-Took.ensures.cause.later c.in-Took.ensures.sure)

@@ -20,7 +20,8 @@ loop-n-init g c = record {
   entropy_later = omega arith;
   sure = λ assured. assured;
   quiet = λ quiet. quiet;
-  going = λ told is. begins (g.T.Verb.course c.args.verb.now) told _ (g.N.Entropy.seen c.args.entropy.now) (g.O.Sink.seen c.args.out.now) is;
+  going = λ told is. begins (g.T.Verb.course c.args.verb.now) told _ (g.N.Entropy.seen c.args.entropy.now)
+      (g.O.Sink.seen c.args.out.now) is;
 }
 
 pub loop-n-preserved : goal.loop-n-preserved
@@ -51,7 +52,8 @@ pub returns-in-Ended-clause-ran : goal.returns-in-Ended-clause-ran
 returns-in-Ended-clause-ran g c = λ told is.
     let before = c.loop-n.invariant in
     let going = before.going told is in
-    let last = rw (before.same_course, before.same_most) at (c.in-Ended.ensures.turn (drop c.loop-n.taken told) going.here) in
+    let last = rw (before.same_course, before.same_most) at
+    (c.in-Ended.ensures.turn (drop c.loop-n.taken told) going.here) in
     stops (g.T.Verb.most c.args.verb.now) going (c.in-Ended.ensures.kind c.in-Ended.why refl) last
 
 pub returns-in-Ended-clause-out_sure : goal.returns-in-Ended-clause-out_sure

@@ -19,7 +19,8 @@ invariant-loop-n g l = record {
   sure : (g.S.Source.seen l.fn.input).assured ≡ true → (g.S.Source.seen l.input).assured ≡ true;
   quiet : g.T.Verb.quiet l.fn.verb → g.T.Verb.quiet l.verb;
   going : (told : List ℕ) → (g.S.Source.seen l.fn.input).told ≡ Some told
-      → Going (g.T.Verb.course l.fn.verb) told (g.S.Source.seen l.input).told (g.N.Entropy.seen l.fn.entropy) (g.N.Entropy.seen l.entropy) (g.O.Sink.seen l.fn.out) (g.O.Sink.seen l.out) l.number l.taken;
+      → Going (g.T.Verb.course l.fn.verb) told (g.S.Source.seen l.input).told (g.N.Entropy.seen l.fn.entropy)
+      (g.N.Entropy.seen l.entropy) (g.O.Sink.seen l.fn.out) (g.O.Sink.seen l.out) l.number l.taken;
 }
 
 abbrev pub decreases-loop-n : goal.decreases-loop-n

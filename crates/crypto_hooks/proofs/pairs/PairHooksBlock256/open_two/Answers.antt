@@ -14,9 +14,11 @@ unseal_two-requires g c =
 pub returns-clause-first : goal.returns-clause-first
 returns-clause-first g c =
     (c.requires.2.given _ _ _ _ c.words-words.ensures.schedule
-    (block_from c.args.first (search rules) (search rules)) (block_from c.args.second (search rules) (search rules)) c.unseal_two.ensures).0
+    (block_from c.args.first (search rules) (search rules))
+    (block_from c.args.second (search rules) (search rules)) c.unseal_two.ensures).0
 
 pub returns-clause-second : goal.returns-clause-second
 returns-clause-second g c =
     (c.requires.2.given _ _ _ _ c.words-words.ensures.schedule
-    (block_from c.args.first (search rules) (search rules)) (block_from c.args.second (search rules) (search rules)) c.unseal_two.ensures).1
+    (block_from c.args.first (search rules) (search rules))
+    (block_from c.args.second (search rules) (search rules)) c.unseal_two.ensures).1
