@@ -3,6 +3,7 @@
 
 ghost use Rattle.std.specs.Prelude.{◌≡◌, ◌==◌};
 ghost use Rattle.std.specs.List.{list_any};
+ghost use Rattle.encrypt_schema.specs.Language.Policies.{are_types_of, is_same_policy};
 
 use bson_tree::Bytes;
 use std::marker::Model;
@@ -51,6 +52,13 @@ impl TypeSet {
     {
         self.types.as_slice().iter().any(|t| *t == tag)
     }
+
+    /// Whether each type of the set is one of the other's.
+    pub fn is_subset(&self, other: &TypeSet) -> bool
+        ensures subset { result ≡ are_types_of self.now other.now }
+    {
+        self.types.as_slice().iter().all(|tag| other.has(*tag))
+    }
 }
 
 /// The rule of a field.
@@ -62,4 +70,17 @@ pub struct Policy {
     pub key: KeyRef,
     /// The types that they may have.
     pub types: TypeSet,
+}
+
+impl Policy {
+    /// Whether the two say the same: one algorithm, one key, and the same types, in whatever order.
+    #[tactic(auto, unfolding(crate::specs::Language::Policies::is_same_policy))]
+    pub fn is_same(&self, other: &Policy) -> bool
+        ensures same { result ≡ is_same_policy self.now other.now }
+    {
+        self.algorithm == other.algorithm
+            && self.key == other.key
+            && self.types.is_subset(&other.types)
+            && other.types.is_subset(&self.types)
+    }
 }
