@@ -1,1 +1,1 @@
-pub mod Covered
+pub mod UpdatePlaces

@@ -1,16 +1,25 @@
-//! The rules of stored documents: which of their values are protected, and why one is refused.
+//! The rules of stored documents and of updates: which of their values are protected, and why one is refused.
 //!
 //! ```rust
 //! let mut marks = Marks::new(alloc);
 //! mark_document(&mut marks, rows, rows.root(), &document)?;
+//! mark_update(&mut marks, rows, &update)?;
 //! ```
 //!
-//! `step_document` and `offence_document` judge one element; a crate above that judges whole commands takes
-//! them into its own table. It doesn't look at filters, and not yet at updates with operators.
+//! `UpdatePlace::judge` judges one element; a crate above that judges whole commands nests `UpdatePlace` in its
+//! own places, and finds the place of an update with `update_place`. It doesn't look at filters.
 #![tactic(auto)]
 
-pub use documents::{mark_document, offence_document, step_document};
+pub use marking::{mark_document, mark_update, update_place};
+pub use place::UpdatePlace;
 
+mod arguments;
 mod documents;
+mod marking;
+mod operators;
+mod paths;
+mod place;
+mod renames;
+mod sets;
 #[cfg(test)]
 mod tests;
