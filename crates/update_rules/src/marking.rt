@@ -59,6 +59,9 @@ pub fn update_place(rows: &Rows, update: &RawDoc<'_>) -> UpdatePlace
 /// Appends the marks of an update in reading order, or tells the first value that is refused. Offsets count from
 /// where those of the update do. With `Refused` and `Memory` too the marks begin with those that were there
 /// before.
+///
+/// An update without rules isn't judged, so the caller passes it by: what is no operator beside an operator is
+/// refused here whatever the rules.
 pub fn mark_update(marks: &mut Marks, rows: &Rows, update: &RawDoc<'_>) -> Result<(), MarkFault>
     ensures marked { MarksPlaces rows.now
         (visits rows.now (update_of (names_of update.now.tree)) (update.now.start + 4) [] update.now.tree) marks.old marks.new result }
