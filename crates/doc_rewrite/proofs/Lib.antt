@@ -4,3 +4,4 @@ pub mod Drawings
 pub mod Growth
 pub mod Runs
 pub mod Policies
+pub mod Stands

@@ -14,6 +14,7 @@
 #![tactic(auto)]
 
 mod key_table;
+pub mod laws;
 mod placing;
 mod planning;
 mod sealing;
