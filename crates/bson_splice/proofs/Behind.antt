@@ -28,11 +28,15 @@ first_behind k n (p ∷ ps) h b = omega (arith, h, b)
 mutual
   pub behind_in : {at : ℕ} {t : Tree} {ps rest : List Put} → TakesIn at t ps rest → (n : ℕ) → n < at
       → AreBehind (at + length (value_bytes t)) rest → AreBehind n ps
-  behind_in (own at t p ps s e) n h b = (omega (arith, s, h), earlier n (at + length (value_bytes t)) ps (omega (arith, h)) b)
+  behind_in (own at t p ps s e) n h b = (
+    omega (arith, s, h),
+    earlier n (at + length (value_bytes t)) ps (omega (arith, h)) b,
+  )
   behind_in (raw at tag bytes ps) n h b = earlier n (at + length bytes) ps (omega (arith, h)) b
   behind_in (inside at tag is ps rest d) n h b =
       earlier n (at + 4) ps (omega (arith, h))
-      (behind d (earlier (at + 4 + length (items_bytes is)) (at + length (framed (items_bytes is))) rest (omega (arith, framed_size (items_bytes is))) b))
+      (behind d (earlier (at + 4 + length (items_bytes is)) (at + length (framed (items_bytes is))) rest
+      (omega (arith, framed_size (items_bytes is))) b))
 
   -- where those that are left begin behind the elements, all begin behind the elements' first byte
   pub behind : {at : ℕ} {is : Items} {ps rest : List Put} → Takes at is ps rest
@@ -40,7 +44,8 @@ mutual
   behind (done at ps) b = earlier at (at + 0) ps (omega arith) b
   behind (next at name t is ps mid rest d ds) b =
       behind_in d at (omega arith)
-      (behind ds (earlier (at + (2 + length name) + length (value_bytes t) + length (items_bytes is)) (at + length (items_bytes (item name t is))) rest (omega (arith, element_size name t is)) b))
+      (behind ds (earlier (at + (2 + length name) + length (value_bytes t) + length (items_bytes is))
+      (at + length (items_bytes (item name t is))) rest (omega (arith, element_size name t is)) b))
 
 mutual
   pub untouched_in : {at : ℕ} {t : Tree} {ps rest : List Put} → TakesIn at t ps rest
@@ -48,15 +53,20 @@ mutual
   untouched_in (own at t p ps s e) b = absurd (omega (arith, s, b))
   untouched_in (raw at tag bytes ps) b = refl
   untouched_in (inside at tag is ps rest d) b =
-      untouched d (first_behind (at + 4 + length (items_bytes is)) (at + length (framed (items_bytes is))) ps (omega (arith, framed_size (items_bytes is))) b)
+      untouched d (first_behind (at + 4 + length (items_bytes is)) (at + length (framed (items_bytes is))) ps
+      (omega (arith, framed_size (items_bytes is))) b)
 
   -- elements that end before the first one take none
   pub untouched : {at : ℕ} {is : Items} {ps rest : List Put} → Takes at is ps rest
       → IsNextBehind (at + length (items_bytes is)) ps → ps ≡ rest
   untouched (done at ps) b = refl
   untouched (next at name t is ps mid rest d ds) b =
-      let first : ps ≡ mid = untouched_in d (first_behind (at + (2 + length name) + length (value_bytes t)) (at + length (items_bytes (item name t is))) ps (omega (arith, element_size name t is)) b) in
-      let end : at + length (items_bytes (item name t is)) ≡ at + (2 + length name) + length (value_bytes t) + length (items_bytes is) = omega (arith, element_size name t is) in
+      let first : ps ≡ mid = untouched_in d (first_behind (at + (2 + length name) + length (value_bytes t))
+      (at + length (items_bytes (item name t is))) ps (omega (arith, element_size name t is)) b) in
+      let end : at + length (items_bytes (item name t is))
+      ≡ at + (2 + length name) + length (value_bytes t) + length (items_bytes is) =
+      omega (arith, element_size name t is) in
       let others : IsNextBehind (at + (2 + length name) + length (value_bytes t) + length (items_bytes is)) mid =
-      subst (λ (n : ℕ). IsNextBehind n mid) end (subst (λ (ns : List Put). IsNextBehind (at + length (items_bytes (item name t is))) ns) first b) in
+      subst (λ (n : ℕ). IsNextBehind n mid) end (subst
+      (λ (ns : List Put). IsNextBehind (at + length (items_bytes (item name t is))) ns) first b) in
       first ∙ untouched ds others

@@ -8,14 +8,17 @@ use Rattle.bson_splice.specs.Splices.{Put, left_in, left, spliced_in, spliced}
 
 -- what is left is the next element and the others
 pub left_parts : (here rest : At) (e : Elem) (ps : List Put) → TakesElement here (Some e) rest
-    → (spliced here.start ps here.tree ≡ item e.name (spliced_in e.start ps e.tree) (spliced rest.start (left_in e.start ps e.tree) rest.tree))
+    → (spliced here.start ps here.tree ≡ item e.name (spliced_in e.start ps e.tree)
+    (spliced rest.start (left_in e.start ps e.tree) rest.tree))
     × (left here.start ps here.tree ≡ left rest.start (left_in e.start ps e.tree) rest.tree)
 left_parts here rest e ps taken =
     let p : here.start + (2 + length e.name) ≡ e.start = sym taken.1 in
     let q : e.start + length (value_bytes e.tree) ≡ rest.start = sym taken.2 in (
       ap (spliced here.start ps) taken.0
-          ∙ ap (λ (n : ℕ). item e.name (spliced_in n ps e.tree) (spliced (n + length (value_bytes e.tree)) (left_in n ps e.tree) rest.tree)) p
-          ∙ ap (λ (n : ℕ). item e.name (spliced_in e.start ps e.tree) (spliced n (left_in e.start ps e.tree) rest.tree)) q,
+          ∙ ap (λ (n : ℕ). item e.name (spliced_in n ps e.tree)
+          (spliced (n + length (value_bytes e.tree)) (left_in n ps e.tree) rest.tree)) p
+          ∙ ap (λ (n : ℕ). item e.name (spliced_in e.start ps e.tree) (spliced n (left_in e.start ps e.tree) rest.tree))
+          q,
       ap (left here.start ps) taken.0
           ∙ ap (λ (n : ℕ). left (n + length (value_bytes e.tree)) (left_in n ps e.tree) rest.tree) p
           ∙ ap (λ (n : ℕ). left n (left_in e.start ps e.tree) rest.tree) q,

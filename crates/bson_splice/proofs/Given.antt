@@ -1,5 +1,6 @@
 -- Values given by offsets, and how long they make a document.
-use Rattle.std.proofs.Common.{◌≡◌, ◌∙◌, ℕ, ◌+◌, ◌-◌, ◌≤◌, List, [], ◌∷◌, ◌++◌, length, take, refl, sym, ap, subst, arith, append_assoc, ◌<◌}
+use Rattle.std.proofs.Common.{◌≡◌, ◌∙◌, ℕ, ◌+◌, ◌-◌, ◌≤◌, List, [], ◌∷◌, ◌++◌, length, take, refl, sym, ap, subst}
+use Rattle.std.proofs.Common.{arith, append_assoc, ◌<◌}
 use Rattle.std.proofs.lemmas.List.{append-nil}
 use Rattle.std.proofs.Math.Seq.{take-length}
 use Rattle.bson_tree.specs.Tree.{Items, leaf, item, no_items}
@@ -21,14 +22,31 @@ fit (v ∷ vs) = (record { start = refl; end = refl; size = λ t. omega arith },
 
 trades : (vs : List NewValue) → Trades (puts_of vs) (removed vs) (given vs)
 trades [] = (refl, refl)
-trades (v ∷ vs) = (v.end - v.start, length v.bytes.now, removed vs, given vs, refl, refl, λ t e. omega (arith, e), trades vs)
+trades (v ∷ vs) = (
+  v.end - v.start,
+  length v.bytes.now,
+  removed vs,
+  given vs,
+  refl,
+  refl,
+  λ t e. omega (arith, e),
+  trades vs,
+)
 
 caps : (vs : List NewValue) (ps : List Put) → AreFits (spans_of vs) ps → Caps ps (removed vs) (given vs)
 caps [] [] f = (refl, refl)
 caps [] (p ∷ ps) f = absurd f
 caps (v ∷ vs) [] f = absurd f
-caps (v ∷ vs) (p ∷ ps) f =
-    (v.end - v.start, length v.bytes.now, removed vs, given vs, refl, refl, λ t e. omega (arith, e, f.0.start, f.0.end, f.0.size t), caps vs ps f.1)
+caps (v ∷ vs) (p ∷ ps) f = (
+  v.end - v.start,
+  length v.bytes.now,
+  removed vs,
+  given vs,
+  refl,
+  refl,
+  λ t e. omega (arith, e, f.0.start, f.0.end, f.0.size t),
+  caps vs ps f.1,
+)
 
 -- empty values in the same places
 abbrev empty : NewValue → Put
@@ -57,7 +75,8 @@ module _ (vs : List NewValue) (d : At) (taken : Takes (d.start + 4) d.tree (puts
       let js = spliced (d.start + 4) (puts_of vs) d.tree in
       let k : i.0 ≡ 0 = i.2.0 in
       let l : i.1 ≡ 0 = i.2.1 in
-      let made : length (doc_bytes js) ≡ length (doc_bytes (replaced (puts_of vs) d)) = ap (λ (is : Items). length (doc_bytes is)) s.made in
+      let made : length (doc_bytes js) ≡ length (doc_bytes (replaced (puts_of vs) d)) =
+      ap (λ (is : Items). length (doc_bytes is)) s.made in
       omega (arith, i.3, k, l, made, framed_size (items_bytes js), framed_size (items_bytes d.tree))
 
   pub removed_less : removed vs ≤ length (doc_bytes d.tree)
@@ -75,7 +94,8 @@ module _ (vs : List NewValue) (d : At) (taken : Takes (d.start + 4) d.tree (puts
       let js = spliced (d.start + 4) ps d.tree in
       let k : i.0 ≡ 0 = i.2.0 in
       let l : i.1 ≡ 0 = i.2.1 in
-      let made : length (doc_bytes js) ≡ length (doc_bytes (replaced ps d)) = ap (λ (is : Items). length (doc_bytes is)) s.made in
+      let made : length (doc_bytes js) ≡ length (doc_bytes (replaced ps d)) =
+      ap (λ (is : Items). length (doc_bytes is)) s.made in
       omega (arith, i.3, k, l, made, size_is, framed_size (items_bytes js), framed_size (items_bytes d.tree))
 
 no_values : (vs : List NewValue) → spans_of vs ≡ [] → puts_of vs ≡ []
@@ -84,7 +104,8 @@ no_values (v ∷ vs) e = absurd cc
 
 module _ {S : Type 0} (left : S → List NewValue) where
   -- all were put in, in their order
-  pub all_put : (a b : S) (ps : List Put) → Runs (λ x y p. PutsNext (left x) (left y) p) a b ps → spans_of (left b) ≡ [] → ps ≡ puts_of (left a)
+  pub all_put : (a b : S) (ps : List Put) → Runs (λ x y p. PutsNext (left x) (left y) p) a b ps → spans_of (left b) ≡ []
+      → ps ≡ puts_of (left a)
   all_put a b [] same none = sym (no_values (left a) (subst (λ (s : S). spans_of (left s) ≡ []) (sym same) none))
   all_put a b (p ∷ ps) runs none =
       let one = runs.1 in
@@ -97,7 +118,8 @@ module _ {S : Type 0} (left : S → List NewValue) where
 pub one_value : (front name : List ℕ) (tag : ℕ) (bytes now : List ℕ) → now ≡ front ++ (tag ∷ (name ++ 0 ∷ []))
     → now ++ bytes ≡ front ++ items_bytes (item name (leaf tag bytes) no_items)
 one_value front name tag bytes now e =
-    let one : (front ++ (tag ∷ (name ++ 0 ∷ []))) ++ bytes ≡ front ++ items_bytes (item name (leaf tag bytes) no_items) = simp (append_assoc, append-nil) in
+    let one : (front ++ (tag ∷ (name ++ 0 ∷ []))) ++ bytes
+    ≡ front ++ items_bytes (item name (leaf tag bytes) no_items) = simp (append_assoc, append-nil) in
     ap (λ (x : List ℕ). x ++ bytes) e ∙ one
 
 -- the length from the sums
@@ -115,9 +137,11 @@ pub whole_is : (vs : List NewValue) (d : At) (ps : List Put) (end : ℕ) (new : 
     → length new ≡ length (doc_bytes (replaced (puts_of vs) d))
     → new ≡ doc_bytes (replaced (puts_of vs) d)
 whole_is vs d ps end new all written size long =
-    let same : length (doc_bytes (replaced ps d)) ≡ length (doc_bytes (replaced (puts_of vs) d)) = ap (λ (qs : List Put). length (doc_bytes (replaced qs d))) all in
+    let same : length (doc_bytes (replaced ps d)) ≡ length (doc_bytes (replaced (puts_of vs) d)) =
+    ap (λ (qs : List Put). length (doc_bytes (replaced qs d))) all in
     let here : length new ≡ end = long ∙ sym (size ∙ same) in
-    sym (take-length new) ∙ ap (λ (n : ℕ). take n new) here ∙ written ∙ ap (λ (qs : List Put). doc_bytes (replaced qs d)) all
+    sym (take-length new) ∙ ap (λ (n : ℕ). take n new) here ∙ written
+    ∙ ap (λ (qs : List Put). doc_bytes (replaced qs d)) all
 
 -- the length against a limit
 pub over : (limit n m : ℕ) → n ≡ m → limit < n → limit < m

@@ -1,12 +1,14 @@
 -- A document that is spliced element by element.
-use Rattle.std.proofs.Common.{◌≡◌, ◌∙◌, ℕ, ◌+◌, ◌≤◌, Some, List, [], ◌++◌, length, take, arith, refl, sym, ap, subst, length-append, append_assoc, length-take-le}
+use Rattle.std.proofs.Common.{◌≡◌, ◌∙◌, ℕ, ◌+◌, ◌≤◌, Some, List, [], ◌++◌, length, take, arith, refl, sym, ap, subst}
+use Rattle.std.proofs.Common.{length-append, append_assoc, length-take-le}
 use Rattle.std.proofs.lemmas.List.{append-nil}
 use Rattle.bson_tree.specs.Tree.{Items, no_items}
 use Rattle.bson_tree.specs.Spelling.{items_bytes}
 use Rattle.bson_codec.specs.Borrowed.{At, Elem}
 use Rattle.bson_codec.specs.Elements.{TakesElement}
 use Rattle.bson_splice.specs.Spans.{Span, AreFits, Runs}
-use Rattle.bson_splice.specs.Splicing.{HasRoom, Splices, Stops, element_made, element_left, elements_made, elements_left}
+use Rattle.bson_splice.specs.Splicing.{HasRoom, Splices, Stops, element_made, element_left, elements_made}
+use Rattle.bson_splice.specs.Splicing.{elements_left}
 use Rattle.bson_splice.specs.Splices.{Put, left_in, left, spliced_in, spliced}
 use Rattle.bson_splice.proofs.Elements.{left_parts}
 use Rattle.bson_splice.proofs.Fitting.{runs_then}
@@ -25,7 +27,8 @@ pub record Going {S : Type 0} (step : S → S → Put → Type 0) (spans : S →
       → elements_left here.start here.tree rest
       ≡ elements_left (all.start + 4) all.tree (puts ++ rest)
 
-module _ {S : Type 0} (step : S → S → Put → Type 0) (spans : S → List Span) (all : At) (before : S) (old : List ℕ) (at : ℕ) where
+module _ {S : Type 0} (step : S → S → Put → Type 0) (spans : S
+    → List Span) (all : At) (before : S) (old : List ℕ) (at : ℕ) where
   -- before the first element
   pub starts : (here : At) → here ≡ record { tree = all.tree; start = all.start + 4 }
       → Going step spans all here before before old old at at
@@ -46,20 +49,26 @@ module _ {S : Type 0} (step : S → S → Put → Type 0) (spans : S → List Sp
   goes_on here rest e mid after now new end behind taken going s = record {
     puts = going.puts ++ s.puts;
     runs = runs_then step before mid after going.puts s.puts going.runs s.runs;
-    fits = λ qs f. subst (AreFits (spans before)) (sym (append_assoc going.puts s.puts qs)) (going.fits (s.puts ++ qs) (s.fits qs f));
+    fits = λ qs f. subst (AreFits (spans before)) (sym (append_assoc going.puts s.puts qs))
+        (going.fits (s.puts ++ qs) (s.fits qs f));
     written = λ qs f.
         let ps = s.puts ++ qs in
         let t = spliced_in e.start ps e.tree in
-        let a : elements_made rest.start rest.tree qs ≡ items_bytes (spliced rest.start (left_in e.start ps e.tree) rest.tree) =
+        let a : elements_made rest.start rest.tree qs
+        ≡ items_bytes (spliced rest.start (left_in e.start ps e.tree) rest.tree) =
         ap (λ (rs : List Put). items_bytes (spliced rest.start rs rest.tree)) (sym (s.left qs f)) in
-        let b : elements_made here.start here.tree ps ≡ element_made e ps ++ items_bytes (spliced rest.start (left_in e.start ps e.tree) rest.tree) =
-        ap items_bytes (left_parts here rest e ps taken).0 ∙ one_item e.name t (spliced rest.start (left_in e.start ps e.tree) rest.tree) in
-        let c : take behind new ++ elements_made rest.start rest.tree qs ≡ take end now ++ elements_made here.start here.tree ps =
+        let b : elements_made here.start here.tree ps
+        ≡ element_made e ps ++ items_bytes (spliced rest.start (left_in e.start ps e.tree) rest.tree) =
+        ap items_bytes (left_parts here rest e ps taken).0
+        ∙ one_item e.name t (spliced rest.start (left_in e.start ps e.tree) rest.tree) in
+        let c : take behind new ++ elements_made rest.start rest.tree qs
+        ≡ take end now ++ elements_made here.start here.tree ps =
         ap (λ (x : List ℕ). x ++ elements_made rest.start rest.tree qs) (s.written qs f)
         ∙ append_assoc (take end now) (element_made e ps) (elements_made rest.start rest.tree qs)
         ∙ ap (λ (x : List ℕ). take end now ++ x) (ap (λ (x : List ℕ). element_made e ps ++ x) a ∙ sym b) in
         c ∙ going.written ps (s.fits qs f)
-        ∙ ap (λ (x : List Put). take at old ++ elements_made (all.start + 4) all.tree x) (sym (append_assoc going.puts s.puts qs));
+        ∙ ap (λ (x : List Put). take at old ++ elements_made (all.start + 4) all.tree x)
+        (sym (append_assoc going.puts s.puts qs));
     left = λ qs f.
         let ps = s.puts ++ qs in
         ap (λ (rs : List Put). left rest.start rs rest.tree) (sym (s.left qs f))
@@ -71,7 +80,8 @@ module _ {S : Type 0} (step : S → S → Put → Type 0) (spans : S → List Sp
   -- no element is left
   pub ends : (here : At) (after : S) (new : List ℕ) (end : ℕ) → here.tree ≡ no_items
       → Going step spans all here before after old new at end
-      → Splices step spans (elements_made (all.start + 4) all.tree) (elements_left (all.start + 4) all.tree) before after old new at end
+      → Splices step spans (elements_made (all.start + 4) all.tree)
+      (elements_left (all.start + 4) all.tree) before after old new at end
   ends here after new end none going = record {
     puts = going.puts;
     runs = going.runs;
@@ -107,8 +117,10 @@ module _ {S : Type 0} (step : S → S → Put → Type 0) (spans : S → List Sp
       let is = spliced rest.start (left_in e.start ps e.tree) rest.tree in
       let parts : elements_made here.start here.tree ps ≡ element_made e ps ++ items_bytes is
       = ap items_bytes (left_parts here rest e ps taken).0 ∙ one_item e.name t is in
-      let long : length (take end new) + length (elements_made here.start here.tree ps) ≡ length (take at old) + length (elements_made (all.start + 4) all.tree whole)
-      = sym (length-append (take end new) (elements_made here.start here.tree ps)) ∙ ap length (going.written ps f) ∙ length-append (take at old) (elements_made (all.start + 4) all.tree whole) in
+      let long : length (take end new) + length (elements_made here.start here.tree ps)
+      ≡ length (take at old) + length (elements_made (all.start + 4) all.tree whole)
+      = sym (length-append (take end new) (elements_made here.start here.tree ps)) ∙ ap length (going.written ps f)
+      ∙ length-append (take at old) (elements_made (all.start + 4) all.tree whole) in
       let size : length (elements_made here.start here.tree ps) ≡ length (element_made e ps) + length (items_bytes is)
       = ap length parts ∙ length-append (element_made e ps) (items_bytes is) in
       let fits = room whole (going.fits ps f) in

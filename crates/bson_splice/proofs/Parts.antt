@@ -1,5 +1,6 @@
 -- Bytes put over others in a buffer.
-use Rattle.std.proofs.Common.{◌≡◌, ◌∙◌, ℕ, ◌≤◌, List, ◌++◌, length, take, drop, sym, ap, append_assoc, arith, length-append, length-take-le}
+use Rattle.std.proofs.Common.{◌≡◌, ◌∙◌, ℕ, ◌≤◌, List, ◌++◌, length, take, drop, sym, ap, append_assoc, arith}
+use Rattle.std.proofs.Common.{length-append, length-take-le}
 use Rattle.std.proofs.lemmas.List.{take_at, drop_at, take-append-drop}
 
 -- four bytes of the first n are put over
@@ -9,12 +10,27 @@ pub patched : (a n : ℕ) (xs ys front four elements : List ℕ) → length fron
 patched a n xs ys front four elements here four4 ys4 old inside =
     let rest : List ℕ = drop n xs in
     let whole : xs ≡ front ++ (four ++ (elements ++ rest)) =
-    sym (take-append-drop n xs) ∙ ap (λ (x : List ℕ). x ++ rest) old ∙ append_assoc (front ++ four) elements rest ∙ append_assoc front four (elements ++ rest) in
+    sym (take-append-drop n xs) ∙ ap (λ (x : List ℕ). x ++ rest) old ∙ append_assoc (front ++ four) elements rest
+    ∙ append_assoc front four (elements ++ rest) in
     let before : take a xs ≡ front = ap (take a) whole ∙ take_at front (four ++ (elements ++ rest)) a here in
     let behind : drop 4 (drop a xs) ≡ elements ++ rest =
-    ap (drop 4) (ap (drop a) whole ∙ drop_at front (four ++ (elements ++ rest)) a here) ∙ drop_at four (elements ++ rest) 4 four4 in
+    ap (drop 4) (ap (drop a) whole ∙ drop_at front (four ++ (elements ++ rest)) a here)
+    ∙ drop_at four (elements ++ rest) 4 four4 in
     let joined : front ++ (ys ++ (elements ++ rest)) ≡ (front ++ (ys ++ elements)) ++ rest =
-    ap (λ (x : List ℕ). front ++ x) (sym (append_assoc ys elements rest)) ∙ sym (append_assoc front (ys ++ elements) rest) in
+    ap (λ (x : List ℕ). front ++ x) (sym (append_assoc ys elements rest))
+    ∙ sym (append_assoc front (ys ++ elements) rest) in
     let size : length (front ++ (ys ++ elements)) ≡ n =
-    omega (arith, length-append front (ys ++ elements), length-append ys elements, ap length old, length-append (front ++ four) elements, length-append front four, length-take-le n xs inside, here, four4, ys4) in
+    omega (
+      arith,
+      length-append front (ys ++ elements),
+      length-append ys elements,
+      ap length old,
+      length-append (front ++ four) elements,
+      length-append front four,
+      length-take-le n xs inside,
+      here,
+      four4,
+      ys4,
+    )
+    in
     rw (before, behind) (ap (take n) joined ∙ take_at (front ++ (ys ++ elements)) rest n size)

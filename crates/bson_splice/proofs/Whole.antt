@@ -1,5 +1,6 @@
 -- A document that is spliced whole.
-use Rattle.std.proofs.Common.{◌≡◌, ◌∙◌, ℕ, ◌≤◌, List, [], ◌∷◌, ◌++◌, length, take, arith, refl, sym, ap, subst, length-take-le}
+use Rattle.std.proofs.Common.{◌≡◌, ◌∙◌, ℕ, ◌≤◌, List, [], ◌∷◌, ◌++◌, length, take, arith, refl, sym, ap, subst}
+use Rattle.std.proofs.Common.{length-take-le}
 use Rattle.std.proofs.lemmas.List.{append-nil}
 use Rattle.bson_tree.specs.Spelling.{doc_bytes}
 use Rattle.bson_codec.specs.Borrowed.{At}
@@ -11,10 +12,12 @@ use Rattle.bson_splice.proofs.Fitting.{blanks, blanks_fit}
 use Rattle.bson_splice.proofs.Splices.{spliced_items}
 
 -- what is put in by the walk is what is put in by offsets
-pub made_is : (ss : List Span) (d : At) (ps : List Put) → StandsAt ss d → AreFits ss ps → document_made d ps ≡ doc_bytes (replaced ps d)
+pub made_is : (ss : List Span) (d : At) (ps : List Put) → StandsAt ss d → AreFits ss ps
+    → document_made d ps ≡ doc_bytes (replaced ps d)
 made_is ss d ps stands f = ap doc_bytes (spliced_items (stands ps f) tt).made
 
-pub room_whole : (ss : List Span) (d : At) (size : ℕ) → StandsAt ss d → HasRoomFor ss d size → HasRoom ss (document_made d) 0 size
+pub room_whole : (ss : List Span) (d : At) (size : ℕ) → StandsAt ss d → HasRoomFor ss d size
+    → HasRoom ss (document_made d) 0 size
 room_whole ss d size stands room ps f = omega (arith, room ps f, ap length (made_is ss d ps stands f))
 
 no_blanks : (ss : List Span) → blanks ss ≡ [] → ss ≡ []

@@ -67,7 +67,8 @@ pub record Stops {S : Type 0} (step : S → S → Put → Type 0) (stops : S →
 
 abbrev pub TellsSplices : {S : Type 0} → (S → S → Put → Type 0) → (S → S → Type 0) → (S → List Span)
     → (List Put → List ℕ) → (List Put → List Put) → S → S → List ℕ → List ℕ → ℕ → Result ℕ Stopped → Type 0
-TellsSplices step stops spans made rests before after old new at (Ok end) = Splices step spans made rests before after old new at end
+TellsSplices step stops spans made rests before after old new at (Ok end) =
+    Splices step spans made rests before after old new at end
 TellsSplices step stops spans made rests before after old new at (Err _) = Stops step stops before after
 
 -- where what was put ends

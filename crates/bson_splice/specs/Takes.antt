@@ -7,9 +7,11 @@ use Rattle.bson_splice.specs.Splices.{Put}
 mutual
   -- a value that begins at `at` takes from the front of a list: its own, or those inside it; the others are left
   pub data TakesIn : ℕ → Tree → List Put → List Put → Type 0 where
-    own : (at : ℕ) (t : Tree) (p : Put) (ps : List Put) → p.start ≡ at → p.end ≡ at + length (value_bytes t) → TakesIn at t (p ∷ ps) ps
+    own : (at : ℕ) (t : Tree) (p : Put) (ps : List Put) → p.start ≡ at → p.end ≡ at + length (value_bytes t)
+        → TakesIn at t (p ∷ ps) ps
     raw : (at tag : ℕ) (bytes : List ℕ) (ps : List Put) → TakesIn at (leaf tag bytes) ps ps
-    inside : (at tag : ℕ) (is : Items) (ps rest : List Put) → Takes (at + 4) is ps rest → TakesIn at (node tag is) ps rest
+    inside : (at tag : ℕ) (is : Items) (ps rest : List Put) → Takes (at + 4) is ps rest
+        → TakesIn at (node tag is) ps rest
 
   -- and so do elements that begin at `at`
   pub data Takes : ℕ → Items → List Put → List Put → Type 0 where
@@ -26,7 +28,8 @@ Trades (p ∷ ps) m n =
     (a b k l : ℕ)
     × (m ≡ a + k)
     × (n ≡ b + l)
-    × ((t : Tree) → p.end ≡ p.start + length (value_bytes t) → length (value_bytes (p.value t)) + a ≡ length (value_bytes t) + b)
+    × ((t : Tree) → p.end ≡ p.start + length (value_bytes t)
+    → length (value_bytes (p.value t)) + a ≡ length (value_bytes t) + b)
     × Trades ps k l
 
 -- the places that are taken have m bytes, and what takes them has at most n
@@ -36,5 +39,6 @@ Caps (p ∷ ps) m n =
     (a b k l : ℕ)
     × (m ≡ a + k)
     × (n ≡ b + l)
-    × ((t : Tree) → p.end ≡ p.start + length (value_bytes t) → length (value_bytes (p.value t)) + a ≤ length (value_bytes t) + b)
+    × ((t : Tree) → p.end ≡ p.start + length (value_bytes t)
+    → length (value_bytes (p.value t)) + a ≤ length (value_bytes t) + b)
     × Caps ps k l

@@ -9,6 +9,7 @@ ghost use Rattle.bson_tree.specs.Tree.{Items, Tree};
 /// offset 0.
 pub fn by_place()
     ensures place { (g : ℕ → Tree → Option Tree) (f : List ℕ → Option Tree) (is : Items)
-        → ((place : List ℕ) → f place ≡ option_and_then (λ q. option_and_then (g q) (value_at place is)) (start_of place is))
+        → ((place : List ℕ) → f place ≡ option_and_then (λ q. option_and_then (g q) (value_at place is))
+        (start_of place is))
         → filled f is ≡ fill_items g 4 is }
 {}

@@ -2,7 +2,8 @@
 
 ghost use Rattle.std.specs.Prelude.{◌≡◌, ◌+◌, ◌<◌, ◌≤◌, ◌^◌, length};
 ghost use Rattle.bson_splice.specs.Whole.{HasRoomFor, StandsAt, TellsWhole};
-ghost use Rattle.bson_splice.specs.Splicing.{EndsWithin, HasRoom, TellsSplices, document_left, document_made, element_left, element_made, elements_left, elements_made};
+ghost use Rattle.bson_splice.specs.Splicing.{EndsWithin, HasRoom, TellsSplices, document_left, document_made};
+ghost use Rattle.bson_splice.specs.Splicing.{element_left, element_made, elements_left, elements_made};
 
 use crate::putter::{Putter, Stopped};
 use crate::step::{Step, step_of};
@@ -22,7 +23,8 @@ fn splice_item<P: Putter>(
     requires room { HasRoom (P.spans putter.old) (element_made item.now) at (length out.old) }
     ensures ready { P.ready putter.new }
     ensures size { length out.new ≡ length out.old }
-    ensures spliced { TellsSplices P.puts P.stops P.spans (element_made item.now) (element_left item.now) putter.old putter.new out.old out.new at result }
+    ensures spliced { TellsSplices P.puts P.stops P.spans (element_made item.now)
+        (element_left item.now) putter.old putter.new out.old out.new at result }
     ensures within { EndsWithin (length out.new) result }
 {
     match step_of(putter, item) {
@@ -57,7 +59,8 @@ fn splice_document<P: Putter>(
     requires room { HasRoom (P.spans putter.old) (document_made document.now) at (length out.old) }
     ensures ready { P.ready putter.new }
     ensures size { length out.new ≡ length out.old }
-    ensures spliced { TellsSplices P.puts P.stops P.spans (document_made document.now) (document_left document.now) putter.old putter.new out.old out.new at result }
+    ensures spliced { TellsSplices P.puts P.stops P.spans (document_made document.now)
+        (document_left document.now) putter.old putter.new out.old out.new at result }
     ensures within { EndsWithin (length out.new) result }
 {
     match splice_items(document, putter, out, at + 4) {
@@ -79,10 +82,12 @@ fn splice_items<P: Putter>(
 ) -> Result<usize, Stopped>
     requires ready { P.ready putter.old }
     requires small { length out.old < 2 ^ 31 }
-    requires room { HasRoom (P.spans putter.old) (elements_made (document.now.start + 4) document.now.tree) at (length out.old) }
+    requires room { HasRoom (P.spans putter.old) (elements_made (document.now.start + 4) document.now.tree) at
+        (length out.old) }
     ensures ready { P.ready putter.new }
     ensures size { length out.new ≡ length out.old }
-    ensures spliced { TellsSplices P.puts P.stops P.spans (elements_made (document.now.start + 4) document.now.tree) (elements_left (document.now.start + 4) document.now.tree) putter.old putter.new out.old out.new at result }
+    ensures spliced { TellsSplices P.puts P.stops P.spans (elements_made (document.now.start + 4) document.now.tree)
+        (elements_left (document.now.start + 4) document.now.tree) putter.old putter.new out.old out.new at result }
     ensures within { EndsWithin (length out.new) result }
 {
     let mut end = at;

@@ -44,7 +44,8 @@ pub fn put_item(out: &mut [u8], at: usize, item: &RawItem<'_>) -> usize
     requires room { at + length (items_bytes (element item.now.name item.now.tree no_items)) ≤ length out.old }
     ensures end { result ≡ at + length (items_bytes (element item.now.name item.now.tree no_items)) }
     ensures size { length out.new ≡ length out.old }
-    ensures element { take result out.new ≡ take at out.old ++ items_bytes (element item.now.name item.now.tree no_items) }
+    ensures element { take result out.new ≡ take at out.old
+        ++ items_bytes (element item.now.name item.now.tree no_items) }
 {
     let named = put_name(out, at, item.tag(), item.name());
     put(out, named, item.value())

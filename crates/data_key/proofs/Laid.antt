@@ -1,5 +1,6 @@
 -- A key document as it is written has a spelling.
-use Rattle.std.proofs.Common.{◌≡◌, ◌∙◌, ◌^◌, ℕ, zero, suc, ◌+◌, ◌*◌, ◌<◌, ◌≤◌, Bool, true, false, ◌&&◌, List, [], ◌∷◌, ◌++◌, length, map, refl, sym, ap, subst, arith, length-append}
+use Rattle.std.proofs.Common.{◌≡◌, ◌∙◌, ◌^◌, ℕ, zero, suc, ◌+◌, ◌*◌, ◌<◌, ◌≤◌, Bool, true, false, ◌&&◌, List, [], ◌∷◌}
+use Rattle.std.proofs.Common.{◌++◌, length, map, refl, sym, ap, subst, arith, length-append}
 use Rattle.std.specs.Prelude.{codes, decimal, nat_lt, Result, Ok}
 use Rattle.std.proofs.lemmas.Fmt.{decimal_digit, decimal-digits_of}
 use Rattle.std.specs.Int.Digits.{digits_of}
@@ -11,7 +12,8 @@ use Rattle.bson_codec.specs.Reading.{document}
 use Rattle.bson_codec.specs.Table.{layout_of}
 use Rattle.bson_codec.proofs.Documents.{document_again}
 use Rattle.data_key.specs.declared.key_doc.KeyDoc.{KeyDoc}
-use Rattle.data_key.specs.Written.{text, binary, date, int, numbered, names_field, local_key, history, key_fields, size_of}
+use Rattle.data_key.specs.Written.{text, binary, date, int, numbered, names_field, local_key, history, key_fields}
+use Rattle.data_key.specs.Written.{size_of}
 use Rattle.data_key.proofs.Sizes.{framed_size, numbered_size, first_size, fields_size}
 
 -- names of digits
@@ -21,7 +23,8 @@ digits_named (d ∷ ds) = (omega arith, digits_named ds)
 
 decimal_named : (n : ℕ) → n < 2 ^ 64 → IsName (decimal n)
 decimal_named zero small = subst IsName (sym (decimal_digit 0 (omega arith))) (omega arith, tt)
-decimal_named (suc n) small = subst IsName (sym (decimal-digits_of (suc n) (omega arith) small)) (digits_named (digits_of 10 (suc n)))
+decimal_named (suc n) small = subst IsName (sym (decimal-digits_of (suc n) (omega arith) small))
+    (digits_named (digits_of 10 (suc n)))
 
 -- names that are written out
 abbrev is_name : List ℕ → Bool
@@ -38,9 +41,15 @@ text_laid : (D : Items → Type 0) (name : List ℕ) → length name ≤ 1600000
 unfolding layout_of
 text_laid D name small = record { text = name; fits = omega (arith, small); parts = refl }
 
-binary_laid : (D : Items → Type 0) (subtype : ℕ) (contents : List ℕ) → length contents ≤ 16000000 → IsValue D (binary subtype contents)
+binary_laid : (D : Items → Type 0) (subtype : ℕ) (contents : List ℕ) → length contents ≤ 16000000
+    → IsValue D (binary subtype contents)
 unfolding layout_of
-binary_laid D subtype contents small = record { subtype = subtype; contents = contents; fits = omega (arith, small); parts = refl }
+binary_laid D subtype contents small = record {
+  subtype = subtype;
+  contents = contents;
+  fits = omega (arith, small);
+  parts = refl;
+}
 
 date_laid : (D : Items → Type 0) (ms : ℕ) → IsValue D (date ms)
 unfolding layout_of
@@ -58,7 +67,8 @@ array_laid : (D : Items → Type 0) (is : Items) → D is → length (doc_bytes 
 unfolding layout_of
 array_laid D is inside fits = record { inside = inside; fits = fits }
 
-numbered_laid : (D : Items → Type 0) (i : ℕ) (names : List (List ℕ)) → i + length names ≤ 10000 → size_of names ≤ 16000000
+numbered_laid : (D : Items → Type 0) (i : ℕ) (names : List (List ℕ)) → i + length names ≤ 10000
+    → size_of names ≤ 16000000
     → AreElements D (numbered i names)
 numbered_laid D i [] few small = tt
 numbered_laid D i (name ∷ names) few small = (
@@ -75,7 +85,8 @@ names_laid levels (name ∷ names) is few small rest =
     let fits : length (doc_bytes array) < 2 ^ 31 =
     omega (arith, few, small, framed_size (items_bytes array), numbered_size 0 (name ∷ names) (omega (arith, few))) in (
       named (codes "keyAltNames") refl,
-      array_laid (IsItems (suc levels)) array (numbered_laid (IsItems levels) 0 (name ∷ names) (omega (arith, few)) small) fits,
+      array_laid (IsItems (suc levels)) array (numbered_laid (IsItems levels) 0 (name ∷ names)
+          (omega (arith, few)) small) fits,
       rest,
     )
 
@@ -100,20 +111,23 @@ history_laid levels created updated status = (
 )
 
 fields_laid : (levels : ℕ) (key : KeyDoc) (created updated status : ℕ) → length key.id ≡ 16 → length key.names ≤ 1000
-    → size_of key.names + length key.material ≤ 16000000 → IsItems (suc (suc levels)) (key_fields key created updated status)
+    → size_of key.names + length key.material ≤ 16000000
+    → IsItems (suc (suc levels)) (key_fields key created updated status)
 unfolding key_fields
 fields_laid levels key created updated status long few small = (
   named (codes "_id") refl,
   binary_laid (IsItems (suc levels)) 4 key.id (omega (arith, long)),
-  names_laid levels key.names (item (codes "keyMaterial") (binary 0 key.material) (history created updated status)) few (omega (arith, small)) (
-    named (codes "keyMaterial") refl,
-    binary_laid (IsItems (suc levels)) 0 key.material (omega (arith, small)),
-    history_laid levels created updated status,
-  ),
+  names_laid levels key.names (item (codes "keyMaterial") (binary 0 key.material) (history created updated status)) few
+      (omega (arith, small)) (
+        named (codes "keyMaterial") refl,
+        binary_laid (IsItems (suc levels)) 0 key.material (omega (arith, small)),
+        history_laid levels created updated status,
+      ),
 )
 
 -- the document that is read from the bytes
-pub document_is : (key : KeyDoc) (created updated status : ℕ) (bytes : List ℕ) → length key.id ≡ 16 → length key.names ≤ 1000
+pub document_is : (key : KeyDoc) (created updated status : ℕ) (bytes : List ℕ) → length key.id ≡ 16
+    → length key.names ≤ 1000
     → size_of key.names + length key.material ≤ 16000000 → bytes ≡ doc_bytes (key_fields key created updated status)
     → document bytes ≡ Ok (key_fields key created updated status)
 document_is key created updated status bytes long few small is =

@@ -5,7 +5,8 @@ use Rattle.std.proofs.lemmas.Fmt.{length-decimal-le}
 use Rattle.bson_tree.specs.Tree.{Tree, Items, node, no_items, item}
 use Rattle.bson_tree.specs.Spelling.{framed, value_bytes, items_bytes, doc_bytes}
 use Rattle.data_key.specs.declared.key_doc.KeyDoc.{KeyDoc}
-use Rattle.data_key.specs.Written.{text, binary, date, int, numbered, names_field, local_key, history, key_fields, size_of}
+use Rattle.data_key.specs.Written.{text, binary, date, int, numbered, names_field, local_key, history, key_fields}
+use Rattle.data_key.specs.Written.{size_of}
 
 -- a document has 5 bytes more than its elements
 pub framed_size : (elements : List ℕ) → length (framed elements) ≡ length elements + 5
@@ -15,12 +16,17 @@ framed_size elements = omega (arith, length-append elements (0 ∷ []))
 pub element_size : (name : List ℕ) (t : Tree) (is : Items)
     → length (items_bytes (item name t is)) ≡ length name + 2 + length (value_bytes t) + length (items_bytes is)
 element_size name t is =
-    omega (arith, length-append name (0 ∷ (value_bytes t ++ items_bytes is)), length-append (value_bytes t) (items_bytes is))
+    omega (
+      arith,
+      length-append name (0 ∷ (value_bytes t ++ items_bytes is)),
+      length-append (value_bytes t) (items_bytes is),
+    )
 
 pub text_size : (name : List ℕ) → length (value_bytes (text name)) ≡ length name + 5
 text_size name = omega (arith, length-append name (0 ∷ []))
 
-pub binary_size : (subtype : ℕ) (contents : List ℕ) → length (value_bytes (binary subtype contents)) ≡ length contents + 5
+pub binary_size : (subtype : ℕ) (contents : List ℕ)
+    → length (value_bytes (binary subtype contents)) ≡ length contents + 5
 binary_size subtype contents = omega arith
 
 -- an array of fewer than 10,000 strings has at most 11 bytes for each, beside the strings

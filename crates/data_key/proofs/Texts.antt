@@ -7,5 +7,6 @@ use Rattle.data_key.specs.Values.{text_in}
 pub text_is : (bytes text : List ℕ) → bytes ≡ string_bytes text → text_in bytes ≡ text
 text_is bytes text e =
     let n : length (string_bytes text) - 5 ≡ length text = omega (arith, length-append text (0 ∷ [])) in
-    let m : text_in (string_bytes text) ≡ take (length text) (text ++ 0 ∷ []) = ap (λ (k : ℕ). take k (text ++ 0 ∷ [])) n in
+    let m : text_in (string_bytes text) ≡ take (length text) (text ++ 0 ∷ []) =
+    ap (λ (k : ℕ). take k (text ++ 0 ∷ [])) n in
     ap text_in e ∙ (m ∙ take-append_seam text (0 ∷ []))

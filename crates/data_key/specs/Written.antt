@@ -8,7 +8,8 @@ use Rattle.data_key.specs.declared.key_doc.KeyDoc.{KeyDoc}
 use Rattle.data_key.specs.declared.key_doc.Provider.TheVariants as providers
 use Rattle.data_key.specs.Key.{key_in}
 
--- BSON 1.1: a string (02), a binary of a subtype (05), a date (09) by the 64 bits of its milliseconds, an int (10) by its
+-- BSON 1.1: a string (02), a binary of a subtype (05), a date (09) by the 64 bits of its milliseconds, an int (10) by
+-- its
 -- 32 bits
 abbrev pub text : List ℕ → Tree
 text name = leaf 0x02 (string_bytes name)

@@ -2,7 +2,8 @@
 
 ghost use Rattle.std.specs.Prelude.{◌≡◌, ◌++◌, ◌∷◌, [], codes, bytes_eq, option_copied, if◌then◌else◌, IfOk, OnOk};
 ghost use Rattle.data_key.specs.declared.key_doc.Provider.TheVariants as providers;
-ghost use Rattle.data_key.specs.Key.{id_in, names_in, names_of, material_in, provider_in, provider_by, provider_named, key_in, Reads};
+ghost use Rattle.data_key.specs.Key.{id_in, names_in, names_of, material_in, provider_in, provider_by, provider_named};
+ghost use Rattle.data_key.specs.Key.{key_in, Reads};
 ghost use Rattle.data_key.specs.Seen.{names_seen, some_names_seen, Says};
 ghost use Rattle.data_key.specs.Standings.{standing};
 ghost use Rattle.data_key.specs.Values.{texts};

@@ -4,7 +4,8 @@ ghost use Rattle.std.specs.Prelude.{◌≡◌, ◌+◌, ◌<◌, ◌≤◌, ◌^
 ghost use Rattle.std.specs.Int.{cast_unsigned, w32, w64};
 ghost use Rattle.bson_tree.specs.Spelling.{doc_bytes, items_bytes, value_bytes};
 ghost use Rattle.bson_tree.specs.Tree.{item, no_items};
-ghost use Rattle.data_key.specs.Written.{binary, date, history, int, IsWritable, key_fields, local_key, names_field, numbered, ReadsBack, size_of, text};
+ghost use Rattle.data_key.specs.Written.{binary, date, history, int, IsWritable, key_fields, local_key, names_field};
+ghost use Rattle.data_key.specs.Written.{numbered, ReadsBack, size_of, text};
 
 use crate::key_doc::KeyDoc;
 use crate::values::GENERIC;
@@ -24,7 +25,9 @@ pub fn write_key(
     status: i32,
 ) -> Result<Vec<u8>, Memory>
     requires { IsWritable key.now }
-    ensures written { IfOk result (λ out. out.items ≡ doc_bytes (key_fields key.now (cast_unsigned w64 created_ms) (cast_unsigned w64 updated_ms) (cast_unsigned w32 status))) }
+    ensures written { IfOk result (λ out. out.items
+        ≡ doc_bytes (key_fields key.now (cast_unsigned w64 created_ms) (cast_unsigned w64 updated_ms)
+        (cast_unsigned w32 status))) }
     ensures again { IfOk result (λ out. ReadsBack out.items key.now) }
 {
     let mut out = Vec::new(alloc);

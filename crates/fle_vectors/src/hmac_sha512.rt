@@ -92,7 +92,8 @@ pub const HMAC_SHA512_CASE_6: HmacVector = HmacVector {
 // RFC 4231, 4.8, test case 7: a key and data longer than a block.
 pub const HMAC_SHA512_CASE_7: HmacVector = HmacVector {
     key: &[0xaa; 131],
-    data: b"This is a test using a larger than block-size key and a larger than block-size data. The key needs to be hashed before being used by the HMAC algorithm.",
+    data: b"This is a test using a larger than block-size key and a larger than block-size data. The \
+        key needs to be hashed before being used by the HMAC algorithm.",
     code: &[
         0xe3, 0x7b, 0x6a, 0x77, 0x5d, 0xc8, 0x7d, 0xba, 0xa4, 0xdf, 0xa9, 0xf9, 0x6e, 0x5e, 0x3f,
         0xfd, 0xde, 0xbd, 0x71, 0xf8, 0x86, 0x72, 0x89, 0x86, 0x5d, 0xf5, 0xa3, 0x2d, 0x20, 0xcd,

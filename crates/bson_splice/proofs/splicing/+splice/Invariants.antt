@@ -18,5 +18,6 @@ invariant-splice_items-loop-item g l = record {
   long : length l.out ≡ length l.fn.out;
   ready : g.P.Putter.ready l.putter;
   inside : l.end ≤ length l.out;
-  going : Going g.P.Putter.puts g.P.Putter.spans l.document l.item-iterator l.fn.putter l.putter l.fn.out l.out l.at l.end;
+  going : Going g.P.Putter.puts g.P.Putter.spans l.document l.item-iterator l.fn.putter l.putter l.fn.out l.out l.at
+      l.end;
 }

@@ -7,5 +7,6 @@ abbrev pub invariant-loop-name : goal.invariant-loop-name
 invariant-loop-name l = record {
   number : l.i ≡ l.name-index;
   small : size_of (drop l.name-index l.names) ≤ 16000000;
-  put : l.out.items ++ items_bytes (numbered l.name-index (drop l.name-index l.names)) ≡ l.fn.out.items ++ items_bytes (numbered 0 l.names);
+  put : l.out.items ++ items_bytes (numbered l.name-index (drop l.name-index l.names))
+      ≡ l.fn.out.items ++ items_bytes (numbered 0 l.names);
 }
