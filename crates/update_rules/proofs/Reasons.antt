@@ -5,7 +5,8 @@ use Rattle.encrypt_schema.specs.declared.command.reason.Reason.{Reason}
 use Rattle.encrypt_schema.specs.declared.command.reason.Reason.TheVariants.{BadField}
 use Rattle.encrypt_schema.specs.Language.Row.{Row}
 use Rattle.encrypt_schema.specs.Paths.Dotted.{is_dollar}
-use Rattle.encrypt_schema.specs.Commands.Stations.{Entry, Operators, Sets, Argument, Passed, is_document, is_set, operator_of}
+use Rattle.encrypt_schema.specs.Commands.Stations.{Entry, Operators, Sets, Argument, Passed}
+use Rattle.encrypt_schema.specs.Commands.Stations.{is_document, is_set, operator_of}
 use Rattle.encrypt_schema.specs.Commands.Offences.{least, of_role, ruled_offence, unless}
 
 -- no argument of an operator has a role
@@ -17,7 +18,8 @@ no_role rows false false operator e = refl
 
 -- an operator is refused for its name and its type alone
 pub operator_reasons : (rows : List Row) (elder : List (List ℕ)) (e : Entry)
-    → ruled_offence rows Operators elder e ≡ least (unless (is_dollar e.name) BadField ++ unless (is_document e) BadField)
+    → ruled_offence rows Operators elder e
+    ≡ least (unless (is_dollar e.name) BadField ++ unless (is_document e) BadField)
 unfolding ruled_offence
 operator_reasons rows elder e =
     ap (λ (role : List Reason). least (role ++ (unless (is_dollar e.name) BadField ++ unless (is_document e) BadField)))

@@ -34,7 +34,8 @@ pub(crate) fn judge_protected(
 /// an array is refused.
 pub(crate) fn judge_above(at: Cursor, item: &RawItem<'_>) -> Result<Next<UpdatePlace>, Reason>
     ensures next { IfOk result (λ next. next
-        ≡ (if is_document (entry item.now.name item.now.tree) then Next.Inside (UpdatePlace.Document at) else Next.Passed)) }
+        ≡ (if is_document (entry item.now.name item.now.tree)
+        then Next.Inside (UpdatePlace.Document at) else Next.Passed)) }
     ensures clean { IfOk result (λ _. None
         ≡ least (when (is_array (entry item.now.name item.now.tree)) Reason.ArrayOnPath)) }
     ensures refused { IfErr result (λ reason. Some reason

@@ -64,7 +64,8 @@ pub fn update_place(rows: &Rows, update: &RawDoc<'_>) -> UpdatePlace
 /// refused here whatever the rules.
 pub fn mark_update(marks: &mut Marks, rows: &Rows, update: &RawDoc<'_>) -> Result<(), MarkFault>
     ensures marked { MarksPlaces rows.now
-        (visits rows.now (update_of (names_of update.now.tree)) (update.now.start + 4) [] update.now.tree) marks.old marks.new result }
+        (visits rows.now (update_of (names_of update.now.tree)) (update.now.start + 4) [] update.now.tree)
+        marks.old marks.new result }
     ensures kept { Begins marks.old marks.new }
 {
     mark_elements(marks, rows, update_place(rows, update), update)
