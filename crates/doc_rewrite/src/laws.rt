@@ -22,13 +22,16 @@ pub fn roles_stand()
 
 /// A sealed command, read by its places, is one read by their stations, and the other way round.
 pub fn one_reading()
-    ensures stations { (keys : Lookup) (rows : List Row) (c d : Items) → IsSealedCommand keys rows c d → IsSealedByStations keys rows c d }
-    ensures places { (keys : Lookup) (rows : List Row) (c d : Items) → IsSealedByStations keys rows c d → IsSealedCommand keys rows c d }
+    ensures stations { (keys : Lookup) (rows : List Row) (c d : Items)
+        → IsSealedCommand keys rows c d → IsSealedByStations keys rows c d }
+    ensures places { (keys : Lookup) (rows : List Row) (c d : Items)
+        → IsSealedByStations keys rows c d → IsSealedCommand keys rows c d }
 {}
 
-/// A command of bytes, sealed at its protected values under any keys that are there and any blocks, is a sealed command.
+/// A command of bytes, sealed at its protected values under keys that are there and any blocks, is a sealed command.
 pub fn sealed_as_stated()
     ensures sealed { (keys : Lookup) (rows : List Row) (d : At) (blocks : List Block)
-        → All (λ b. b < 256) (items_bytes d.tree) → AreBlocks blocks → HasRuleKeys keys rows (roles rows d.start d.tree)
+        → All (λ b. b < 256) (items_bytes d.tree) → AreBlocks blocks
+        → HasRuleKeys keys rows (roles rows d.start d.tree)
         → IsSealedCommand keys rows d.tree (sealed keys (sites_of rows (roles rows d.start d.tree)) blocks d) }
 {}

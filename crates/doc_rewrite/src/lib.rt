@@ -27,6 +27,8 @@ pub use sealing::seal_through;
 pub use site::Site;
 
 #[cfg(test)]
+mod sample_bytes;
+#[cfg(test)]
 mod samples;
 #[cfg(test)]
 mod standing;

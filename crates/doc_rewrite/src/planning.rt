@@ -110,7 +110,8 @@ pub(crate) fn sites_of(alloc: Global, marks: &Marks, rows: &Rows) -> Result<Vec<
 
 /// The mark of this number, counted from 0.
 pub(crate) fn mark_at(marks: &Marks, i: usize) -> Option<Mark>
-    ensures first { MatchOption result (drop i marks.now ≡ []) (λ m. drop i marks.now ≡ m ∷ drop (i + 1) marks.now) }
+    ensures first { MatchOption result (drop i marks.now ≡ [])
+        (λ m. drop i marks.now ≡ m ∷ drop (i + 1) marks.now) }
 {
     marks.get(i)
 }

@@ -1,5 +1,6 @@
 //! Commands that were sealed outside this repository.
 
+use crate::sample_bytes::INFOS;
 use crate::samples::{
     DOTTED, EQUAL_NAMES, FROM_A_DRIVER, IN_LIST, INFOS, NESTED, ONE_INT, ONE_STRING, Sample,
     TWO_DOCUMENTS,
