@@ -2,10 +2,12 @@
 use Rattle.std.proofs.Common.{◌≡◌, ◌∙◌, ℕ, Some, None, Option, Ok, Err, List, [], ◌∷◌, ◌++◌, refl, sym, ap, arith}
 use Rattle.std.proofs.lemmas.List.Elements.{All-cons, All-nil}
 use Rattle.std.specs.Prelude.{unwrap_or}
+use Rattle.bson_tree.specs.Tree.{Tree}
 use Rattle.encrypt_schema.specs.declared.schema.policy.Algorithm.TheVariants.{Random}
 use Rattle.fle_outside.specs.Blocks.{Block, IsBlock, DrawTakes, DrawCause, DrawAssured}
 use Rattle.fle_outside.specs.Seen.{EntropySeen}
 use Rattle.fle_outside.specs.declared.answers.Failed.{Failed}
+use Rattle.doc_rewrite.specs.declared.site.Site.{Site}
 use Rattle.doc_rewrite.specs.Vectors.{IsDrawnVector, DrawFails}
 
 some_is : (a b : List Block) → Some a ≡ Some b → a ≡ b
@@ -20,10 +22,10 @@ kept : (before after : Option (List Block)) (fault : Failed) → DrawTakes befor
 kept None after fault t all is = absurd cc
 kept (Some blocks) after fault t all is = t ∙ is
 
-pub vector_drawn : (id key : List ℕ) (type : ℕ) (plain : List ℕ) (before after : EntropySeen) (block : Block) → DrawTakes before.told after.told (Ok block)
-    → DrawCause before.faults after.faults (Ok block) → DrawAssured before.assured after.assured (Ok block) → IsBlock block
-    → IsDrawnVector Random id key type plain before after block
-vector_drawn id key type plain before after block takes cause sure is = record {
+pub vector_drawn : (s : Site) (key : List ℕ) (t : Tree) (before after : EntropySeen) (block : Block) → s.algorithm ≡ Random
+    → DrawTakes before.told after.told (Ok block) → DrawCause before.faults after.faults (Ok block)
+    → DrawAssured before.assured after.assured (Ok block) → IsBlock block → IsDrawnVector s key t before after block
+vector_drawn s key t before after block random takes cause sure is = rw random (record {
   drawn = block ∷ [];
   count = refl;
   draws = record {
@@ -33,7 +35,7 @@ vector_drawn id key type plain before after block takes cause sure is = record {
     falls = sure;
   };
   is = refl;
-}
+})
 
 pub draw_failed : (before after : EntropySeen) (fault : Failed) → DrawTakes before.told after.told (Err fault)
     → DrawCause before.faults after.faults (Err fault) → DrawAssured before.assured after.assured (Err fault) → DrawFails Random before after

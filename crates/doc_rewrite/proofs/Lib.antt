@@ -5,3 +5,11 @@ pub mod Growth
 pub mod Runs
 pub mod Policies
 pub mod Stands
+pub mod Judged
+pub mod FromPlaces
+pub mod ToPlaces
+pub mod ByStations
+pub mod Codes
+pub mod MadePayloads
+pub mod WithinBytes
+pub mod SealedAsStated

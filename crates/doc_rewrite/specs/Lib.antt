@@ -5,3 +5,6 @@ pub mod Sealed
 pub mod Plans
 pub mod Vectors
 pub mod Sealing
+pub mod Standing
+pub mod SealedTrees
+pub mod SealedCommand

@@ -1,13 +1,11 @@
 -- What is known of a document before its values are sealed
-use Rattle.std.specs.Prelude.{◌≡◌, ◌<◌, ◌≤◌, ℕ, Result, Ok, Err, List, [], ◌∷◌, length}
+use Rattle.std.specs.Prelude.{◌≡◌, ◌<◌, ℕ, List, [], ◌∷◌, length}
 use Rattle.bson_tree.specs.Spelling.{doc_bytes}
 use Rattle.bson_codec.specs.Borrowed.{At}
 use Rattle.bson_splice.specs.Whole.{StandsAt}
 use Rattle.encrypt_schema.specs.declared.command.marks.Mark.{Mark}
 use Rattle.encrypt_schema.specs.Language.Row.{Row}
 use Rattle.fle_outside.specs.Blocks.{AreBlocks, Block}
-use Rattle.doc_rewrite.specs.declared.planning.PlanFault.{PlanFault}
-use Rattle.doc_rewrite.specs.declared.planning.PlanFault.TheVariants as faults
 use Rattle.doc_rewrite.specs.declared.site.Site.{Site}
 use Rattle.doc_rewrite.specs.Keys.{Lookup}
 use Rattle.doc_rewrite.specs.Sealed.{sealed}
@@ -48,9 +46,6 @@ pub record StandsFor (plan : Planned) (d : At) : Type 0 where
   pub places : StandsAt (spans_of plan.sites) d
   pub size : IsSealedSize plan.sites d plan.size
 
--- the sites of the marks, with the length; or that it is above the limit
-abbrev pub PlansAs : List Row → List Mark → At → Result Planned PlanFault → Type 0
-PlansAs rows ms d (Ok plan) =
-    (plan.sites ≡ sites_of rows ms) × StandsFor plan d × (plan.size ≤ longest_sealed)
-PlansAs rows ms d (Err faults.TooLong) = (n : ℕ) × IsSealedSize (sites_of rows ms) d n × (longest_sealed < n)
-PlansAs rows ms d (Err faults.Memory) = Unit {0}
+-- sealed at these sites, the document is above the limit
+abbrev pub IsTooLong : List Site → At → Type 0
+IsTooLong ss d = (n : ℕ) × IsSealedSize ss d n × (longest_sealed < n)

@@ -1,7 +1,6 @@
 -- MongoDB Client Side Encryption: a document with values sealed, under data keys and the random blocks drawn
 use Rattle.std.specs.Prelude.{List, [], ◌∷◌, replicate, unwrap_or}
-use Rattle.bson_tree.specs.Tree.{Tree, Items, tag_of}
-use Rattle.bson_tree.specs.Spelling.{value_bytes}
+use Rattle.bson_tree.specs.Tree.{Tree, Items}
 use Rattle.bson_codec.specs.Borrowed.{At}
 use Rattle.bson_splice.specs.Splices.{Put}
 use Rattle.bson_splice.specs.Whole.{replaced}
@@ -11,12 +10,11 @@ use Rattle.fle_outside.specs.Blocks.{Block}
 use Rattle.payload6.specs.Marking.{binary}
 use Rattle.doc_rewrite.specs.declared.site.Site.{Site}
 use Rattle.doc_rewrite.specs.Keys.{Lookup}
-use Rattle.doc_rewrite.specs.Payloads.{payload}
+use Rattle.doc_rewrite.specs.Payloads.{site_payload}
 
 -- what takes the place of a value: a binary of subtype 06 with its payload
 unfoldable pub sealed_value : Lookup → Site → Block → Tree → Tree
-sealed_value keys s block t =
-    binary 6 (payload s.algorithm s.key_id (unwrap_or (keys s.key_id) []) (tag_of t) (value_bytes t) block)
+sealed_value keys s block t = binary 6 (site_payload s (unwrap_or (keys s.key_id) []) t block)
 
 abbrev pub put_of : Lookup → Site → Block → Put
 put_of keys s block = record { start = s.start; end = s.end; value = sealed_value keys s block }

@@ -1,6 +1,7 @@
 //! Data keys by their ids.
 
-ghost use Rattle.std.specs.Prelude.{◌≡◌, ◌++◌, ◌∷◌, [], MatchResult, option_copied, unwrap_or, is_some, true};
+ghost use Rattle.std.specs.Prelude.{◌≡◌, ◌++◌, ◌∷◌, [], is_some, true};
+ghost use Rattle.std.specs.Prelude.{MatchResult, option_copied, unwrap_or};
 ghost use Rattle.doc_rewrite.specs.Keys.{key_in};
 
 use fle_aead::DataKey;
@@ -44,7 +45,9 @@ impl KeyTable {
 
     /// Adds a key behind the others. `Memory`, with the keys as before, for want of memory alone.
     pub fn add(&mut self, id: [u8; 16], key: DataKey) -> Result<(), Memory>
-        ensures added { MatchResult result (λ _. self.new ≡ self.old ++ record { id = id; key = key } ∷ []) (λ _. self.new ≡ self.old) }
+        ensures added { MatchResult result
+            (λ _. self.new ≡ self.old ++ record { id = id; key = key } ∷ [])
+            (λ _. self.new ≡ self.old) }
     {
         match self.entries.push(KeyEntry { id, key }) {
             Ok(()) => Ok(()),

@@ -25,3 +25,12 @@ pub use key_table::{KeyEntry, KeyTable};
 pub use planning::{Plan, PlanFault, plan_seal};
 pub use sealing::seal_through;
 pub use site::Site;
+
+#[cfg(test)]
+mod sample_bytes;
+#[cfg(test)]
+mod samples;
+#[cfg(test)]
+mod standing;
+#[cfg(test)]
+mod tests;

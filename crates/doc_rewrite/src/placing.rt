@@ -2,11 +2,12 @@
 
 ghost use Rattle.std.specs.Prelude.{◌≡◌, ◌+◌, ◌*◌, ◌/◌, ◌≤◌, ◌++◌, List, ℕ, length, take};
 ghost use Rattle.bson_tree.specs.Spelling.{items_bytes, value_bytes};
-ghost use Rattle.bson_tree.specs.Tree.{item as element, no_items, tag_of};
+ghost use Rattle.bson_tree.specs.Tree.{item as element, no_items};
 ghost use Rattle.fle_outside.specs.Blocks.{Block};
 ghost use Rattle.payload6.specs.Marking.{binary};
-ghost use Rattle.payload6.specs.Payload.{algorithm_number, head};
-ghost use Rattle.doc_rewrite.specs.Payloads.{payload, vector};
+ghost use Rattle.payload6.specs.Payload.{algorithm_number};
+ghost use Rattle.doc_rewrite.specs.Payloads.{site_payload, site_vector};
+ghost use Rattle.doc_rewrite.specs.Sites.{sealed_width};
 
 use crate::site::Site;
 use bson_codec::RawItem;
@@ -46,8 +47,8 @@ fn put_payload<B: Block256>(
     ensures id { length site.now.key_id ≡ 16 }
     ensures size { length out.new ≡ length out.old }
     ensures within { result ≤ length out.new }
-    ensures payload { (block : Block) → iv ≡ vector site.now.algorithm key.now (head (algorithm_number site.now.algorithm) site.now.key_id (tag_of item.now.tree)) (value_bytes item.now.tree) block
-        → take result out.new ≡ take at out.old ++ payload site.now.algorithm site.now.key_id key.now (tag_of item.now.tree) (value_bytes item.now.tree) block }
+    ensures payload { (block : Block) → iv ≡ site_vector site.now key.now item.now.tree block
+        → take result out.new ≡ take at out.old ++ site_payload site.now key.now item.now.tree block }
 {
     let end = at + payload_len(item.value().len());
     seal_payload_into(
@@ -74,12 +75,13 @@ pub(crate) fn put_sealed<B: Block256>(
     at: usize,
 ) -> usize
     requires hooks { B.answers hooks.now }
-    requires room { at + 2 + length item.now.name + (71 + 16 * (length (value_bytes item.now.tree) / 16 + 1)) ≤ length out.old }
+    requires room { at + 2 + length item.now.name + sealed_width (length (value_bytes item.now.tree)) ≤ length out.old }
     ensures size { length out.new ≡ length out.old }
     ensures within { result ≤ length out.new }
     ensures id { length site.now.key_id ≡ 16 }
-    ensures element { (block : Block) → iv ≡ vector site.now.algorithm key.now (head (algorithm_number site.now.algorithm) site.now.key_id (tag_of item.now.tree)) (value_bytes item.now.tree) block
-        → take result out.new ≡ take at out.old ++ items_bytes (element item.now.name (binary 6 (payload site.now.algorithm site.now.key_id key.now (tag_of item.now.tree) (value_bytes item.now.tree) block)) no_items) }
+    ensures element { (block : Block) → iv ≡ site_vector site.now key.now item.now.tree block
+        → take result out.new ≡ take at out.old
+        ++ items_bytes (element item.now.name (binary 6 (site_payload site.now key.now item.now.tree block)) no_items) }
 {
     let size = payload_len(item.value().len()) as u32;
     let named = put_name(out, at, types::BINARY, item.name());

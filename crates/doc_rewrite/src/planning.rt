@@ -1,8 +1,8 @@
 //! What is known of a document before its values are sealed: which they are, and how long it gets.
 
-ghost use Rattle.std.specs.Prelude.{◌≡◌, ◌+◌, ◌*◌, ◌<◌, ◌≤◌, ◌^◌, ◌∷◌, [], drop, length, IfOk, MatchOption};
+ghost use Rattle.std.specs.Prelude.{◌≡◌, ◌+◌, ◌*◌, ◌<◌, ◌≤◌, ◌^◌, ◌∷◌, [], drop, length, Err, IfOk, MatchOption};
 ghost use Rattle.payload6.specs.Marking.{key_id};
-ghost use Rattle.doc_rewrite.specs.Plans.{AreLong, AreMarksOf, AreRuled, PlansAs};
+ghost use Rattle.doc_rewrite.specs.Plans.{AreLong, AreMarksOf, AreRuled, IsTooLong, StandsFor};
 ghost use Rattle.doc_rewrite.specs.Sites.{grown, site_of as site_by, sites_of as sites_by};
 
 use crate::site::Site;
@@ -70,7 +70,10 @@ pub fn plan_seal(
     rows: &Rows,
 ) -> Result<Plan, PlanFault>
     requires stands { AreMarksOf rows.now marks.now document.now }
-    ensures planned { PlansAs rows.now marks.now document.now result }
+    ensures sites { IfOk result (λ plan. plan.sites ≡ sites_by rows.now marks.now) }
+    ensures stands { IfOk result (λ plan. StandsFor plan document.now) }
+    ensures most { IfOk result (λ plan. plan.size ≤ 48000000) }
+    ensures too_long { result ≡ Err PlanFault.TooLong → IsTooLong (sites_by rows.now marks.now) document.now }
 {
     let Ok(sites) = sites_of(alloc, marks, rows) else {
         return Err(PlanFault::Memory);
@@ -86,7 +89,7 @@ pub fn plan_seal(
 }
 
 /// The sites of marks, in their order.
-fn sites_of(alloc: Global, marks: &Marks, rows: &Rows) -> Result<Vec<Site>, Memory>
+pub(crate) fn sites_of(alloc: Global, marks: &Marks, rows: &Rows) -> Result<Vec<Site>, Memory>
     requires ruled { AreRuled (length rows.now) marks.now }
     ensures sites { IfOk result (λ v. v.items ≡ sites_by rows.now marks.now) }
     ensures long { IfOk result (λ v. AreLong v.items) }
@@ -106,8 +109,9 @@ fn sites_of(alloc: Global, marks: &Marks, rows: &Rows) -> Result<Vec<Site>, Memo
 }
 
 /// The mark of this number, counted from 0.
-fn mark_at(marks: &Marks, i: usize) -> Option<Mark>
-    ensures first { MatchOption result (drop i marks.now ≡ []) (λ m. drop i marks.now ≡ m ∷ drop (i + 1) marks.now) }
+pub(crate) fn mark_at(marks: &Marks, i: usize) -> Option<Mark>
+    ensures first { MatchOption result (drop i marks.now ≡ [])
+        (λ m. drop i marks.now ≡ m ∷ drop (i + 1) marks.now) }
 {
     marks.get(i)
 }

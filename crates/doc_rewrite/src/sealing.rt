@@ -29,10 +29,14 @@ struct Sealing<'a, 'n, B, N> {
 impl<'a, 'n, B: Block256, N: Entropy> Putter for Sealing<'a, 'n, B, N> {
     ghost spans = { λ s. spans_of (drop s.next s.sites.now) };
 
-    ghost puts = { λ a b p. SealsOne (key_in a.keys.now) (drop a.next a.sites.now) (drop b.next b.sites.now) (N.seen a.entropy.now) (N.seen b.entropy.now) p
+    ghost puts = { λ a b p.
+        SealsOne (key_in a.keys.now) (drop a.next a.sites.now) (drop b.next b.sites.now)
+        (N.seen a.entropy.now) (N.seen b.entropy.now) p
         × (b.keys.now ≡ a.keys.now) × (b.entropy.ghost_name ≡ a.entropy.ghost_name) };
 
-    ghost stops = { λ a b. SealsNone (drop a.next a.sites.now) (N.seen a.entropy.now) (N.seen b.entropy.now) × (b.entropy.ghost_name ≡ a.entropy.ghost_name) };
+    ghost stops = { λ a b.
+        SealsNone (drop a.next a.sites.now) (N.seen a.entropy.now) (N.seen b.entropy.now)
+        × (b.entropy.ghost_name ≡ a.entropy.ghost_name) };
 
     ghost ready = { λ s. B.answers s.hooks.now × HasKeys (key_in s.keys.now) (drop s.next s.sites.now) };
 
@@ -66,8 +70,8 @@ impl<'a, 'n, B: Block256, N: Entropy> Putter for Sealing<'a, 'n, B, N> {
     }
 }
 
-/// Writes the document into `out`, which has the plan's length, with the values of the plan sealed: each under the key of
-/// its id, those of the random algorithm with a block each, drawn in reading order. `Failed` where a block couldn't be
+/// Writes the document into `out`, which has the plan's length, with the values of the plan sealed: each under the key
+/// of its id, those of the random algorithm with a block each, drawn in reading order. `Failed` where a block couldn't be
 /// drawn: `out` may hold anything then. It takes no memory.
 pub fn seal_through<B: Block256, N: Entropy>(
     plan: &Plan,
@@ -82,7 +86,8 @@ pub fn seal_through<B: Block256, N: Entropy>(
     requires keyed { HasKeys (key_in keys.now) plan.now.sites }
     requires room { length out.old ≡ plan.now.size }
     ensures size { length out.new ≡ length out.old }
-    ensures sealed { IfOk result (λ _. IsSealedWhole (key_in keys.now) plan.now.sites document.now (N.seen entropy.old) (N.seen entropy.new) out.new) }
+    ensures sealed { IfOk result (λ _. IsSealedWhole (key_in keys.now) plan.now.sites document.now
+        (N.seen entropy.old) (N.seen entropy.new) out.new) }
     ensures failed { OnErr result (FellShort (N.seen entropy.old) (N.seen entropy.new) (draws_of plan.now.sites)) }
 {
     let mut sealing = Sealing {

@@ -19,7 +19,8 @@ pub struct Site {
 
 /// The site of this number, counted from 0.
 pub(crate) fn site_at(sites: &[Site], i: usize) -> Option<Site>
-    ensures first { MatchOption result (drop i sites.now ≡ []) (λ s. drop i sites.now ≡ s ∷ drop (i + 1) sites.now) }
+    ensures first { MatchOption result (drop i sites.now ≡ [])
+        (λ s. drop i sites.now ≡ s ∷ drop (i + 1) sites.now) }
     ensures inside { IfSome result (λ s. i < length sites.now) }
 {
     if i < sites.len() {

@@ -1,8 +1,5 @@
 //! The vector under which a value is sealed.
 
-ghost use Rattle.std.specs.Prelude.{◌≡◌};
-ghost use Rattle.bson_tree.specs.Spelling.{value_bytes};
-ghost use Rattle.bson_tree.specs.Tree.{tag_of};
 ghost use Rattle.doc_rewrite.specs.Vectors.{TellsVector};
 
 use crate::site::Site;
@@ -19,7 +16,7 @@ pub(crate) fn vector_of<N: Entropy>(
     item: &RawItem<'_>,
     entropy: &mut N,
 ) -> Result<[u8; 16], Failed>
-    ensures vector { TellsVector site.now.algorithm site.now.key_id key.now (tag_of item.now.tree) (value_bytes item.now.tree) (N.seen entropy.old) (N.seen entropy.new) result }
+    ensures vector { TellsVector site.now key.now item.now.tree (N.seen entropy.old) (N.seen entropy.new) result }
 {
     match site.algorithm {
         Algorithm::Deterministic => Ok(det_iv(key, site.key_id, item.tag(), item.value())),

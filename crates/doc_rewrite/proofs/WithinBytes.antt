@@ -1,0 +1,64 @@
+-- The values of a command whose bytes are bytes are bytes.
+use Rattle.std.proofs.Common.{◌≡◌, ℕ, ◌<◌, List, [], ◌∷◌, ◌++◌, length, Option, Some, None, refl, subst}
+use Rattle.std.specs.List.{All}
+use Rattle.std.proofs.lemmas.List.{take_at, drop_at}
+use Rattle.std.proofs.lemmas.List.Elements.{All-take, All-drop, All-tail}
+use Rattle.bson_tree.specs.Tree.{Tree, leaf, node, Items, no_items, item, tag_of}
+use Rattle.bson_tree.specs.Spelling.{framed, value_bytes, items_bytes}
+use Rattle.encrypt_schema.specs.Language.Row.{Row}
+use Rattle.encrypt_schema.specs.Commands.Stations.{Station, station}
+use Rattle.encrypt_schema.specs.Commands.Visits.{entry}
+use Rattle.doc_rewrite.specs.SealedTrees.{rule_of, SealedBy, SealedIn, AreSealed}
+
+abbrev pub Bytes : List ℕ → Type 0
+Bytes bs = All (λ b. b < 256) bs
+
+front_of : (xs ys : List ℕ) → Bytes (xs ++ ys) → Bytes xs
+front_of xs ys h = subst Bytes (take_at xs ys (length xs) refl) (All-take (λ b. b < 256) (length xs) (xs ++ ys) h)
+
+back_of : (xs ys : List ℕ) → Bytes (xs ++ ys) → Bytes ys
+back_of xs ys h = subst Bytes (drop_at xs ys (length xs) refl) (All-drop (λ b. b < 256) (length xs) (xs ++ ys) h)
+
+value_of : (name : List ℕ) (t : Tree) (is : Items) → Bytes (items_bytes (item name t is)) → Bytes (value_bytes t)
+value_of name t is h =
+    front_of (value_bytes t) (items_bytes is) (All-tail (λ b. b < 256) 0 _ (back_of name _ (All-tail (λ b. b < 256) (tag_of t) _ h)))
+
+others_of : (name : List ℕ) (t : Tree) (is : Items) → Bytes (items_bytes (item name t is)) → Bytes (items_bytes is)
+others_of name t is h =
+    back_of (value_bytes t) (items_bytes is) (All-tail (λ b. b < 256) 0 _ (back_of name _ (All-tail (λ b. b < 256) (tag_of t) _ h)))
+
+inside_of : (elements : List ℕ) → Bytes (framed elements) → Bytes elements
+inside_of elements h = front_of elements (0 ∷ []) (All-drop (λ b. b < 256) 4 (framed elements) h)
+
+module _ (S : ℕ → Tree → Tree → Type 0) (rows : List Row) where
+  -- related where the value is bytes
+  abbrev pub Given : ℕ → Tree → Tree → Type 0
+  Given i t u = Bytes (value_bytes t) → S i t u
+
+  leaf_given : (tag : ℕ) (bytes : List ℕ) (u : Tree) (o : Option ℕ) → Bytes bytes
+      → SealedBy Given o (leaf tag bytes) u (u ≡ leaf tag bytes) → SealedBy S o (leaf tag bytes) u (u ≡ leaf tag bytes)
+  leaf_given tag bytes u (Some i) are sealed = sealed are
+  leaf_given tag bytes u None are sealed = sealed
+
+  node_given : (s : Station) (tag : ℕ) (is : Items) (u : Tree) (o : Option ℕ) → Bytes (value_bytes (node tag is))
+      → SealedBy Given o (node tag is) u ((js : Items) × (u ≡ node tag js) × AreSealed Given rows s is js)
+      → ((js : Items) → AreSealed Given rows s is js → AreSealed S rows s is js)
+      → SealedBy S o (node tag is) u ((js : Items) × (u ≡ node tag js) × AreSealed S rows s is js)
+  node_given s tag is u (Some i) are sealed inside = sealed are
+  node_given s tag is u None are sealed inside = (sealed.0, sealed.1, inside sealed.0 sealed.2)
+
+  mutual
+    value_given : (s : Station) (t u : Tree) → Bytes (value_bytes t) → SealedIn Given rows s t u → SealedIn S rows s t u
+    value_given s (leaf tag bytes) u are sealed = leaf_given tag bytes u (rule_of s) are sealed
+    value_given s (node tag is) u are sealed =
+        node_given s tag is u (rule_of s) are sealed (λ js p. items_given s is js (inside_of (items_bytes is) are) p)
+
+    pub items_given : (s : Station) (is js : Items) → Bytes (items_bytes is) → AreSealed Given rows s is js → AreSealed S rows s is js
+    items_given s no_items js are sealed = sealed
+    items_given s (item name t is) js are sealed = (
+      sealed.0,
+      sealed.1,
+      sealed.2,
+      value_given (station rows s (entry name t)) t sealed.0 (value_of name t is are) sealed.3,
+      items_given s is sealed.1 (others_of name t is are) sealed.4,
+    )
