@@ -2,9 +2,9 @@
 _fle() {
   local word=${COMP_WORDS[COMP_CWORD]}
   case $COMP_CWORD in
-    1) mapfile -t COMPREPLY < <(compgen -W "mark show keys --help --version" -- "$word") ;;
+    1) mapfile -t COMPREPLY < <(compgen -W "mark show keygen keys --help --version" -- "$word") ;;
     2) [[ ${COMP_WORDS[1]} != mark ]] && mapfile -t COMPREPLY < <(compgen -f -- "$word") ;;
-    3) mapfile -t COMPREPLY < <(compgen -f -- "$word") ;;
+    3) [[ ${COMP_WORDS[1]} == mark ]] && mapfile -t COMPREPLY < <(compgen -f -- "$word") ;;
     *) COMPREPLY=() ;;
   esac
 }

@@ -2,8 +2,9 @@
 complete -c fle -f
 complete -c fle -n __fish_use_subcommand -a mark -d "Write the marking reply to each command"
 complete -c fle -n __fish_use_subcommand -a show -d "Write the text of each document"
+complete -c fle -n __fish_use_subcommand -a keygen -d "Make a data key and write its document"
 complete -c fle -n __fish_use_subcommand -a keys -d "Write a line for each key of a vault"
 complete -c fle -n __fish_use_subcommand -a --help -d "What fle does"
 complete -c fle -n __fish_use_subcommand -a --version -d "Which fle this is"
 complete -c fle -n '__fish_seen_subcommand_from mark; and test (count (commandline -opc)) -eq 3' -F
-complete -c fle -n '__fish_seen_subcommand_from keys; and test (count (commandline -opc)) -eq 2' -F
+complete -c fle -n '__fish_seen_subcommand_from keygen keys; and test (count (commandline -opc)) -eq 2' -F

@@ -7,3 +7,4 @@ pub mod Marks
 pub mod Shows
 pub mod InfosRead
 pub mod Vaults
+pub mod NewKeys

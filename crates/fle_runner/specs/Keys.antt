@@ -64,6 +64,15 @@ vault_limit = 67108864
 abbrev pub keys_task : Option (List ℕ) → Task
 keys_task file = with_file 1 vault_limit file (λ bytes. vault_task (vault bytes))
 
+-- the ends that `keys` can make
+abbrev pub IsOfKeys : Why → Type 0
+IsOfKeys (whys.Finished finishes.Done) = Unit {0}
+IsOfKeys (whys.Finished (finishes.Setup file fault document)) = Unit {0}
+IsOfKeys (whys.Finished finish) = ⊥
+IsOfKeys (whys.Cut cuts.Input) = ⊥
+IsOfKeys (whys.Cut cuts.Entropy) = ⊥
+IsOfKeys (whys.Cut cut) = Unit {0}
+
 -- the ends that telling the keys of a vault can make
 abbrev pub IsOfText : Why → Type 0
 IsOfText (whys.Finished finishes.Done) = Unit {0}

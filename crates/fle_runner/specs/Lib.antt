@@ -4,5 +4,7 @@ pub mod Infos
 pub mod Mark
 pub mod Show
 pub mod Keys
+pub mod Keygen
 pub mod Verbs
+pub mod Statuses
 pub mod Text

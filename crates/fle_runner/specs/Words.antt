@@ -1,5 +1,6 @@
 -- The forms of the words after the program's name.
-use Rattle.std.specs.Prelude.{ℕ, Bool, ◌==◌, ◌||◌, Option, Some, None, List, [], ◌∷◌, length, codes, nat_eq, nat_lt, if◌then◌else◌}
+use Rattle.std.specs.Prelude.{ℕ, ◌+◌, ◌≤◌, Bool, true, not, ◌==◌, ◌||◌, ◌&&◌, map, string_bytes, Option, Some, None, List, [], ◌∷◌, length, codes, nat_eq, nat_lt, if◌then◌else◌}
+use Rattle.data_key.specs.Written.{size_of}
 use Rattle.std.specs.Cmp.Lexicographic.{pointwise}
 use Rattle.fle_runner.specs.declared.words.Asked.{Asked}
 use Rattle.fle_runner.specs.declared.words.Asked.TheVariants as asked
@@ -9,6 +10,7 @@ pub data Form : Type 0 where
   mark : List ℕ → List ℕ → Form
   show : Form
   keys : List ℕ → Form
+  keygen : List ℕ → List (List ℕ) → Form
 
 -- `mark DB SCHEMAS`: DB has 1 to 63 bytes, SCHEMAS isn't empty
 abbrev pub mark_form : List ℕ → List ℕ → Option Form
@@ -22,6 +24,24 @@ is_verb word verb = pointwise nat_eq word verb
 abbrev pub keys_form : List ℕ → Option Form
 keys_form vault = if length vault == 0 then None else Some (keys vault)
 
+-- so many of the names are this one
+abbrev pub times : List ℕ → List (List ℕ) → ℕ
+times name [] = 0
+times name (other ∷ others) = if is_verb name other then times name others + 1 else times name others
+
+-- each of these names isn't empty, and stands once among all
+abbrev pub each_once : List (List ℕ) → List (List ℕ) → Bool
+each_once all [] = true
+each_once all (name ∷ names) = (not (length name == 0) && (times name all == 1)) && each_once all names
+
+-- NAMEs: distinct, none empty, at most 1,000, with at most 15,999,840 bytes together
+abbrev pub are_names : List (List ℕ) → Bool
+are_names names = (not (nat_lt 1000 (length names)) && not (nat_lt 15999840 (size_of names))) && each_once names names
+
+-- `keygen MASTER NAME*`: MASTER isn't empty
+abbrev pub keygen_form : List ℕ → List (List ℕ) → Option Form
+keygen_form master names = if (length master == 0 || not (are_names names)) then None else Some (keygen master names)
+
 -- the words behind each verb
 abbrev pub mark_words : List (List ℕ) → Option Form
 mark_words (db ∷ schemas ∷ []) = mark_form db schemas
@@ -30,6 +50,10 @@ mark_words _ = None
 abbrev pub keys_words : List (List ℕ) → Option Form
 keys_words (vault ∷ []) = keys_form vault
 keys_words _ = None
+
+abbrev pub keygen_words : List (List ℕ) → Option Form
+keygen_words [] = None
+keygen_words (master ∷ names) = keygen_form master names
 
 abbrev pub show_words : List (List ℕ) → Option Form
 show_words [] = Some show
@@ -40,7 +64,8 @@ abbrev pub verb_form : List ℕ → List (List ℕ) → Option Form
 verb_form verb words =
     if is_verb verb (codes "mark") then mark_words words
     else (if is_verb verb (codes "show") then show_words words
-    else (if is_verb verb (codes "keys") then keys_words words else None))
+    else (if is_verb verb (codes "keys") then keys_words words
+    else (if is_verb verb (codes "keygen") then keygen_words words else None)))
 
 abbrev pub form_of : List (List ℕ) → Option Form
 form_of [] = None
@@ -52,6 +77,15 @@ asked_form asked.Nothing = None
 asked_form (asked.Mark db schemas) = Some (mark db.now schemas.now)
 asked_form asked.Show = Some show
 asked_form (asked.Keys vault) = Some (keys vault.now)
+asked_form (asked.Keygen master names) = Some (keygen master.now (map string_bytes names.now))
+
+-- the names of a new key are few and small enough for its document
+abbrev pub AreFew : Asked → Type 0
+AreFew asked.Nothing = Unit {0}
+AreFew (asked.Mark db schemas) = Unit {0}
+AreFew asked.Show = Unit {0}
+AreFew (asked.Keys vault) = Unit {0}
+AreFew (asked.Keygen master names) = (length names.now ≤ 1000) × (size_of (map string_bytes names.now) ≤ 15999840)
 
 -- a run of these words draws no random block
 abbrev pub DrawsNoBlock : Option Form → Type 0
@@ -59,3 +93,4 @@ DrawsNoBlock None = Unit {0}
 DrawsNoBlock (Some (mark db schemas)) = Unit {0}
 DrawsNoBlock (Some show) = Unit {0}
 DrawsNoBlock (Some (keys vault)) = Unit {0}
+DrawsNoBlock (Some (keygen master names)) = ⊥

@@ -1,8 +1,10 @@
 //! What the words ask for, done.
 
-ghost use Rattle.std.specs.Prelude.{true, ◌≡◌, ◌<◌, ◌≤◌, List, ℕ, Some, None, map, string_bytes};
+ghost use Rattle.std.specs.Prelude.{true, ◌≡◌, ◌<◌, ◌≤◌, ◌⊎◌, List, ℕ, Some, None, map, string_bytes};
 ghost use Rattle.fle_outside.specs.Counts.{Rose};
 ghost use Rattle.fle_outside.specs.Files.{Files};
+ghost use Rattle.fle_runner.specs.Keygen.{DrawsEight};
+ghost use Rattle.fle_runner.specs.Statuses.{AsksKey, MayEnd, ReadsNoInput};
 ghost use Rattle.fle_runner.specs.Verbs.{task};
 ghost use Rattle.fle_runner.specs.Words.{form_of, DrawsNoBlock};
 ghost use Rattle.fle_stream.specs.Codes.{status_of};
@@ -12,28 +14,33 @@ ghost use Rattle.fle_stream.specs.Plan.{draws_of, size_of};
 ghost use Rattle.fle_stream.specs.Task.{outcome_of};
 ghost use Rattle.fle_stream.specs.Turn.{RunTook};
 
+use crate::keygen::keygen;
 use crate::keys::keys;
 use crate::mark::mark;
 use crate::show::show;
 use crate::words::{Asked, read_words};
+use crypto_hooks::Block256;
 use fle_outside::{Entropy, Folder, Sink, Source};
 use fle_stream::{Cut, End, Finish, Why};
 use std::alloc::Global;
 
-/// Does what the words ask for.
-pub fn act<S: Source, F: Folder, O: Sink, N: Entropy>(
+/// Does what the words ask for. The time is that of `fle`, its 64 bits.
+pub fn act<S: Source, F: Folder, O: Sink, N: Entropy, B: Block256>(
     alloc: Global,
     words: &[String],
+    time: u64,
     input: &mut S,
     files: &mut F,
     out: &mut O,
     entropy: &mut N,
+    hooks: &B,
 ) -> End
+    requires hooks { B.answers hooks.now }
     ensures did { (all : Files) (told : List ℕ) → (F.seen files.old).told ≡ Some all → (S.seen input.old).told ≡ Some told
-        → Did (task (map string_bytes words.now) all) told (S.seen input.new).told (N.seen entropy.old) (N.seen entropy.new) (O.seen out.old) (O.seen out.new) result.number result.why }
+        → Did (task time (map string_bytes words.now) all) told (S.seen input.new).told (N.seen entropy.old) (N.seen entropy.new) (O.seen out.old) (O.seen out.new) result.number result.why }
     ensures unformed { form_of (map string_bytes words.now) ≡ None → result.why ≡ Why.Finished Finish.Words }
     ensures formed { result.why ≡ Why.Finished Finish.Words → form_of (map string_bytes words.now) ≡ None }
-    ensures placed { (all : Files) → (F.seen files.old).told ≡ Some all → EndsAs (task (map string_bytes words.now) all) result.why }
+    ensures placed { (all : Files) → (F.seen files.old).told ≡ Some all → EndsAs (task time (map string_bytes words.now) all) result.why }
     ensures unread { result.why ≡ Why.Finished Finish.Words → files.new ≡ files.old }
     ensures untouched { IsUnread (status_of result.why) → (input.new ≡ input.old) × (out.new ≡ out.old) × (entropy.new ≡ entropy.old) }
     ensures took { RunTook (S.seen input.old).taken (S.seen input.new).taken result.number }
@@ -44,10 +51,14 @@ pub fn act<S: Source, F: Folder, O: Sink, N: Entropy>(
     ensures in_sure { (S.seen input.old).assured ≡ true → result.why ≡ Why.Cut Cut.Input → ⊥ }
     ensures out_cause { result.why ≡ Why.Cut Cut.Output → Rose (O.seen out.old).faults (O.seen out.new).faults }
     ensures out_sure { (all : Files) (told : List ℕ) → (F.seen files.old).told ≡ Some all → (S.seen input.old).told ≡ Some told
-        → size_of (outcome_of (task (map string_bytes words.now) all) told).outputs ≤ (O.seen out.old).assured → result.why ≡ Why.Cut Cut.Output → ⊥ }
+        → size_of (outcome_of (task time (map string_bytes words.now) all) told).outputs ≤ (O.seen out.old).assured → result.why ≡ Why.Cut Cut.Output → ⊥ }
     ensures entropy_cause { result.why ≡ Why.Cut Cut.Entropy → Rose (N.seen entropy.old).faults (N.seen entropy.new).faults }
     ensures entropy_sure { (all : Files) (told : List ℕ) → (F.seen files.old).told ≡ Some all → (S.seen input.old).told ≡ Some told
-        → draws_of (outcome_of (task (map string_bytes words.now) all) told).outputs ≤ (N.seen entropy.old).assured → result.why ≡ Why.Cut Cut.Entropy → ⊥ }
+        → draws_of (outcome_of (task time (map string_bytes words.now) all) told).outputs ≤ (N.seen entropy.old).assured → result.why ≡ Why.Cut Cut.Entropy → ⊥ }
+    ensures statuses { MayEnd (form_of (map string_bytes words.now)) (status_of result.why) }
+    ensures no_input { ReadsNoInput (form_of (map string_bytes words.now)) → (input.new ≡ input.old) × (result.why ≡ Why.Cut Cut.Input → ⊥) }
+    ensures none_or_eight { AsksKey (form_of (map string_bytes words.now)) → result.why ≡ Why.Cut Cut.Memory
+        → (entropy.new ≡ entropy.old) ⊎ DrawsEight (N.seen entropy.old) (N.seen entropy.new) }
     ensures undrawn { DrawsNoBlock (form_of (map string_bytes words.now)) → result.why ≡ Why.Cut Cut.Entropy → ⊥ }
 {
     match read_words(words) {
@@ -55,5 +66,8 @@ pub fn act<S: Source, F: Folder, O: Sink, N: Entropy>(
         Asked::Mark { db, schemas } => mark(alloc, db, schemas, input, files, out, entropy),
         Asked::Show => show(alloc, input, out, entropy),
         Asked::Keys { vault } => keys(alloc, vault, files, out),
+        Asked::Keygen { master, names } => {
+            keygen(alloc, master, names, time, files, out, entropy, hooks)
+        }
     }
 }

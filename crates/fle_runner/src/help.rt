@@ -14,6 +14,7 @@ pub const HELP: &str = "fle: MongoDB client-side field level encryption, the cli
 
 usage: fle mark DB SCHEMAS
        fle show
+       fle keygen MASTER [NAME ...]
        fle keys KEYS
        fle --help | --version
 
@@ -22,6 +23,10 @@ usage: fle mark DB SCHEMAS
                     in JSON or BSON
   show              read documents from standard input and write the text of each, after
                     MongoDB Extended JSON, and a line feed
+  keygen MASTER [NAME ...]
+                    make a data key with these alternate names, seal it under the master
+                    key in the file MASTER and write its key document; nothing is read
+                    from standard input
   keys KEYS         write a line for each key of KEYS, a file of key documents; nothing
                     is read from standard input
 

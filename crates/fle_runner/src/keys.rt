@@ -4,7 +4,7 @@ ghost use Rattle.std.specs.Prelude.{true, ◌≡◌, ◌≤◌, ◌++◌, List, 
 ghost use Rattle.fle_outside.specs.Counts.{Rose};
 ghost use Rattle.fle_outside.specs.Files.{Files, file_of};
 ghost use Rattle.fle_outside.specs.Seen.{EntropySeen};
-ghost use Rattle.fle_runner.specs.Keys.{IsOfText, key_line, key_lines, keys_task, provider_word, vault_code, vault_why};
+ghost use Rattle.fle_runner.specs.Keys.{IsOfKeys, IsOfText, key_line, key_lines, keys_task, provider_word, vault_code, vault_why};
 ghost use Rattle.fle_runner.specs.Mark.{plain_plan};
 ghost use Rattle.fle_stream.specs.Codes.{status_of};
 ghost use Rattle.fle_stream.specs.Did.{Did};
@@ -29,6 +29,7 @@ const VAULT_LIMIT: usize = 67_108_864;
 pub fn keys<F: Folder, O: Sink>(alloc: Global, vault: &str, files: &mut F, out: &mut O) -> End
     ensures did { (all : Files) (told : List ℕ) (after : Option (List ℕ)) (entropy : EntropySeen) → (F.seen files.old).told ≡ Some all → after ≡ Some told
         → Did (keys_task (file_of all vault.now)) told after entropy entropy (O.seen out.old) (O.seen out.new) result.number result.why }
+    ensures kind { IsOfKeys result.why }
     ensures formed { result.why ≡ Why.Finished Finish.Words → ⊥ }
     ensures placed { (all : Files) → (F.seen files.old).told ≡ Some all → EndsAs (keys_task (file_of all vault.now)) result.why }
     ensures untouched { IsUnread (status_of result.why) → out.new ≡ out.old }

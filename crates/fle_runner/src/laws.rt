@@ -16,7 +16,7 @@ use fle_stream::Finish;
 
 /// An empty input is done, whatever verb the words and files ask for that judges documents.
 pub fn empty_input_is_done()
-    ensures done { (words : List (List ℕ)) (all : Files) (v : Items → Verdict) → task words all ≡ each v → outcome_of (task words all) [] ≡ finished Finish.Done 1 0 }
+    ensures done { (now : ℕ) (words : List (List ℕ)) (all : Files) (v : Items → Verdict) → task now words all ≡ each v → outcome_of (task now words all) [] ≡ finished Finish.Done 1 0 }
 {}
 
 /// `mark` over a file in JSON is `mark` over its documents in BSON.

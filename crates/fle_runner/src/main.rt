@@ -7,6 +7,7 @@
 //! ```text
 //! fle mark hr schemas.bson < commands.bson > replies.bson
 //! fle keys keys.bson
+//! fle keygen master.key hr-key >> keys.bson
 //! ```
 #![tactic(auto)]
 
@@ -16,6 +17,7 @@ mod help;
 mod infos;
 #[cfg(test)]
 mod json_tests;
+mod keygen;
 mod keys;
 #[cfg(test)]
 mod keys_tests;

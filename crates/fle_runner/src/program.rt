@@ -1,6 +1,10 @@
 //! The program over any objects of the outside.
 
-ghost use Rattle.std.specs.Prelude.{true, ◌≡◌, None, map, string_bytes};
+ghost use Rattle.std.specs.Prelude.{true, ◌≡◌, ◌⊎◌, None, map, string_bytes};
+ghost use Rattle.std.specs.Int.{cast_unsigned, w64};
+ghost use Rattle.fle_outside.specs.Counts.{Rose};
+ghost use Rattle.fle_runner.specs.Keygen.{DrawsEight};
+ghost use Rattle.fle_runner.specs.Statuses.{AsksKey, MayEnd, ReadsNoInput};
 ghost use Rattle.fle_runner.specs.Verbs.{task};
 ghost use Rattle.fle_runner.specs.Words.{form_of, DrawsNoBlock};
 ghost use Rattle.fle_stream.specs.Ended.{Ended, Settles, WritesAll, WritesSurely, DrawsSurely, IsUnread, world};
@@ -27,7 +31,7 @@ pub fn fle<S: Source, F: Folder, O: Sink, G: Sink, N: Entropy, B: Block256>(
 ) -> Status
     requires hooks { B.answers hooks.now }
     // One ending explains the status, the line, what was written and drawn and what the input has left.
-    ensures ended { Ended (task (map string_bytes words.now))
+    ensures ended { Ended (task (cast_unsigned w64 now_ms) (map string_bytes words.now))
         (world (S.seen input.old) (F.seen files.old) (O.seen out.old) (G.seen diag.old) (N.seen entropy.old))
         (world (S.seen input.new) (F.seen files.new) (O.seen out.new) (G.seen diag.new) (N.seen entropy.new)) result }
     // Status 2 is that of words without a form, want of memory aside.
@@ -38,21 +42,38 @@ pub fn fle<S: Source, F: Folder, O: Sink, G: Sink, N: Entropy, B: Block256>(
     // With 2 and 4 no call is made on the input, the output or the source of blocks.
     ensures untouched { IsUnread result → (input.new ≡ input.old) × (out.new ≡ out.old) × (entropy.new ≡ entropy.old) }
     // Where no count rose and memory lasted, the status is that of the outcome.
-    ensures settled { Settles (task (map string_bytes words.now))
+    ensures settled { Settles (task (cast_unsigned w64 now_ms) (map string_bytes words.now))
         (world (S.seen input.old) (F.seen files.old) (O.seen out.old) (G.seen diag.old) (N.seen entropy.old))
         (world (S.seen input.new) (F.seen files.new) (O.seen out.new) (G.seen diag.new) (N.seen entropy.new)) result }
     // Where the status is no fault and no want of memory, every output was written whole.
-    ensures whole { WritesAll (task (map string_bytes words.now))
+    ensures whole { WritesAll (task (cast_unsigned w64 now_ms) (map string_bytes words.now))
         (world (S.seen input.old) (F.seen files.old) (O.seen out.old) (G.seen diag.old) (N.seen entropy.old))
         (world (S.seen input.new) (F.seen files.new) (O.seen out.new) (G.seen diag.new) (N.seen entropy.new)) result }
     ensures read_sure { (S.seen input.old).assured ≡ true → (F.seen files.old).assured ≡ true → result ≡ Status.ReadFault → ⊥ }
-    ensures write_sure { WritesSurely (task (map string_bytes words.now))
+    ensures write_sure { WritesSurely (task (cast_unsigned w64 now_ms) (map string_bytes words.now))
         (world (S.seen input.old) (F.seen files.old) (O.seen out.old) (G.seen diag.old) (N.seen entropy.old)) result }
-    ensures entropy_sure { DrawsSurely (task (map string_bytes words.now))
+    ensures entropy_sure { DrawsSurely (task (cast_unsigned w64 now_ms) (map string_bytes words.now))
         (world (S.seen input.old) (F.seen files.old) (O.seen out.old) (G.seen diag.old) (N.seen entropy.old)) result }
-    // `mark` and `keys` draw no block, so they never end with 7.
+    // `keys` ends with 0, 4, 5, 6 or 8, and `keygen` with these or 7.
+    ensures statuses { MayEnd (form_of (map string_bytes words.now)) result }
+    // They make no call on the input, so with 5 a named file failed.
+    ensures no_input { ReadsNoInput (form_of (map string_bytes words.now)) → input.new ≡ input.old }
+    ensures by_folder { ReadsNoInput (form_of (map string_bytes words.now)) → result ≡ Status.ReadFault → Rose (F.seen files.old).faults (F.seen files.new).faults }
+    // Where `keygen` wants memory, it has drawn no block or the eight of a key.
+    ensures none_or_eight { AsksKey (form_of (map string_bytes words.now)) → result ≡ Status.Memory
+        → (entropy.new ≡ entropy.old) ⊎ DrawsEight (N.seen entropy.old) (N.seen entropy.new) }
+    // The verbs without random blocks draw none, so they never end with 7.
     ensures undrawn { DrawsNoBlock (form_of (map string_bytes words.now)) → result ≡ Status.EntropyFault → ⊥ }
 {
-    let end = act(alloc, words, input, files, out, entropy);
+    let end = act(
+        alloc,
+        words,
+        now_ms.cast_unsigned(),
+        input,
+        files,
+        out,
+        entropy,
+        hooks,
+    );
     report(diag, &end)
 }

@@ -1,10 +1,17 @@
 //! The words of a command line.
 
-ghost use Rattle.std.specs.Prelude.{◌≡◌, map, string_bytes};
-ghost use Rattle.fle_runner.specs.Words.{asked_form, form_of, keys_words, mark_words, verb_form, show_words};
+ghost use Rattle.std.specs.Prelude.{◌≡◌, ◌≤◌, Bool, not, true, nat_lt, length, map, string_bytes};
+ghost use Rattle.data_key.specs.Written.{size_of};
+ghost use Rattle.fle_runner.specs.Words.{are_names, AreFew, asked_form, each_once, form_of, keygen_words, keys_words, mark_words, show_words, times, verb_form};
 
 /// A database's name has at most this many bytes.
 const MAX_DB: usize = 63;
+
+/// A new key has at most this many names.
+const MAX_NAMES: usize = 1000;
+
+/// They have at most this many bytes together.
+const MAX_NAME_BYTES: usize = 15_999_840;
 
 /// What the words ask for.
 #[derive(Clone, Copy)]
@@ -25,11 +32,19 @@ pub enum Asked<'a> {
         /// The name of the file of key documents.
         vault: &'a str,
     },
+    /// A new key.
+    Keygen {
+        /// The name of the file of the master key.
+        master: &'a str,
+        /// The key's alternate names.
+        names: &'a [String],
+    },
 }
 
 /// What the words after the program's name ask for.
 pub fn read_words(words: &[String]) -> Asked<'_>
     ensures asked { asked_form result ≡ form_of (map string_bytes words.now) }
+    ensures few { AreFew result }
 {
     match words {
         [verb, rest @ ..] => verb_words(verb.as_str(), rest),
@@ -40,6 +55,7 @@ pub fn read_words(words: &[String]) -> Asked<'_>
 /// What a verb and the words behind it ask for.
 fn verb_words<'a>(verb: &str, words: &'a [String]) -> Asked<'a>
     ensures asked { asked_form result ≡ verb_form verb.now (map string_bytes words.now) }
+    ensures few { AreFew result }
 {
     if verb == "mark" {
         return mark_words(words);
@@ -50,12 +66,16 @@ fn verb_words<'a>(verb: &str, words: &'a [String]) -> Asked<'a>
     if verb == "keys" {
         return keys_words(words);
     }
+    if verb == "keygen" {
+        return keygen_words(words);
+    }
     Asked::Nothing
 }
 
 /// The words behind `mark`.
 fn mark_words(words: &[String]) -> Asked<'_>
     ensures asked { asked_form result ≡ mark_words (map string_bytes words.now) }
+    ensures few { AreFew result }
 {
     match words {
         [db, schemas] if !db.is_empty() && db.len() <= MAX_DB && !schemas.is_empty() =>
@@ -70,6 +90,7 @@ fn mark_words(words: &[String]) -> Asked<'_>
 /// The words behind `show`.
 fn show_words(words: &[String]) -> Asked<'_>
     ensures asked { asked_form result ≡ show_words (map string_bytes words.now) }
+    ensures few { AreFew result }
 {
     match words {
         [] => Asked::Show,
@@ -80,6 +101,7 @@ fn show_words(words: &[String]) -> Asked<'_>
 /// The words behind `keys`.
 fn keys_words(words: &[String]) -> Asked<'_>
     ensures asked { asked_form result ≡ keys_words (map string_bytes words.now) }
+    ensures few { AreFew result }
 {
     match words {
         [vault] if !vault.is_empty() => Asked::Keys {
@@ -87,4 +109,64 @@ fn keys_words(words: &[String]) -> Asked<'_>
         },
         _ => Asked::Nothing,
     }
+}
+
+/// The words behind `keygen`.
+fn keygen_words(words: &[String]) -> Asked<'_>
+    ensures asked { asked_form result ≡ keygen_words (map string_bytes words.now) }
+    ensures few { AreFew result }
+{
+    match words {
+        [master, names @ ..] if !master.is_empty() && are_names(names) => Asked::Keygen {
+            master: master.as_str(),
+            names,
+        },
+        _ => Asked::Nothing,
+    }
+}
+
+/// Whether these are the names of a new key.
+fn are_names(names: &[String]) -> bool
+    ensures names { result ≡ are_names (map string_bytes names.now) }
+{
+    names.len() <= MAX_NAMES && are_small(names) && each_once(names)
+}
+
+/// Whether the names have few enough bytes together.
+fn are_small(names: &[String]) -> bool
+    ensures small { result ≡ not (nat_lt 15999840 (size_of (map string_bytes names.now))) }
+{
+    let mut left = MAX_NAME_BYTES;
+    for name in names {
+        if left < name.len() {
+            return false;
+        }
+        left -= name.len();
+    }
+    true
+}
+
+/// Whether no name is empty, and each stands once.
+fn each_once(names: &[String]) -> bool
+    ensures once { result ≡ each_once (map string_bytes names.now) (map string_bytes names.now) }
+{
+    for name in names {
+        if name.is_empty() || times(name.as_str(), names) != 1 {
+            return false;
+        }
+    }
+    true
+}
+
+/// How many of the names are this one.
+fn times(name: &str, names: &[String]) -> usize
+    ensures times { result ≡ times name.now (map string_bytes names.now) }
+{
+    let mut n = 0;
+    for other in names {
+        if name == other.as_str() {
+            n += 1;
+        }
+    }
+    n
 }

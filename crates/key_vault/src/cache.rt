@@ -15,6 +15,9 @@ use std::alloc::Global;
 use std::marker::Model;
 use std::num::NonZeroUsize;
 
+#[cfg(test)]
+mod tests;
+
 /// How many keys are kept.
 const CAPACITY: usize = 64;
 

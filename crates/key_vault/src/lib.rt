@@ -14,6 +14,8 @@ mod faults;
 mod loading;
 mod lookup;
 mod numbers;
+#[cfg(test)]
+mod tests;
 mod vault;
 
 pub use cache::KeyCache;

@@ -1,6 +1,6 @@
 //! New data keys, made of random blocks (MongoDB Client Side Encryption, "Data key creation").
 
-ghost use Rattle.std.specs.Prelude.{◌≡◌, ◌≢◌, ◌<◌, ◌≤◌, ◌++◌, length, Err, IsOk};
+ghost use Rattle.std.specs.Prelude.{◌≡◌, ◌≢◌, ◌<◌, ◌≤◌, ◌++◌, length, Err, IsOk, IfOk};
 ghost use Rattle.local_kms.specs.Drawn.{Makes};
 ghost use Rattle.local_kms.specs.Made.{block_at, id_of, key_of_blocks, MakesKey, material_of, seeds, six_blocks, two_blocks};
 
@@ -48,6 +48,9 @@ pub fn new_key<B: Block256, N: Entropy>(
 ) -> Result<KeyDoc, NewFault>
     requires hooks { B.answers hooks.now }
     ensures made { MakesKey master.now names (N.seen entropy.old) (N.seen entropy.new) result }
+    ensures named { IfOk result (λ key. key.names ≡ names) }
+    ensures local { IfOk result (λ key. key.provider ≡ Provider.Local) }
+    ensures long { IfOk result (λ key. (length key.id ≡ 16) × (length key.material ≡ 160)) }
     ensures undrawn { result ≡ Err NewFault.Memory → entropy.new ≡ entropy.old }
     ensures sure { 8 ≤ (N.seen entropy.old).assured → result ≢ Err NewFault.EntropyFailed }
 {

@@ -9,7 +9,7 @@ use Rattle.fle_runner.proofs.laws.empty_input_is_done.Goals as goal
 
 pub returns : goal.returns
 returns c = record {
-  done = λ words all v is.
+  done = λ now words all v is.
       ap (λ (t : Task). outcome_of t []) is
       ∙ (ap (λ (docs : Docs). outcome v 1 0 docs) (none_left [] refl) ∙ outcome_end v 1 0 nothing (omega arith));
 }

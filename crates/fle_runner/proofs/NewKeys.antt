@@ -1,0 +1,81 @@
+-- New keys: how long their documents are, and that they can be written.
+use Rattle.std.proofs.Common.{◌≡◌, ℕ, ◌+◌, ◌*◌, ◌/◌, ◌<◌, ◌≤◌, Option, Some, Result, Err, List, [], ◌∷◌, ◌++◌, length, refl, sym, ◌∙◌, ap, subst, arith, length-append}
+use Rattle.std.specs.Prelude.{codes, decimal}
+use Rattle.bson_tree.specs.Tree.{Tree, Items, node, no_items, item}
+use Rattle.bson_tree.specs.Spelling.{doc_bytes, items_bytes, value_bytes}
+use Rattle.data_key.specs.Written.{binary, history, key_fields, names_field, numbered}
+use Rattle.data_key.specs.declared.key_doc.KeyDoc.{KeyDoc}
+use Rattle.data_key.proofs.Sizes.{binary_size, element_size, framed_size}
+use Rattle.fle_outside.specs.Seen.{EntropySeen, SinkSeen}
+use Rattle.fle_runner.specs.Keygen.{IsOfKey, blank_key, document_size, keygen_plan, master_number, master_task, master_why}
+use Rattle.fle_stream.specs.Did.{Did}
+use Rattle.fle_stream.specs.Ended.{EndsAs}
+use Rattle.fle_stream.specs.Plan.{Plan, draws_of, size_of as outputs_size}
+use Rattle.fle_stream.specs.Task.{Task, makes, outcome_of}
+use Rattle.fle_stream.specs.declared.why.Cut.TheVariants as cuts
+use Rattle.fle_stream.specs.declared.why.Finish.TheVariants as finishes
+use Rattle.fle_stream.specs.declared.why.SetupFault.TheVariants as setups
+use Rattle.fle_stream.specs.declared.why.Why.{Why}
+use Rattle.fle_stream.specs.declared.why.Why.TheVariants as whys
+use Rattle.fle_stream.proofs.Programs.{did_task, did_fail, ends_task}
+use Rattle.local_kms.specs.declared.master.MasterFault.{MasterFault}
+
+-- names stand before fields of one length or another
+names_size : (names : List (List ℕ)) (is js : Items) → length (items_bytes is) ≡ length (items_bytes js)
+    → length (items_bytes (names_field names is)) ≡ length (items_bytes (names_field names js))
+names_size [] is js same = same
+names_size (name ∷ names) is js same =
+    omega (
+      arith,
+      same,
+      element_size (codes "keyAltNames") (node 0x04 (numbered 0 (name ∷ names))) is,
+      element_size (codes "keyAltNames") (node 0x04 (numbered 0 (name ∷ names))) js,
+    )
+
+-- a key's document is as long as that of a key of zeros
+pub document_long : (key : KeyDoc) (now : ℕ) → length key.id ≡ 16 → length key.material ≡ 160
+    → length (doc_bytes (key_fields key now now 0)) ≡ document_size key.names now
+unfolding key_fields
+document_long key now sixteen long =
+    let blank = blank_key key.names in
+    let last = history now now 0 in
+    let ours = item (codes "keyMaterial") (binary 0 key.material) last in
+    let zeros = item (codes "keyMaterial") (binary 0 blank.material) last in
+    let behind : length (items_bytes ours) ≡ length (items_bytes zeros) =
+    omega (arith, long, element_size (codes "keyMaterial") (binary 0 key.material) last, element_size (codes "keyMaterial") (binary 0 blank.material) last, binary_size 0 key.material, binary_size 0 blank.material) in
+    omega (
+      arith,
+      sixteen,
+      names_size key.names ours zeros behind,
+      element_size (codes "_id") (binary 4 key.id) (names_field key.names ours),
+      element_size (codes "_id") (binary 4 blank.id) (names_field key.names zeros),
+      binary_size 4 key.id,
+      binary_size 4 blank.id,
+      framed_size (items_bytes (key_fields key now now 0)),
+      framed_size (items_bytes (key_fields blank now now 0)),
+    )
+
+-- a master key's file is at fault
+pub did_master : (t : Task) (names : List (List ℕ)) (now : ℕ) (read : Result (List ℕ) MasterFault) (fault : MasterFault) (told : List ℕ) (after : Option (List ℕ)) (entropy : EntropySeen) (out : SinkSeen)
+    → t ≡ master_task names now read → Err fault ≡ read → after ≡ Some told → Did t told after entropy entropy out out 0 (master_why fault)
+did_master t names now read fault told after entropy out from is left =
+    did_task (from ∙ ap (λ (r : Result (List ℕ) MasterFault). master_task names now r) (sym is)) (did_fail (finishes.Setup 1 (setups.Contents (master_number fault)) 0) told after entropy out left)
+
+pub ends_master : (t : Task) (names : List (List ℕ)) (now : ℕ) (read : Result (List ℕ) MasterFault) (fault : MasterFault) → t ≡ master_task names now read → Err fault ≡ read → EndsAs t (master_why fault)
+ends_master t names now read fault from is =
+    ends_task (master_why fault) (from ∙ ap (λ (r : Result (List ℕ) MasterFault). master_task names now r) (sym is)) refl
+
+-- a key was made
+pub ends_key : (plan : Plan) (why : Why) → IsOfKey why → EndsAs (makes plan) why
+ends_key plan (whys.Finished finish) kind = tt
+ends_key plan (whys.Cut cuts.Folder) kind = tt
+ends_key plan (whys.Cut cuts.Input) kind = tt
+ends_key plan (whys.Cut cuts.Output) kind = tt
+ends_key plan (whys.Cut cuts.Entropy) kind = tt
+ends_key plan (whys.Cut cuts.Memory) kind = tt
+
+pub key_size : (t : Task) (told : List ℕ) (names : List (List ℕ)) (now : ℕ) (master : List ℕ) → t ≡ makes (keygen_plan names now master) → outputs_size (outcome_of t told).outputs ≡ document_size names now
+key_size t told names now master is = ap (λ (x : Task). outputs_size (outcome_of x told).outputs) is ∙ omega arith
+
+pub key_draws : (t : Task) (told : List ℕ) (names : List (List ℕ)) (now : ℕ) (master : List ℕ) → t ≡ makes (keygen_plan names now master) → draws_of (outcome_of t told).outputs ≡ 8
+key_draws t told names now master is = ap (λ (x : Task). draws_of (outcome_of x told).outputs) is
