@@ -3,7 +3,8 @@ pub mod Seen
 pub mod Fronts
 pub mod Trees
 pub mod Spots
-pub mod Places
+pub mod Landing
 pub mod Cursors
 pub mod Parts
+pub mod Levels
 pub mod Walking

@@ -4,18 +4,18 @@ use Rattle.std.proofs.lemmas.Bool.{eqb-true, eqb-false}
 use Rattle.std.proofs.Math.Seq.{take-append_seam}
 use Rattle.bson_tree.specs.Tree.{Tree, leaf, node, tag_of}
 use Rattle.bson_codec.specs.Layout.{string_bytes, binary_bytes}
-use Rattle.encrypt_schema.specs.Language.Values.{text_in, text_of, uuid_of}
+use Rattle.encrypt_schema.specs.Language.Values.{text_of, text_value, uuid_of}
 use Rattle.encrypt_schema.specs.Commands.Visits.{holds_payload, is_payload}
 
 -- the text in the bytes of a string
-pub text_is : (text : List ℕ) → text_in (string_bytes text) ≡ text
+pub text_is : (text : List ℕ) → text_of (string_bytes text) ≡ text
 text_is text =
     let n : length (string_bytes text) - 5 ≡ length text = omega (arith, length-append text (0 ∷ [])) in
-    let m : text_in (string_bytes text) ≡ take (length text) (text ++ 0 ∷ []) = ap (λ (k : ℕ). take k (text ++ 0 ∷ [])) n in
+    let m : text_of (string_bytes text) ≡ take (length text) (text ++ 0 ∷ []) = ap (λ (k : ℕ). take k (text ++ 0 ∷ [])) n in
     m ∙ take-append_seam text (0 ∷ [])
 
 -- the text of a string
-pub text_found : (t : Tree) (text : List ℕ) → t ≡ leaf 2 (string_bytes text) → text_of t ≡ Some text
+pub text_found : (t : Tree) (text : List ℕ) → t ≡ leaf 2 (string_bytes text) → text_value t ≡ Some text
 text_found t text e = rw e (ap (λ (x : List ℕ). Some x) (text_is text))
 
 -- five bytes stand before a binary's contents

@@ -7,14 +7,14 @@ use Rattle.encrypt_schema.specs.declared.path.spots.Spot.{Spot}
 use Rattle.encrypt_schema.specs.declared.path.rows.Rule.{Rule}
 use Rattle.encrypt_schema.specs.declared.path.class.Class.TheVariants as classes
 use Rattle.encrypt_schema.specs.declared.path.cursor.Cursor.{Cursor}
-use Rattle.encrypt_schema.specs.declared.path.cursor.Place.{Place}
-use Rattle.encrypt_schema.specs.declared.path.cursor.Place.TheVariants as places
+use Rattle.encrypt_schema.specs.declared.path.cursor.Reach.{Reach}
+use Rattle.encrypt_schema.specs.declared.path.cursor.Reach.TheVariants as reaches
 use Rattle.encrypt_schema.specs.Language.Row.{Row, paths}
 use Rattle.encrypt_schema.specs.Paths.Classes.{number_of, covers, leads, class_by, class}
 use Rattle.encrypt_schema.specs.Views.Fronts.{fronts}
 use Rattle.encrypt_schema.specs.Views.Spots.{child_at, rule_at, spot_paths, grid_rows, IsGrid}
 use Rattle.encrypt_schema.specs.Views.Cursors.{StandsAt, Stands, path_at, path_of, StandsForPath}
-use Rattle.encrypt_schema.specs.Views.Places.{landed}
+use Rattle.encrypt_schema.specs.Views.Landing.{landed}
 use Rattle.encrypt_schema.proofs.Paths.Paths.{nil_prefix, among, found_is, not_among, some_among, covers_push, leads_front, among_leads}
 use Rattle.encrypt_schema.proofs.Paths.Numbers.{number_there, number_below}
 use Rattle.encrypt_schema.proofs.Paths.Fronts.{fronts_lead, fronts_first}
@@ -35,21 +35,21 @@ covers_nil [] = refl
 covers_nil (r ∷ rs) = ap₂ (λ (a b : Bool). a || b) (nil_prefix r) (covers_nil rs)
 
 -- off the fronts a step changes nothing
-pub step_below : (rows : List Row) (p : List (List ℕ)) (n : List ℕ) → StandsAt rows places.Below p → StandsAt rows places.Below (p ++ n ∷ [])
+pub step_below : (rows : List Row) (p : List (List ℕ)) (n : List ℕ) → StandsAt rows reaches.Below p → StandsAt rows reaches.Below (p ++ n ∷ [])
 step_below rows p n s = (covers_push p n (paths rows) ∙ or_left (covers p (paths rows)) (among (p ++ n ∷ []) (paths rows)) s.0, unled_push p n (paths rows) s.1)
 
-pub step_clear : (rows : List Row) (p : List (List ℕ)) (n : List ℕ) → StandsAt rows places.Clear p → StandsAt rows places.Clear (p ++ n ∷ [])
+pub step_clear : (rows : List Row) (p : List (List ℕ)) (n : List ℕ) → StandsAt rows reaches.Clear p → StandsAt rows reaches.Clear (p ++ n ∷ [])
 step_clear rows p n s =
     let away = unled_push p n (paths rows) s.1 in
     (covers_push p n (paths rows) ∙ ap₂ (λ (a b : Bool). a || b) s.0 (unled (p ++ n ∷ []) (paths rows) away), away)
 
-pub class_below : (rows : List Row) (p : List (List ℕ)) → StandsAt rows places.Below p → classes.Below ≡ class rows p
+pub class_below : (rows : List Row) (p : List (List ℕ)) → StandsAt rows reaches.Below p → classes.Below ≡ class rows p
 unfolding class
 class_below rows p s =
     ap (λ (o : Option ℕ). class_by o true false) (sym (not_among p (paths rows) (unled p (paths rows) s.1)))
     ∙ ap₂ (λ (a b : Bool). class_by (number_of 0 p (paths rows)) a b) (sym s.0) (sym s.1)
 
-pub class_clear : (rows : List Row) (p : List (List ℕ)) → StandsAt rows places.Clear p → classes.Clear ≡ class rows p
+pub class_clear : (rows : List Row) (p : List (List ℕ)) → StandsAt rows reaches.Clear p → classes.Clear ≡ class rows p
 unfolding class
 class_clear rows p s =
     ap (λ (o : Option ℕ). class_by o false false) (sym (not_among p (paths rows) (unled p (paths rows) s.1)))
@@ -93,18 +93,18 @@ module _ (spots : List Spot) (rules : List Rule) (g : IsGrid spots rules) where
         off false q cover away = (cover, away)
 
   -- a step from a front
-  pub step_front : (p : List (List ℕ)) (i : ℕ) (covered : Bool) (n : List ℕ) → StandsAt (grid_rows spots rules) (places.Front i covered) p → StandsAt (grid_rows spots rules) (landed covered (child_at spots i n) (rule_at spots)) (p ++ n ∷ [])
+  pub step_front : (p : List (List ℕ)) (i : ℕ) (covered : Bool) (n : List ℕ) → StandsAt (grid_rows spots rules) (reaches.Front i covered) p → StandsAt (grid_rows spots rules) (landed covered (child_at spots i n) (rule_at spots)) (p ++ n ∷ [])
   step_front p i covered n s = land_by p covered n s.1 (child_at spots i n) (sym (child_is p i n s.0))
 
   -- the class of a front
-  pub class_front : (p : List (List ℕ)) (i : ℕ) (covered : Bool) → StandsAt (grid_rows spots rules) (places.Front i covered) p → class_by (rule_at spots i) covered true ≡ class (grid_rows spots rules) p
+  pub class_front : (p : List (List ℕ)) (i : ℕ) (covered : Bool) → StandsAt (grid_rows spots rules) (reaches.Front i covered) p → class_by (rule_at spots i) covered true ≡ class (grid_rows spots rules) p
   unfolding class
   class_front p i covered s =
       ap (λ (o : Option ℕ). class_by o covered true) (g.rows.first p i (on_spot p i s.0))
       ∙ ap₂ (λ (a b : Bool). class_by (number_of 0 p (paths (grid_rows spots rules))) a b) (sym s.1) (sym s.2)
 
   -- the root, where there are rules
-  pub root_front : leads [] (paths (grid_rows spots rules)) ≡ true → StandsAt (grid_rows spots rules) (places.Front 0 (is_some (rule_at spots 0))) []
+  pub root_front : leads [] (paths (grid_rows spots rules)) ≡ true → StandsAt (grid_rows spots rules) (reaches.Front 0 (is_some (rule_at spots 0))) []
   root_front led =
       let rs = paths (grid_rows spots rules) in
       let first = fronts_first (grid_rows spots rules) in
@@ -121,14 +121,14 @@ below_above e = absurd cc
 clear_above : classes.Clear ≡ classes.Above → ⊥
 clear_above e = absurd cc
 
-place_path : (rows : List Row) (at : Place) (p : List (List ℕ)) → StandsAt rows at p → class rows p ≡ classes.Above → p ≡ path_at rows at
-place_path rows (places.Front i covered) p s e = sym (number_there p (fronts rows) i s.0)
-place_path rows places.Below p s e = absurd (below_above (class_below rows p s ∙ e))
-place_path rows places.Clear p s e = absurd (clear_above (class_clear rows p s ∙ e))
+reach_path : (rows : List Row) (at : Reach) (p : List (List ℕ)) → StandsAt rows at p → class rows p ≡ classes.Above → p ≡ path_at rows at
+reach_path rows (reaches.Front i covered) p s e = sym (number_there p (fronts rows) i s.0)
+reach_path rows reaches.Below p s e = absurd (below_above (class_below rows p s ∙ e))
+reach_path rows reaches.Clear p s e = absurd (clear_above (class_clear rows p s ∙ e))
 
 -- a cursor of class Above stands for one path alone
 pub above_path : (rows : List Row) (at : Cursor) (path : List (List ℕ)) → Stands rows at path → class rows path ≡ classes.Above → path ≡ path_of rows at
-above_path rows at path s e = place_path rows at.place path s e
+above_path rows at path s e = reach_path rows at.reach path s e
 
 protected_by : (o : Option ℕ) (covered leading : Bool) (i : ℕ) → class_by o covered leading ≡ classes.Protected i → o ≡ Some i
 protected_by (Some j) covered leading i e = ap (λ (k : ℕ). Some k) (same_number j i e) where
@@ -151,10 +151,10 @@ pub protected_path : (rows : List Row) (path : List (List ℕ)) (i : ℕ) → cl
 protected_path rows path i e = number_there path (paths rows) i (protected_number rows path i e)
 
 -- a place that stands for the empty path stands for it alone
-pub root_at : (rows : List Row) (at : Place) → StandsAt rows at [] → path_at rows at ≡ []
-root_at rows (places.Front i covered) s = number_there [] (fronts rows) i s.0
-root_at rows places.Below s = refl
-root_at rows places.Clear s = refl
+pub root_at : (rows : List Row) (at : Reach) → StandsAt rows at [] → path_at rows at ≡ []
+root_at rows (reaches.Front i covered) s = number_there [] (fronts rows) i s.0
+root_at rows reaches.Below s = refl
+root_at rows reaches.Clear s = refl
 
 -- a cursor of class Above stands for its one path
 pub above_stands : (rows : List Row) (at : Cursor) (path : List (List ℕ)) → Stands rows at path → class rows path ≡ classes.Above → StandsForPath rows at

@@ -1,6 +1,6 @@
 -- MongoDB commands insert, update, delete and find: for which reasons a place of a command is refused, read
 -- from what its parent is, from the names of its elder siblings and from itself.
-use Rattle.std.specs.Prelude.{ℕ, ◌==◌, ◌-◌, Bool, true, false, not, ◌&&◌, ◌||◌, nat_lt, List, [], ◌∷◌, ◌++◌, codes, take, drop, length, Option, Some, None, if◌then◌else◌}
+use Rattle.std.specs.Prelude.{ℕ, ◌==◌, Bool, true, false, not, ◌&&◌, ◌||◌, nat_lt, List, [], ◌∷◌, ◌++◌, codes, Option, Some, None, if◌then◌else◌}
 use Rattle.encrypt_schema.specs.declared.command.operators.Operator.{Operator}
 use Rattle.encrypt_schema.specs.declared.command.operators.Operator.TheVariants.{Unset, Rename, Other}
 use Rattle.encrypt_schema.specs.declared.command.operators.Subject.{Subject}
@@ -12,6 +12,7 @@ use Rattle.encrypt_schema.specs.declared.command.reason.Reason.{Reason}
 use Rattle.encrypt_schema.specs.declared.command.reason.Reason.TheVariants.{NotACommand, BadField, WrongDb, View, TypeNotAllowed, AlreadyEncrypted, ArrayOnPath, BelowProtected, PositionalOnPath, RandomCompared, OperatorOnProtected, PrefixCompared, Pipeline, FieldNotAllowed, RenameMixed}
 use Rattle.encrypt_schema.specs.Commands.Reasons.{reason_code}
 use Rattle.encrypt_schema.specs.Language.Names.{named, is_among}
+pub use Rattle.encrypt_schema.specs.Language.Values.{text_of}
 use Rattle.encrypt_schema.specs.Language.Row.{Row}
 use Rattle.encrypt_schema.specs.Language.Collection.{Collection}
 use Rattle.encrypt_schema.specs.Language.Policies.{policy_at, is_random, has_type, is_same_policy}
@@ -30,10 +31,6 @@ unless test reason = when (not test) reason
 -- a string (02)
 abbrev pub is_string : Entry → Bool
 is_string e = e.tag == 2
-
--- the text in the bytes of a string: behind a length of four bytes, and before a final 00
-abbrev pub text_of : List ℕ → List ℕ
-text_of raw = take (length raw - 5) (drop 4 raw)
 
 -- no bytes; no names
 abbrev pub is_empty : List ℕ → Bool

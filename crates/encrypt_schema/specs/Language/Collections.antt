@@ -13,7 +13,7 @@ use Rattle.encrypt_schema.specs.Language.Names.{named}
 use Rattle.encrypt_schema.specs.Language.Row.{Row}
 use Rattle.encrypt_schema.specs.Language.Schemas.{schema_rows}
 use Rattle.encrypt_schema.specs.Language.Standings.{Standing, absent, once, repeated, standing}
-use Rattle.encrypt_schema.specs.Language.Values.{is_document, text_of}
+use Rattle.encrypt_schema.specs.Language.Values.{is_document_value, text_value}
 
 infixl 10 ◌>>=◌
 -- a field that may have the wrong form, and what is read next
@@ -29,7 +29,7 @@ some_text (Some (byte ∷ bytes)) = Some (byte ∷ bytes)
 
 abbrev pub name_in : Standing → Option (List ℕ)
 name_in absent = None
-name_in (once t) = some_text (text_of t)
+name_in (once t) = some_text (text_value t)
 name_in repeated = None
 
 -- `type`: a string where it stands; `view` is that of a view
@@ -39,13 +39,13 @@ is_view_text (Some text) = Some (named text (codes "view"))
 
 abbrev pub view_in : Standing → Option Bool
 view_in absent = Some false
-view_in (once t) = is_view_text (text_of t)
+view_in (once t) = is_view_text (text_value t)
 view_in repeated = None
 
 -- a field that is a document where it stands: its fields
 abbrev pub fields_in : Standing → Option (Option Items)
 fields_in absent = Some None
-fields_in (once t) = if is_document t then Some (Some (kids_of t)) else None
+fields_in (once t) = if is_document_value t then Some (Some (kids_of t)) else None
 fields_in repeated = None
 
 -- the field of this name in a document that may not be there

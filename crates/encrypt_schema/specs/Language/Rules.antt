@@ -12,7 +12,7 @@ use Rattle.encrypt_schema.specs.declared.schema.policy.Algorithm.{Algorithm}
 use Rattle.encrypt_schema.specs.declared.schema.policy.Algorithm.TheVariants.{Deterministic, Random}
 use Rattle.encrypt_schema.specs.declared.schema.policy.KeyRef.TheVariants.{Id}
 use Rattle.encrypt_schema.specs.Language.Names.{named}
-use Rattle.encrypt_schema.specs.Language.Values.{find, text_of}
+use Rattle.encrypt_schema.specs.Language.Values.{find, text_value}
 use Rattle.encrypt_schema.specs.Language.Keywords.{keyword_at}
 use Rattle.encrypt_schema.specs.Language.Shapes.{key_of, fits}
 use Rattle.encrypt_schema.specs.Language.TypeNames.{types_named, can_protect, types_allowed}
@@ -104,7 +104,7 @@ algorithm_named text =
 
 abbrev pub algorithm_by : Option Algorithm → Option Tree → Result (Option Algorithm) SchemaFault
 algorithm_by around None = Ok around
-algorithm_by around (Some t) = wanted (option_and_then algorithm_named (text_of t)) faults.Algorithm >>= λ algorithm. Ok (Some algorithm)
+algorithm_by around (Some t) = wanted (option_and_then algorithm_named (text_value t)) faults.Algorithm >>= λ algorithm. Ok (Some algorithm)
 
 unfoldable pub algorithm_inside : Option Algorithm → Items → Result (Option Algorithm) SchemaFault
 algorithm_inside around is = algorithm_by around (stated (codes "algorithm") is)

@@ -1,11 +1,11 @@
 -- MongoDB Client Side Encryption, `bsonType`: the alias of each BSON type, and the types that an algorithm can protect
-use Rattle.std.specs.Prelude.{ℕ, ◌==◌, Bool, true, false, List, [], ◌∷◌, Option, Some, None, codes, option_and_then, if◌then◌else◌}
+use Rattle.std.specs.Prelude.{ℕ, ◌==◌, Bool, true, false, List, [], ◌∷◌, Option, Some, None, codes, map, option_and_then, if◌then◌else◌}
 use Rattle.std.specs.List.{list_any}
 use Rattle.bson_tree.specs.Tree.{Tree, Items, no_items, item, kids_of}
 use Rattle.encrypt_schema.specs.declared.schema.policy.Algorithm.{Algorithm}
 use Rattle.encrypt_schema.specs.declared.schema.policy.Algorithm.TheVariants.{Deterministic, Random}
 use Rattle.encrypt_schema.specs.Language.Names.{named}
-use Rattle.encrypt_schema.specs.Language.Values.{is_string, text_of}
+use Rattle.encrypt_schema.specs.Language.Values.{is_string_value, text_value}
 
 -- BSON 1.1: the types that a rule can name; undefined, null, minKey and maxKey can't be protected
 abbrev pub type_names : List (List ℕ × ℕ)
@@ -40,7 +40,7 @@ type_byte name = byte_in name type_names
 
 -- the type that a string names
 abbrev pub type_named : Tree → Option ℕ
-type_named t = option_and_then type_byte (text_of t)
+type_named t = option_and_then type_byte (text_value t)
 
 -- a type in front of others
 abbrev pub with_type : Option ℕ → Option (List ℕ) → Option (List ℕ)
@@ -55,11 +55,11 @@ types_in (item name t is) = with_type (type_named t) (types_in is)
 
 -- the types that `bsonType` names: one string, or an array of them
 abbrev pub types_named : Tree → Option (List ℕ)
-types_named t = if is_string t then with_type (type_named t) (Some []) else types_in (kids_of t)
+types_named t = if is_string_value t then with_type (type_named t) (Some []) else types_in (kids_of t)
 
 -- every type that can be protected
 abbrev pub every_type : List ℕ
-every_type = 1 ∷ 2 ∷ 3 ∷ 4 ∷ 5 ∷ 7 ∷ 8 ∷ 9 ∷ 11 ∷ 12 ∷ 13 ∷ 14 ∷ 15 ∷ 16 ∷ 17 ∷ 18 ∷ 19 ∷ []
+every_type = map (λ row. row.1) type_names
 
 -- the types that the deterministic algorithm can protect: not double, object, array, bool, javascriptWithScope and decimal
 abbrev pub comparable_types : List ℕ

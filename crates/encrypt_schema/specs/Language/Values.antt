@@ -19,17 +19,17 @@ abbrev pub are_distinct : Items → Bool
 are_distinct is = distinct_behind [] is
 
 -- the types that are looked at: string (02), document (03), array (04), bool (08)
-abbrev pub is_string : Tree → Bool
-is_string t = tag_of t == 2
+abbrev pub is_string_value : Tree → Bool
+is_string_value t = tag_of t == 2
 
-abbrev pub is_document : Tree → Bool
-is_document t = tag_of t == 3
+abbrev pub is_document_value : Tree → Bool
+is_document_value t = tag_of t == 3
 
-abbrev pub is_array : Tree → Bool
-is_array t = tag_of t == 4
+abbrev pub is_array_value : Tree → Bool
+is_array_value t = tag_of t == 4
 
-abbrev pub is_bool : Tree → Bool
-is_bool t = tag_of t == 8
+abbrev pub is_bool_value : Tree → Bool
+is_bool_value t = tag_of t == 8
 
 -- the test holds of each value
 abbrev pub all_values : (Tree → Bool) → Items → Bool
@@ -38,15 +38,15 @@ all_values test (item name t is) = test t && all_values test is
 
 -- an array of values of which the test holds
 abbrev pub is_array_of : (Tree → Bool) → Tree → Bool
-is_array_of test t = is_array t && all_values test (kids_of t)
+is_array_of test t = is_array_value t && all_values test (kids_of t)
 
 -- the text of a string: its bytes are the length in four bytes, the text, and 00
-abbrev pub text_in : List ℕ → List ℕ
-text_in bytes = take (length bytes - 5) (drop 4 bytes)
+abbrev pub text_of : List ℕ → List ℕ
+text_of bytes = take (length bytes - 5) (drop 4 bytes)
 
 -- only a string has a text
-abbrev pub text_of : Tree → Option (List ℕ)
-text_of t = if is_string t then Some (text_in (value_bytes t)) else None
+abbrev pub text_value : Tree → Option (List ℕ)
+text_value t = if is_string_value t then Some (text_of (value_bytes t)) else None
 
 -- the 16 bytes of a UUID: a binary of subtype 04, whose bytes are the length in four bytes, the subtype, and 16 bytes
 abbrev pub uuid_of : Tree → Option (List ℕ)

@@ -6,8 +6,10 @@ ghost use Rattle.encrypt_schema.specs.Language.Names.{is_among};
 ghost use Rattle.encrypt_schema.specs.Commands.Offences.{ruled_offence};
 ghost use Rattle.encrypt_schema.specs.Language.Row.{Row};
 ghost use Rattle.encrypt_schema.specs.Commands.Stations.{Station, has_role, station};
-ghost use Rattle.encrypt_schema.specs.Commands.Visits.{Visit, entry, first_refusal, mark, mark_at, marks, names_of, ruled_of, visits, visits_in};
-ghost use Rattle.encrypt_schema.specs.Views.Walking.{Begins, MarksPlaces, StandsNext, Told, element_visit, element_visits, station_next};
+ghost use Rattle.encrypt_schema.specs.Commands.Visits.{Visit, entry, first_refusal, mark, mark_at, marks};
+ghost use Rattle.encrypt_schema.specs.Commands.Visits.{names_of, ruled_of, visits, visits_in};
+ghost use Rattle.encrypt_schema.specs.Views.Walking.{Begins, MarksPlaces, StandsNext, Told};
+ghost use Rattle.encrypt_schema.specs.Views.Walking.{element_visit, element_visits, station_next};
 
 use crate::command::marks::{Mark, MarkFault, Marks, Role};
 use crate::command::reason::Reason;
@@ -49,10 +51,13 @@ pub trait Place: Copy {
         item: &RawItem<'_>,
     ) -> Result<Next<Self>, Reason>
         requires stands { stands self rows.now }
-        ensures station { IfOk result (λ next. station_next station_by rows.now next ≡ station rows.now (station_by self rows.now) (entry item.now.name item.now.tree)) }
+        ensures station { IfOk result (λ next. station_next station_by rows.now next
+            ≡ station rows.now (station_by self rows.now) (entry item.now.name item.now.tree)) }
         ensures stands { IfOk result (StandsNext stands rows.now) }
-        ensures clean { IfOk result (λ _. None ≡ ruled_offence rows.now (station_by self rows.now) (take k (names_of document.now.tree)) (entry item.now.name item.now.tree)) }
-        ensures refused { IfErr result (λ reason. Some reason ≡ ruled_offence rows.now (station_by self rows.now) (take k (names_of document.now.tree)) (entry item.now.name item.now.tree)) };
+        ensures clean { IfOk result (λ _. None ≡ ruled_offence rows.now (station_by self rows.now)
+            (take k (names_of document.now.tree)) (entry item.now.name item.now.tree)) }
+        ensures refused { IfErr result (λ reason. Some reason ≡ ruled_offence rows.now (station_by self rows.now)
+            (take k (names_of document.now.tree)) (entry item.now.name item.now.tree)) };
 
     /// What is judged element by element is no protected value itself.
     ghost unprotected: { (place : Self) (rows : List Row) → has_role (station_by place rows) ≡ false };
@@ -89,7 +94,8 @@ pub fn has_name(document: &RawDoc<'_>, name: &[u8]) -> bool
 
 /// Adds the mark of a value that has this role under the rule of this number.
 fn add(marks: &mut Marks, policy: u32, role: Role, item: &RawItem<'_>) -> Result<(), MarkFault>
-    ensures marked { (v : Visit) → v.entry ≡ entry item.now.name item.now.tree → v.start ≡ item.now.start → v.width ≡ length (value_bytes item.now.tree)
+    ensures marked { (v : Visit) → v.entry ≡ entry item.now.name item.now.tree → v.start ≡ item.now.start
+        → v.width ≡ length (value_bytes item.now.tree)
         → Told (mark v policy role ∷ []) None marks.old marks.new result }
     ensures kept { Begins marks.old marks.new }
 {
@@ -118,7 +124,9 @@ pub fn mark_elements<P: Place>(
     document: &RawDoc<'_>,
 ) -> Result<(), MarkFault>
     requires stands { P.stands at rows.now }
-    ensures marked { MarksPlaces rows.now (visits rows.now (P.station_by at rows.now) (document.now.start + 4) [] document.now.tree) marks.old marks.new result }
+    ensures marked { MarksPlaces rows.now
+        (visits rows.now (P.station_by at rows.now) (document.now.start + 4) [] document.now.tree)
+        marks.old marks.new result }
     ensures kept { Begins marks.old marks.new }
 {
     let mut k = 0;
@@ -144,7 +152,9 @@ fn mark_element<P: Place>(
     item: &RawItem<'_>,
 ) -> Result<(), MarkFault>
     requires stands { P.stands at rows.now }
-    ensures marked { MarksPlaces rows.now (element_visits rows.now (P.station_by at rows.now) (take k (names_of document.now.tree)) item.now) marks.old marks.new result }
+    ensures marked { MarksPlaces rows.now
+        (element_visits rows.now (P.station_by at rows.now) (take k (names_of document.now.tree)) item.now)
+        marks.old marks.new result }
     ensures kept { Begins marks.old marks.new }
 {
     let _ = item.value();
@@ -170,7 +180,8 @@ fn mark_inside<P: Place>(
     item: &RawItem<'_>,
 ) -> Result<(), MarkFault>
     requires stands { P.stands at rows.now }
-    ensures marked { MarksPlaces rows.now (visits_in rows.now (P.station_by at rows.now) item.now.start item.now.tree) marks.old marks.new result }
+    ensures marked { MarksPlaces rows.now (visits_in rows.now (P.station_by at rows.now) item.now.start item.now.tree)
+        marks.old marks.new result }
     ensures kept { Begins marks.old marks.new }
 {
     match item.child() {

@@ -3,7 +3,7 @@
 ghost use Rattle.std.specs.Prelude.{◌≡◌, ◌<◌, ◌++◌, ◌∷◌, [], ℕ, List, length, true, IfSome};
 ghost use Rattle.encrypt_schema.specs.Paths.Classes.{class, class_by};
 ghost use Rattle.encrypt_schema.specs.Views.Cursors.{Stands, path_of};
-ghost use Rattle.encrypt_schema.specs.Views.Places.{landed};
+ghost use Rattle.encrypt_schema.specs.Views.Landing.{landed};
 ghost use Rattle.encrypt_schema.specs.Views.Spots.{child_at, rule_at};
 
 use crate::path::class::Class;
@@ -13,12 +13,12 @@ use crate::path::spots::{Spot, child_of, rule_of};
 /// Stands for a path, a list of names, among the rules of one schema.
 #[derive(Clone, Copy, Debug, PartialEq, Eq)]
 pub struct Cursor {
-    place: Place,
+    reach: Reach,
 }
 
 /// Where a path is.
 #[derive(Clone, Copy, Debug, PartialEq, Eq)]
-enum Place {
+enum Reach {
     /// On a front of a rule's path, by its number; the flag tells whether a rule's path is a prefix of it.
     Front(u32, bool),
     /// On no front, and a rule's path is a prefix of it.
@@ -35,12 +35,12 @@ impl Rows {
     {
         if self.rules.is_empty() {
             return Cursor {
-                place: Place::Clear,
+                reach: Reach::Clear,
             };
         }
         let covered = rule_of(&self.spots, 0).is_some();
         Cursor {
-            place: Place::Front(0, covered),
+            reach: Reach::Front(0, covered),
         }
     }
 
@@ -49,12 +49,12 @@ impl Rows {
         requires cursor { (path : List (List ℕ)) × Stands self.now at path }
         ensures steps { (path : List (List ℕ)) → Stands self.now at path → Stands self.now result (path ++ name.now ∷ []) }
     {
-        match at.place {
-            Place::Front(number, covered) => Cursor {
-                place: land(&self.spots, number, covered, name),
+        match at.reach {
+            Reach::Front(number, covered) => Cursor {
+                reach: land(&self.spots, number, covered, name),
             },
-            Place::Below => at,
-            Place::Clear => at,
+            Reach::Below => at,
+            Reach::Clear => at,
         }
     }
 
@@ -63,24 +63,24 @@ impl Rows {
         requires cursor { (path : List (List ℕ)) × Stands self.now at path }
         ensures class { (path : List (List ℕ)) → Stands self.now at path → result ≡ class self.now path }
     {
-        match at.place {
-            Place::Front(number, covered) => class_at(&self.spots, number, covered),
-            Place::Below => Class::Below,
-            Place::Clear => Class::Clear,
+        match at.reach {
+            Reach::Front(number, covered) => class_at(&self.spots, number, covered),
+            Reach::Below => Class::Below,
+            Reach::Clear => Class::Clear,
         }
     }
 }
 
 /// Where a name leads from a front.
-fn land(spots: &Vec<Spot>, number: u32, covered: bool, name: &[u8]) -> Place
+fn land(spots: &Vec<Spot>, number: u32, covered: bool, name: &[u8]) -> Reach
     requires inside { number < length spots.now.items }
     requires child { IfSome (child_at spots.now.items number name.now) (λ n. n < length spots.now.items) }
     ensures landed { result ≡ landed covered (child_at spots.now.items number name.now) (rule_at spots.now.items) }
 {
     match child_of(spots, number, name) {
-        Some(n) => Place::Front(n, covered || rule_of(spots, n).is_some()),
-        None if covered => Place::Below,
-        None => Place::Clear,
+        Some(n) => Reach::Front(n, covered || rule_of(spots, n).is_some()),
+        None if covered => Reach::Below,
+        None => Reach::Clear,
     }
 }
 

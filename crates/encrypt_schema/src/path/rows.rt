@@ -11,9 +11,6 @@ use fle_outside::Memory;
 use std::alloc::Global;
 use std::marker::Model;
 
-/// More names than the path of a rule has: BSON documents nest at most 100 levels deep.
-const MOST_NAMES: usize = 100;
-
 /// A rule in memory.
 #[derive(Drop)]
 pub(crate) struct Rule {
@@ -55,8 +52,8 @@ impl Rows {
         })
     }
 
-    /// Adds a rule behind the others. After `Memory` no rule is left; it comes for want of memory, and for a path of
-    /// more than 100 names, for which no document has the levels.
+    /// Adds a rule behind the others; its path has at most 100 names, as many as a document has levels. After
+    /// `Memory` no rule is left.
     pub(crate) fn add(
         &mut self,
         alloc: Global,
@@ -64,6 +61,7 @@ impl Rows {
         policy: Policy,
     ) -> Result<(), Memory>
         requires room { length self.old < 4096 }
+        requires short { length path.now ≤ 100 }
         ensures added { OnOk result (self.new ≡ self.old ++ record { path = names path.now; policy = policy } ∷ []) }
         ensures emptied { OnErr result (self.new ≡ []) }
     {
@@ -106,13 +104,11 @@ fn put_row(
 ) -> Result<(), Memory>
     requires grid { IsGrid spots.old.items rules.old.items }
     requires room { length rules.old.items < 4096 }
+    requires short { length path.now ≤ 100 }
     ensures grid { OnOk result (IsGrid spots.new.items rules.new.items) }
     ensures added { OnOk result (grid_rows spots.new.items rules.new.items ≡ grid_rows spots.old.items rules.old.items ++ record { path = names path.now; policy = policy } ∷ []) }
     ensures root { 0 < length spots.new.items }
 {
-    if path.len() > MOST_NAMES {
-        return Err(Memory);
-    }
     let at = reach(alloc, spots, path)?;
     let n = rules.len() as u32;
     if rules.push(Rule { spot: at, policy }).is_err() {

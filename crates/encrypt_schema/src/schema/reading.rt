@@ -1,12 +1,13 @@
 //! The rules of a schema, read from it and its subschemas in order.
 
-ghost use Rattle.std.specs.Prelude.{◌≡◌, ◌==◌, ◌++◌, List, ℕ, OnOk, if◌then◌else◌};
+ghost use Rattle.std.specs.Prelude.{◌≡◌, ◌≤◌, ◌==◌, ◌++◌, List, ℕ, OnOk, length, if◌then◌else◌};
 ghost use Rattle.std.specs.List.{list_any};
 ghost use Rattle.bson_tree.specs.Tree.{tag_of};
 ghost use Rattle.encrypt_schema.specs.Language.Rules.{is_plain, are_plain, row_of};
 ghost use Rattle.encrypt_schema.specs.Language.Schemas.{Gives, at, enter, events, events_in, part_by, part_of, row_event, run, schema, schemas, schema_rows, with_row};
 ghost use Rattle.encrypt_schema.specs.declared.schema.context.Part.TheVariants as parts;
 ghost use Rattle.encrypt_schema.specs.Views.Borrowed.{names};
+ghost use Rattle.encrypt_schema.specs.Views.Levels.{HasRoom, HasRoomBelow};
 ghost use Rattle.encrypt_schema.specs.Views.Seen.{context_at, part_at, path_below};
 
 use crate::path::rows::Rows;
@@ -92,6 +93,7 @@ fn add_row(
     context: Context,
     schema: &RawDoc<'_>,
 ) -> Result<(), SchemaFault>
+    requires short { length path.now ≤ 100 }
     ensures { Gives (λ _. rows.new) result (with_row rows.old (row_of (context_at (names path.now) context) schema.now.tree)) }
 {
     let policy = policy_of(alloc, path, context, schema)?;
@@ -110,6 +112,7 @@ fn add_row_of(
     context: Context,
     schema: &RawDoc<'_>,
 ) -> Result<(), SchemaFault>
+    requires short { length path.now ≤ 100 }
     ensures { Gives (λ _. rows.new) result (run rows.old (row_event (context_at (names path.now) context) schema.now.tree)) }
 {
     if states_encrypt(schema) {
@@ -171,6 +174,7 @@ fn read_document<'a>(
     part: Part,
     document: &RawDoc<'a>,
 ) -> Result<(), SchemaFault>
+    requires levels { HasRoom (length path.old.items) document.now.tree }
     ensures rows { Gives (λ _. rows.new) result (run rows.old (at (part_at (names path.old.items) part) document.now.tree ++ events_in (enter (part_at (names path.old.items) part) document.now.tree) document.now.tree)) }
     ensures path { OnOk result (path.new.items ≡ path.old.items) }
 {
@@ -190,6 +194,7 @@ fn read_subschema<'a>(
     context: Context,
     schema: &RawDoc<'a>,
 ) -> Result<(), SchemaFault>
+    requires levels { HasRoom (length path.old.items) schema.now.tree }
     ensures rows { Gives (λ _. rows.new) result (run rows.old (at (part_at (names path.old.items) (parts.Schema context)) schema.now.tree ++ events_in (enter (part_at (names path.old.items) (parts.Schema context)) schema.now.tree) schema.now.tree)) }
     ensures path { OnOk result (path.new.items ≡ path.old.items) }
 {
@@ -207,6 +212,7 @@ fn read_values<'a>(
     part: Part,
     document: &RawDoc<'a>,
 ) -> Result<(), SchemaFault>
+    requires levels { HasRoom (length path.old.items) document.now.tree }
     ensures rows { Gives (λ _. rows.new) result (run rows.old (events_in (part_at (names path.old.items) part) document.now.tree)) }
     ensures path { OnOk result (path.new.items ≡ path.old.items) }
 {
@@ -228,6 +234,7 @@ fn read_value<'a>(
     part: Part,
     item: &RawItem<'a>,
 ) -> Result<(), SchemaFault>
+    requires levels { HasRoomBelow (length path.old.items) item.now.tree }
     ensures rows { Gives (λ _. rows.new) result (run rows.old (events (part_of (part_at (names path.old.items) part) item.now.name (tag_of item.now.tree)) item.now.tree)) }
     ensures path { OnOk result (path.new.items ≡ path.old.items) }
 {
@@ -255,6 +262,7 @@ impl Rows {
     pub fn read(alloc: Global, schema: &RawDoc<'_>) -> Result<Rows, SchemaFault>
         ensures read { Gives (λ r. r) result (schema_rows schema.now.tree) }
     {
+        let _ = schema.bytes();
         let mut rows = Rows::empty(alloc)?;
         let mut path = Vec::new(alloc);
         read_document(alloc, &mut rows, &mut path, Part::root(), schema)?;

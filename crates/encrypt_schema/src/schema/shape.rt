@@ -3,7 +3,7 @@
 ghost use Rattle.std.specs.Prelude.{◌≡◌, ◌&&◌, is_some, codes, IfOk};
 ghost use Rattle.encrypt_schema.specs.Language.Names.{named};
 ghost use Rattle.encrypt_schema.specs.Language.Shapes.{key_of, has_no_items, is_types, is_setting, all_settings, are_settings, are_schemas, fits};
-ghost use Rattle.encrypt_schema.specs.Language.Values.{is_document, is_array_of};
+ghost use Rattle.encrypt_schema.specs.Language.Values.{is_document_value, is_array_of};
 
 use crate::schema::distinct::are_distinct;
 use crate::schema::keyword::Form;
@@ -54,7 +54,7 @@ fn are_schemas(alloc: Global, item: &RawItem<'_>) -> Result<bool, Memory>
 
 /// Whether the value is an array of documents.
 fn is_array_of_documents(item: &RawItem<'_>) -> bool
-    ensures { result ≡ is_array_of is_document item.now.tree }
+    ensures { result ≡ is_array_of is_document_value item.now.tree }
 {
     if !is_array(item) {
         return false;

@@ -1,7 +1,7 @@
 //! The fields of a checked document by name, and values of some types.
 
 ghost use Rattle.std.specs.Prelude.{◌≡◌, option_copied, option_map, IfOk};
-ghost use Rattle.encrypt_schema.specs.Language.Values.{find, are_distinct, is_string, is_document, is_array, is_bool, all_values, text_of, uuid_of, single};
+ghost use Rattle.encrypt_schema.specs.Language.Values.{find, are_distinct, is_string_value, is_document_value, is_array_value, is_bool_value, all_values, text_value, uuid_of, single};
 
 use crate::schema::names::is_named;
 use bson_codec::{RawDoc, RawItem};
@@ -22,35 +22,35 @@ pub(crate) fn find<'a>(document: &RawDoc<'a>, word: &[u8]) -> Option<RawItem<'a>
 
 /// Whether the value is a string.
 pub(crate) fn is_string(item: &RawItem<'_>) -> bool
-    ensures { result ≡ is_string item.now.tree }
+    ensures { result ≡ is_string_value item.now.tree }
 {
     item.tag() == types::STRING
 }
 
 /// Whether the value is a document.
 pub(crate) fn is_document(item: &RawItem<'_>) -> bool
-    ensures { result ≡ is_document item.now.tree }
+    ensures { result ≡ is_document_value item.now.tree }
 {
     item.tag() == types::DOCUMENT
 }
 
 /// Whether the value is an array.
 pub(crate) fn is_array(item: &RawItem<'_>) -> bool
-    ensures { result ≡ is_array item.now.tree }
+    ensures { result ≡ is_array_value item.now.tree }
 {
     item.tag() == types::ARRAY
 }
 
 /// Whether the value is a bool.
 pub(crate) fn is_bool(item: &RawItem<'_>) -> bool
-    ensures { result ≡ is_bool item.now.tree }
+    ensures { result ≡ is_bool_value item.now.tree }
 {
     item.tag() == types::BOOL
 }
 
 /// Whether each value is a document.
 pub(crate) fn are_documents(document: &RawDoc<'_>) -> bool
-    ensures { result ≡ all_values is_document document.now.tree }
+    ensures { result ≡ all_values is_document_value document.now.tree }
 {
     for item in document.items() {
         if !is_document(&item) {
@@ -62,7 +62,7 @@ pub(crate) fn are_documents(document: &RawDoc<'_>) -> bool
 
 /// Whether each value is a string.
 pub(crate) fn are_strings(document: &RawDoc<'_>) -> bool
-    ensures { result ≡ all_values is_string document.now.tree }
+    ensures { result ≡ all_values is_string_value document.now.tree }
 {
     for item in document.items() {
         if !is_string(&item) {
@@ -75,7 +75,7 @@ pub(crate) fn are_strings(document: &RawDoc<'_>) -> bool
 /// The text of a string.
 #[tactic(auto, using(crate::proofs::Language::Texts::text_found))]
 pub(crate) fn text_of<'a>(item: &RawItem<'a>) -> Option<&'a [u8]>
-    ensures { option_copied result ≡ text_of item.now.tree }
+    ensures { option_copied result ≡ text_value item.now.tree }
 {
     item.text()
 }

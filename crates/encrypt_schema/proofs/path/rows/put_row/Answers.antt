@@ -1,5 +1,5 @@
 -- The path was reached, and its spot has the rule.
-use Rattle.std.proofs.Common.{◌≤◌, ◌≡◌, ◌++◌, ◌∷◌, [], ℕ, List, length, ◌==◌, Bor, arith, sym, ap, subst, ◌∙◌, rules}
+use Rattle.std.proofs.Common.{◌≡◌, ◌++◌, ◌∷◌, [], ℕ, List, length, ◌==◌, Bor, arith, sym, ap, subst, ◌∙◌, rules}
 use Rattle.encrypt_schema.specs.Paths.Classes.{number_of}
 use Rattle.encrypt_schema.specs.Views.Trees.{or_number}
 use Rattle.encrypt_schema.specs.Views.Borrowed.{names}
@@ -25,7 +25,7 @@ number c = search rules
 adds : (c : goal.After-note_rule) → Adds c.args.spots.now.items c.reach.new.spots.items c.note_rule.new.spots.items c.args.rules.now.items (names c.args.path.now) c.in_ok-at.at
 adds c =
     let long : length (names c.args.path.now) ≡ length c.args.path.now = length-map c.args.path.now (λ (name : Bor (List ℕ)). name.now) in
-    let short : length c.args.path.now ≤ 100 = search rules in
+    let short = c.requires.short in
     let most = c.reach.ensures.most in
     record {
       grid = c.requires.grid;
