@@ -1,12 +1,14 @@
 -- The algorithm of the rule of a number.
-use Rattle.std.proofs.Common.{◌≡◌, ℕ, zero, suc, true, List, [], ◌∷◌, Some, None, slice_get, option_map, refl, sym, ap, ◌∙◌}
+use Rattle.std.proofs.Common.{◌≡◌, ℕ, zero, suc, true, List, [], ◌∷◌, Some, None, slice_get, option_map, refl, sym, ap}
+use Rattle.std.proofs.Common.{◌∙◌}
 use Rattle.encrypt_schema.specs.declared.schema.policy.Policy.{Policy}
 use Rattle.encrypt_schema.specs.Language.Row.{Row}
 use Rattle.encrypt_schema.specs.Language.Policies.{policy_at, is_random}
 use Rattle.encrypt_schema.proofs.Language.PolicyAt.{policy_found}
 
 -- that of the rule that is there
-pub random_found : (i : ℕ) (rows : List Row) (policy : Policy) → Some policy ≡ option_map (λ (row : Row). row.policy) (slice_get rows i)
+pub random_found : (i : ℕ) (rows : List Row) (policy : Policy)
+    → Some policy ≡ option_map (λ (row : Row). row.policy) (slice_get rows i)
     → is_random (policy_at i rows).algorithm ≡ is_random policy.algorithm
 random_found i rows policy found = ap (λ (p : Policy). is_random p.algorithm) (policy_found i rows policy (sym found))
 

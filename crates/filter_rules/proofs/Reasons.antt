@@ -1,14 +1,16 @@
 -- What keeps a value from being stored comes before what keeps it from being compared.
 use Rattle.std.proofs.Common.{◌≡◌, Bool, true, false, ◌++◌, Option, Some, None}
 use Rattle.encrypt_schema.specs.declared.command.reason.Reason.{Reason}
-use Rattle.encrypt_schema.specs.declared.command.reason.Reason.TheVariants.{TypeNotAllowed, AlreadyEncrypted, RandomCompared, OperatorOnProtected}
+use Rattle.encrypt_schema.specs.declared.command.reason.Reason.TheVariants.{TypeNotAllowed, AlreadyEncrypted}
+use Rattle.encrypt_schema.specs.declared.command.reason.Reason.TheVariants.{RandomCompared, OperatorOnProtected}
 use Rattle.encrypt_schema.specs.Commands.Offences.{when, least}
 
 -- whether its type isn't allowed, it is a payload, the algorithm is random, it is a regex
 pub stored_first : (type payload random regex : Bool) (reason : Reason)
     → Some reason ≡ least (when type TypeNotAllowed ++ when payload AlreadyEncrypted)
     → Some reason
-    ≡ least (when type TypeNotAllowed ++ when payload AlreadyEncrypted ++ when random RandomCompared ++ when regex OperatorOnProtected)
+    ≡ least (when type TypeNotAllowed ++ when payload AlreadyEncrypted ++ when random RandomCompared
+    ++ when regex OperatorOnProtected)
 stored_first true true true true reason h = h
 stored_first true true true false reason h = h
 stored_first true true false true reason h = h

@@ -1,5 +1,6 @@
 -- The protected places of a command stand apart, and are the holes of its skeleton.
-use Rattle.std.proofs.Common.{◌≡◌, ℕ, ◌+◌, ◌≤◌, Bool, true, false, cond, List, [], ◌∷◌, ◌++◌, length, map, refl, sym, ap, ◌∙◌, subst, arith}
+use Rattle.std.proofs.Common.{◌≡◌, ℕ, ◌+◌, ◌≤◌, Bool, true, false, cond, List, [], ◌∷◌, ◌++◌, length, map, refl, sym}
+use Rattle.std.proofs.Common.{ap, ◌∙◌, subst, arith}
 use Rattle.std.proofs.lemmas.Bool.{false≢true}
 use Rattle.std.proofs.lemmas.List.{map-append, append_assoc}
 use Rattle.bson_tree.specs.Tree.{Tree, leaf, node, Items, no_items, item}
@@ -7,8 +8,10 @@ use Rattle.bson_tree.specs.Spelling.{framed, value_bytes, items_bytes, doc_bytes
 use Rattle.encrypt_schema.specs.declared.command.marks.Mark.{Mark}
 use Rattle.encrypt_schema.specs.Language.Row.{Row}
 use Rattle.encrypt_schema.specs.Commands.Stations.{Station, Outside, Store, Compare, station, has_role}
-use Rattle.encrypt_schema.specs.Commands.Visits.{is_payload, entry, command_entry, Visit, visit, visits, command_visit, mark_at, marks, roles, target_of}
-use Rattle.encrypt_schema.specs.Commands.Skeletons.{hole, plain, branch, skeleton_in, skeletons, skeleton, width_of, holes_in, holes, hole_at, AreApart}
+use Rattle.encrypt_schema.specs.Commands.Visits.{is_payload, entry, command_entry, Visit, visit, visits, command_visit}
+use Rattle.encrypt_schema.specs.Commands.Visits.{mark_at, marks, roles, target_of}
+use Rattle.encrypt_schema.specs.Commands.Skeletons.{hole, plain, branch, skeleton_in, skeletons, skeleton, width_of}
+use Rattle.encrypt_schema.specs.Commands.Skeletons.{holes_in, holes, hole_at, AreApart}
 use Rattle.encrypt_schema.proofs.Commands.Tables.{command_without_role}
 use Rattle.encrypt_schema.proofs.Commands.Widths.{items_length, width_kept}
 use Rattle.bson_tree.proofs.Sizes.{framed_size}
@@ -33,9 +36,11 @@ apart_own : (u : Station) (v : Visit) (inside : List Mark) (from : ℕ) → from
     → (has_role u ≡ true → inside ≡ [])
     → AreApart v.start inside (v.start + v.width) → AreApart from (mark_at u v ++ inside) (v.start + v.width)
 apart_own (Store i) v inside from p q a =
-    subst (λ (ms : List Mark). AreApart from (mark_at (Store i) v ++ ms) (v.start + v.width)) (sym (q refl)) (p, omega arith, omega arith)
+    subst (λ (ms : List Mark). AreApart from (mark_at (Store i) v ++ ms) (v.start + v.width)) (sym (q refl))
+    (p, omega arith, omega arith)
 apart_own (Compare i) v inside from p q a =
-    subst (λ (ms : List Mark). AreApart from (mark_at (Compare i) v ++ ms) (v.start + v.width)) (sym (q refl)) (p, omega arith, omega arith)
+    subst (λ (ms : List Mark). AreApart from (mark_at (Compare i) v ++ ms) (v.start + v.width)) (sym (q refl))
+    (p, omega arith, omega arith)
 apart_own _ v inside from p q a =
     wider from v.start inside (v.start + v.width) (v.start + v.width) (omega (arith, p)) (omega arith) a
 
@@ -51,7 +56,8 @@ apart_node : (rows : List Row) (u : Station) (at : ℕ) (is : Items) (b : Bool)
     → AreApart at (marks rows (cond b [] (shown rows u (at + 4) [] is))) (at + length (framed (items_bytes is)))
 apart_node rows u at is true a = omega arith
 apart_node rows u at is false a =
-    wider at (at + 4) (marks rows (shown rows u (at + 4) [] is)) (at + 4 + length (items_bytes is)) (at + length (framed (items_bytes is)))
+    wider at (at + 4) (marks rows (shown rows u (at + 4) [] is)) (at + 4 + length (items_bytes is))
+    (at + length (framed (items_bytes is)))
     (omega arith) (omega (arith, framed_size (items_bytes is))) a
 
 -- the marks of one element, and of those behind it
@@ -71,13 +77,16 @@ apart_item rows s at elder name t is a b =
     let inside = marks rows (shown_in rows u (at + (2 + length name)) t) in
     let behind = marks rows (shown rows s (at + (2 + length name) + length (value_bytes t)) (elder ++ name ∷ []) is) in
     let own = apart_own u v inside at (omega arith) (none_inside rows u (at + (2 + length name)) t) a in
-    let both = apart_append at (v.start + v.width) (v.start + v.width + length (items_bytes is)) (mark_at u v ++ inside) behind own b in
+    let both = apart_append at (v.start + v.width) (v.start + v.width + length (items_bytes is))
+    (mark_at u v ++ inside) behind own b in
     let list : (mark_at u v ++ inside) ++ behind ≡ marks rows (shown rows s at elder (item name t is))
     = append_assoc (mark_at u v) inside behind
     ∙ ap (λ (ms : List Mark). mark_at u v ++ ms)
-    (sym (marks_append rows (shown_in rows u (at + (2 + length name)) t) (shown rows s (at + (2 + length name) + length (value_bytes t)) (elder ++ name ∷ []) is)))
+    (sym (marks_append rows (shown_in rows u (at + (2 + length name)) t)
+    (shown rows s (at + (2 + length name) + length (value_bytes t)) (elder ++ name ∷ []) is)))
     in
-    let end : v.start + v.width + length (items_bytes is) ≡ at + length (items_bytes (item name t is)) = omega (arith, items_length name t is) in
+    let end : v.start + v.width + length (items_bytes is) ≡ at + length (items_bytes (item name t is)) =
+    omega (arith, items_length name t is) in
     subst (λ (ms : List Mark). AreApart at ms (at + length (items_bytes (item name t is)))) list
     (subst (λ (to : ℕ). AreApart at ((mark_at u v ++ inside) ++ behind) to) end both)
 
@@ -106,7 +115,8 @@ pub roles_shown : (rows : List Row) (at : ℕ) (c : Items)
     → roles rows at c ≡ marks rows (shown rows (station rows Outside (command_entry c)) (at + 4) [] c)
 roles_shown rows at c =
     let s = station rows Outside (command_entry c) in
-    ap (λ (ms : List Mark). ms ++ marks rows (visits rows s (at + 4) [] c)) (command_mark rows c s (command_without_role rows (command_entry c)))
+    ap (λ (ms : List Mark). ms ++ marks rows (visits rows s (at + 4) [] c))
+    (command_mark rows c s (command_without_role rows (command_entry c)))
     ∙ sym (cut (target_of []) rows s (at + 4) [] c (target_quiet [])).marked
 
 -- the protected places of a command stand apart between its length field and its end: in reading order, none
@@ -117,7 +127,8 @@ roles_apart rows at c =
     let s = station rows Outside (command_entry c) in
     let a = apart_among rows s (at + 4) [] c in
     subst (λ (ms : List Mark). AreApart (at + 4) ms (at + length (doc_bytes c))) (sym (roles_shown rows at c))
-    (wider (at + 4) (at + 4) (marks rows (shown rows s (at + 4) [] c)) (at + 4 + length (items_bytes c)) (at + length (doc_bytes c)) (omega arith) (omega (arith, framed_size (items_bytes c))) a)
+    (wider (at + 4) (at + 4) (marks rows (shown rows s (at + 4) [] c)) (at + 4 + length (items_bytes c))
+    (at + length (doc_bytes c)) (omega arith) (omega (arith, framed_size (items_bytes c))) a)
 
 -- a value's own hole, or the holes inside it
 
@@ -140,7 +151,8 @@ hole_node rows _ v tag width is p q h = h
 -- the marks of one element: its own, or those inside it
 abbrev pub own_marks : List Row → Station → List (List ℕ) → ℕ → List ℕ → Tree → List Mark
 own_marks rows s elder at name t =
-    mark_at (station rows s (entry name t)) (visit s elder at name t) ++ marks rows (shown_in rows (station rows s (entry name t)) (at + (2 + length name)) t)
+    mark_at (station rows s (entry name t)) (visit s elder at name t)
+    ++ marks rows (shown_in rows (station rows s (entry name t)) (at + (2 + length name)) t)
 
 holes_item : (rows : List Row) (s : Station) (at : ℕ) (elder : List (List ℕ)) (name : List ℕ) (t : Tree) (is : Items)
     → holes_in (at + (2 + length name)) (skeleton_in rows (station rows s (entry name t)) t)
@@ -156,13 +168,19 @@ holes_item rows s at elder name t is a b =
     let inside = shown_in rows u (at + (2 + length name)) t in
     let rest = shown rows s (at + (2 + length name) + length (value_bytes t)) (elder ++ name ∷ []) is in
     let w : width_of k ≡ length (value_bytes t) = width_kept rows u t in
-    let c : holes at (skeletons rows s (item name t is)) ≡ holes_in (at + (2 + length name)) k ++ holes (at + (2 + length name) + length (value_bytes t)) (skeletons rows s is)
-    = ap (λ (n : ℕ). holes_in (at + (2 + length name)) k ++ holes (at + (2 + length name) + n) (skeletons rows s is)) w in
+    let c : holes at (skeletons rows s (item name t is))
+    ≡ holes_in (at + (2 + length name)) k ++ holes (at + (2 + length name) + length (value_bytes t))
+    (skeletons rows s is)
+    = ap (λ (n : ℕ). holes_in (at + (2 + length name)) k ++ holes (at + (2 + length name) + n) (skeletons rows s is)) w
+    in
     let d : marks rows (shown rows s at elder (item name t is)) ≡ (mark_at u v ++ marks rows inside) ++ marks rows rest
-    = ap (λ (ms : List Mark). mark_at u v ++ ms) (marks_append rows inside rest) ∙ sym (append_assoc (mark_at u v) (marks rows inside) (marks rows rest)) in
-    let e : map hole_at ((mark_at u v ++ marks rows inside) ++ marks rows rest) ≡ map hole_at (mark_at u v ++ marks rows inside) ++ map hole_at (marks rows rest)
+    = ap (λ (ms : List Mark). mark_at u v ++ ms) (marks_append rows inside rest)
+    ∙ sym (append_assoc (mark_at u v) (marks rows inside) (marks rows rest)) in
+    let e : map hole_at ((mark_at u v ++ marks rows inside) ++ marks rows rest)
+    ≡ map hole_at (mark_at u v ++ marks rows inside) ++ map hole_at (marks rows rest)
     = map-append hole_at (mark_at u v ++ marks rows inside) (marks rows rest) in
-    let f : map hole_at (marks rows (shown rows s at elder (item name t is))) ≡ map hole_at ((mark_at u v ++ marks rows inside) ++ marks rows rest) = ap (map hole_at) d in
+    let f : map hole_at (marks rows (shown rows s at elder (item name t is)))
+    ≡ map hole_at ((mark_at u v ++ marks rows inside) ++ marks rows rest) = ap (map hole_at) d in
     cc
 
 mutual
@@ -170,9 +188,11 @@ mutual
       → holes_in (at + (2 + length name)) (skeleton_in rows (station rows s (entry name t)) t)
       ≡ map hole_at (own_marks rows s elder at name t)
   holes_own rows s at elder name (leaf tag bytes) =
-      hole_leaf (station rows s (entry name (leaf tag bytes))) (visit s elder at name (leaf tag bytes)) tag bytes refl refl
+      hole_leaf (station rows s (entry name (leaf tag bytes)))
+      (visit s elder at name (leaf tag bytes)) tag bytes refl refl
   holes_own rows s at elder name (node tag is) =
-      hole_node rows (station rows s (entry name (node tag is))) (visit s elder at name (node tag is)) tag (length (value_bytes (node tag is))) is refl refl
+      hole_node rows (station rows s (entry name (node tag is))) (visit s elder at name (node tag is)) tag
+      (length (value_bytes (node tag is))) is refl refl
       (holes_among rows (station rows s (entry name (node tag is))) (at + (2 + length name) + 4) [] is)
 
   holes_among : (rows : List Row) (s : Station) (at : ℕ) (elder : List (List ℕ)) (is : Items)
@@ -187,4 +207,5 @@ mutual
 pub holes_are_roles : (rows : List Row) (at : ℕ) (c : Items)
     → holes (at + 4) (skeleton rows c) ≡ map hole_at (roles rows at c)
 holes_are_roles rows at c =
-    holes_among rows (station rows Outside (command_entry c)) (at + 4) [] c ∙ ap (map hole_at) (sym (roles_shown rows at c))
+    holes_among rows (station rows Outside (command_entry c)) (at + 4) [] c
+    ∙ ap (map hole_at) (sym (roles_shown rows at c))

@@ -1,5 +1,6 @@
 -- The places of a command, each read from its chain, are its places in reading order.
-use Rattle.std.proofs.Common.{◌≡◌, ℕ, zero, suc, ◌+◌, List, [], ◌∷◌, ◌++◌, length, map, Option, Some, None, Bool, true, false, refl, sym, ap, ap₂, ◌∙◌, add-one}
+use Rattle.std.proofs.Common.{◌≡◌, ℕ, zero, suc, ◌+◌, List, [], ◌∷◌, ◌++◌, length, map, Option, Some, None, Bool, true}
+use Rattle.std.proofs.Common.{false, refl, sym, ap, ap₂, ◌∙◌, add-one}
 use Rattle.std.specs.Prelude.{unwrap_or, option_map, option_and_then, flat_map}
 use Rattle.std.specs.Option.{option_map_or}
 use Rattle.std.proofs.lemmas.Bool.{false≢true}
@@ -15,8 +16,14 @@ use Rattle.encrypt_schema.specs.Language.Row.{Row}
 use Rattle.encrypt_schema.specs.Language.Collection.{Collection}
 use Rattle.encrypt_schema.specs.Commands.Offences.{offence}
 use Rattle.encrypt_schema.specs.Commands.Stations.{Station, Outside, station}
-use Rattle.encrypt_schema.specs.Commands.Visits.{Refusal, refused_at, or_else, first_refusal, verdict_on, target_of, view_of, content_of, entry, command_entry, Visit, visit, visits_in, visits, command_visit, command_visits, station_of, mark_at, marks, roles}
-use Rattle.encrypt_schema.specs.Commands.Chains.{Link, Chain, onward, link, chain, chain_from, station_along, offence_along, station_at, offence_at, width_at, visit_along, start_at, visit_at, mark_of, refusal_at, first_of, first_refusal_at, verdict_at, chain_inside, part_visit_at, part_station_at, part_offence_at}
+use Rattle.encrypt_schema.specs.Commands.Visits.{Refusal, refused_at, or_else, first_refusal, verdict_on, target_of}
+use Rattle.encrypt_schema.specs.Commands.Visits.{view_of, content_of, entry, command_entry, Visit, visit, visits_in}
+use Rattle.encrypt_schema.specs.Commands.Visits.{visits, command_visit, command_visits, station_of, mark_at, marks}
+use Rattle.encrypt_schema.specs.Commands.Visits.{roles}
+use Rattle.encrypt_schema.specs.Commands.Chains.{Link, Chain, onward, link, chain, chain_from, station_along}
+use Rattle.encrypt_schema.specs.Commands.Chains.{offence_along, station_at, offence_at, width_at, visit_along, start_at}
+use Rattle.encrypt_schema.specs.Commands.Chains.{visit_at, mark_of, refusal_at, first_of, first_refusal_at, verdict_at}
+use Rattle.encrypt_schema.specs.Commands.Chains.{chain_inside, part_visit_at, part_station_at, part_offence_at}
 
 -- a place below elements, with what it is carried down
 abbrev mutual
@@ -57,13 +64,15 @@ map_same {B = B} f g (x ∷ xs) e =
 pub places_next : (i : ℕ) (is : Items) → places_from (i + 1) is ≡ map next (places_from i is)
 places_next i no_items = refl
 places_next i (item name t is) =
-    let a : map (λ (p : List ℕ). (i + 1) ∷ p) (places_in t) ≡ map next (map (λ (p : List ℕ). i ∷ p) (places_in t)) = sym (map-map next (λ (p : List ℕ). i ∷ p) (places_in t)) in
+    let a : map (λ (p : List ℕ). (i + 1) ∷ p) (places_in t) ≡ map next (map (λ (p : List ℕ). i ∷ p) (places_in t)) =
+    sym (map-map next (λ (p : List ℕ). i ∷ p) (places_in t)) in
     let b = places_next (i + 1) is in
     let c = map-append next (map (λ (p : List ℕ). i ∷ p) (places_in t)) (places_from (i + 1) is) in
     cc
 
 -- the next sibling's place among elements is the place among those behind the first
-pub below_next : (o : Option Visit) (rows : List Row) (s : Station) (at : ℕ) (elder : List (List ℕ)) (name : List ℕ) (t : Tree) (is : Items) (place : List ℕ)
+pub below_next : (o : Option Visit) (rows : List Row) (s : Station) (at : ℕ) (elder : List (List ℕ)) (name : List ℕ)
+    (t : Tree) (is : Items) (place : List ℕ)
     → visit_below o rows s at elder (item name t is) (next place)
     ≡ visit_below o rows s (at + (2 + length name) + length (value_bytes t)) (elder ++ name ∷ []) is place
 below_next o rows s at elder name t is [] = refl
@@ -71,10 +80,13 @@ below_next o rows s at elder name t is (i ∷ place) =
     ap (λ (n : ℕ). visit_from rows s at elder n place (item name t is)) (add-one i)
 
 -- the places in one element, and those in the elements behind it
-by_item : (o : Option Visit) (rows : List Row) (s : Station) (at : ℕ) (elder : List (List ℕ)) (name : List ℕ) (t : Tree) (is : Items)
+by_item : (o : Option Visit) (rows : List Row) (s : Station) (at : ℕ) (elder : List (List ℕ)) (name : List ℕ) (t : Tree)
+    (is : Items)
     → map (λ (p : List ℕ). visit_from rows s at elder 0 p (item name t is)) (places_in t)
-    ≡ Some (visit s elder at name t) ∷ map Some (visits_in rows (station rows s (entry name t)) (at + (2 + length name)) t)
-    → map (visit_below o rows s (at + (2 + length name) + length (value_bytes t)) (elder ++ name ∷ []) is) (places_from 0 is)
+    ≡ Some (visit s elder at name t) ∷ map Some (visits_in rows (station rows s (entry name t))
+    (at + (2 + length name)) t)
+    → map (visit_below o rows s (at + (2 + length name) + length (value_bytes t)) (elder ++ name ∷ []) is)
+    (places_from 0 is)
     ≡ map Some (visits rows s (at + (2 + length name) + length (value_bytes t)) (elder ++ name ∷ []) is)
     → map (visit_below o rows s at elder (item name t is)) (places_from 0 (item name t is))
     ≡ map Some (visits rows s at elder (item name t is))
@@ -90,7 +102,8 @@ by_item o rows s at elder name t is inside behind =
     let e : map (λ (p : List ℕ). f (next p)) (places_from 0 is) ≡ map g (places_from 0 is)
     = map_same (λ (p : List ℕ). f (next p)) g (places_from 0 is) (below_next o rows s at elder name t is) in
     let h = map-append (λ (v : Visit). Some v) within after in
-    let left : map f (map (λ (p : List ℕ). 0 ∷ p) (places_in t)) ≡ Some (visit s elder at name t) ∷ map Some within = b ∙ inside in
+    let left : map f (map (λ (p : List ℕ). 0 ∷ p) (places_in t)) ≡ Some (visit s elder at name t) ∷ map Some within =
+    b ∙ inside in
     let right : map f (places_from 1 is) ≡ map Some after = c ∙ (d ∙ (e ∙ behind)) in
     a
     ∙ (ap (λ (xs : List (Option Visit)). xs ++ map f (places_from 1 is)) left
@@ -98,10 +111,12 @@ by_item o rows s at elder name t is inside behind =
     ∙ ap (λ (ys : List (Option Visit)). Some (visit s elder at name t) ∷ ys) (sym h)))
 
 within_node : (rows : List Row) (s : Station) (at : ℕ) (elder : List (List ℕ)) (name : List ℕ) (tag : ℕ) (js is : Items)
-    → map (visit_below (Some (visit s elder at name (node tag js))) rows (station rows s (entry name (node tag js))) (at + (2 + length name) + 4) [] js) (places_from 0 js)
+    → map (visit_below (Some (visit s elder at name (node tag js))) rows (station rows s (entry name (node tag js)))
+    (at + (2 + length name) + 4) [] js) (places_from 0 js)
     ≡ map Some (visits rows (station rows s (entry name (node tag js))) (at + (2 + length name) + 4) [] js)
     → map (λ (p : List ℕ). visit_from rows s at elder 0 p (item name (node tag js) is)) (places_in (node tag js))
-    ≡ Some (visit s elder at name (node tag js)) ∷ map Some (visits_in rows (station rows s (entry name (node tag js))) (at + (2 + length name)) (node tag js))
+    ≡ Some (visit s elder at name (node tag js)) ∷ map Some
+    (visits_in rows (station rows s (entry name (node tag js))) (at + (2 + length name)) (node tag js))
 within_node rows s at elder name tag js is h =
     let v = visit s elder at name (node tag js) in
     let u = station rows s (entry name (node tag js)) in
@@ -111,13 +126,16 @@ within_node rows s at elder name tag js is h =
     (map_same f g (places_from 0 js) (λ p. elim p as (λ q. f q ≡ g q) [ [] ↦ refl | j ∷ q ↦ refl ]) ∙ h)
 
 mutual
-  places_within : (rows : List Row) (s : Station) (at : ℕ) (elder : List (List ℕ)) (name : List ℕ) (t : Tree) (is : Items)
+  places_within : (rows : List Row) (s : Station) (at : ℕ) (elder : List (List ℕ)) (name : List ℕ) (t : Tree)
+      (is : Items)
       → map (λ (p : List ℕ). visit_from rows s at elder 0 p (item name t is)) (places_in t)
-      ≡ Some (visit s elder at name t) ∷ map Some (visits_in rows (station rows s (entry name t)) (at + (2 + length name)) t)
+      ≡ Some (visit s elder at name t) ∷ map Some (visits_in rows (station rows s (entry name t))
+      (at + (2 + length name)) t)
   places_within rows s at elder name (leaf tag bytes) is = refl
   places_within rows s at elder name (node tag js) is =
       within_node rows s at elder name tag js is
-      (places_below (Some (visit s elder at name (node tag js))) rows (station rows s (entry name (node tag js))) (at + (2 + length name) + 4) [] js)
+      (places_below (Some (visit s elder at name (node tag js))) rows (station rows s (entry name (node tag js)))
+      (at + (2 + length name) + 4) [] js)
 
   places_below : (o : Option Visit) (rows : List Row) (s : Station) (at : ℕ) (elder : List (List ℕ)) (is : Items)
       → map (visit_below o rows s at elder is) (places_from 0 is) ≡ map Some (visits rows s at elder is)
@@ -141,7 +159,8 @@ option_onward rows s start width l (Some c) = refl
 -- a place with what is carried down is the place read from its chain
 pub from_chain : (rows : List Row) (s : Station) (at : ℕ) (elder : List (List ℕ)) (i : ℕ) (place : List ℕ) (is : Items)
     → visit_from rows s at elder i place is
-    ≡ option_map (visit_along rows s (unwrap_or (start_from i place at is) 0) (width_from i place is)) (chain_from elder i place is)
+    ≡ option_map (visit_along rows s (unwrap_or (start_from i place at is) 0) (width_from i place is))
+    (chain_from elder i place is)
 from_chain rows s at elder i place no_items = refl
 from_chain rows s at elder zero [] (item name t is) = refl
 from_chain rows s at elder zero (j ∷ place) (item name (leaf tag bytes) is) = refl
@@ -177,7 +196,8 @@ by_place rows at c =
 
 -- the station of a place is told by its chain
 visit_station : (rows : List Row) (start width : ℕ) (o : Option Chain)
-    → option_map (station_of rows) (option_map (visit_along rows Outside start width) o) ≡ option_map (station_along rows Outside) o
+    → option_map (station_of rows) (option_map (visit_along rows Outside start width) o)
+    ≡ option_map (station_along rows Outside) o
 visit_station rows start width None = refl
 visit_station rows start width (Some links) = refl
 
@@ -189,8 +209,10 @@ station_read rows at c place = visit_station rows (start_at at place c) (width_a
 abbrev pub offence_by : List ℕ → Option Collection → List Row → Visit → Option Reason
 offence_by db info rows v = offence db info rows v.parent v.elder v.entry
 
-visit_offence : (db : List ℕ) (info : Option Collection) (rows : List Row) (s : Station) (start width : ℕ) (o : Option Chain)
-    → option_and_then (offence_by db info rows) (option_map (visit_along rows s start width) o) ≡ option_and_then (offence_along db info rows s) o
+visit_offence : (db : List ℕ) (info : Option Collection) (rows : List Row) (s : Station) (start width : ℕ)
+    (o : Option Chain)
+    → option_and_then (offence_by db info rows) (option_map (visit_along rows s start width) o)
+    ≡ option_and_then (offence_along db info rows s) o
 visit_offence db info rows s start width None = refl
 visit_offence db info rows s start width (Some links) = refl
 
@@ -214,7 +236,8 @@ pub offences_by_place : (db : List ℕ) (info : Option Collection) (rows : List 
     → map (offence_at db info rows c) (places c) ≡ map (offence_by db info rows) (command_visits rows at c)
 offences_by_place db info rows at c =
     let f : Option Visit → Option Reason = λ o. option_and_then (offence_by db info rows) o in
-    map_same (offence_at db info rows c) (λ p. f (visit_at rows at c p)) (places c) (λ p. sym (offence_read db info rows at c p))
+    map_same (offence_at db info rows c) (λ p. f (visit_at rows at c p)) (places c)
+    (λ p. sym (offence_read db info rows at c p))
     ∙ sym (map-map f (visit_at rows at c) (places c))
     ∙ ap (map f) (by_place rows at c)
     ∙ map-map f (λ (v : Visit). Some v) (command_visits rows at c)
@@ -227,13 +250,15 @@ part_from : (rows : List Row) (s : Station) (at : ℕ) (is : Items) (o : Option 
 part_from rows s at is o [] h = absurd (false≢true h)
 part_from rows s at is o (i ∷ place) h = sym (from_chain rows s (at + 4) [] i place is)
 
-map_from : {B : Type 0} (f g : List ℕ → B) (i : ℕ) (is : Items) → ((place : List ℕ) → is_inside place ≡ true → f place ≡ g place)
+map_from : {B : Type 0} (f g : List ℕ → B) (i : ℕ) (is : Items)
+    → ((place : List ℕ) → is_inside place ≡ true → f place ≡ g place)
     → map f (places_from i is) ≡ map g (places_from i is)
 map_from f g i no_items e = refl
 map_from {B = B} f g i (item name t is) e =
     map-append f (map (λ (p : List ℕ). i ∷ p) (places_in t)) (places_from (i + 1) is)
     ∙ ap (λ (xs : List B). xs ++ map f (places_from (i + 1) is)) (map-map f (λ (p : List ℕ). i ∷ p) (places_in t))
-    ∙ ap (λ (xs : List B). xs ++ map f (places_from (i + 1) is)) (map_same (λ (p : List ℕ). f (i ∷ p)) (λ (p : List ℕ). g (i ∷ p)) (places_in t) (λ p. e (i ∷ p) refl))
+    ∙ ap (λ (xs : List B). xs ++ map f (places_from (i + 1) is))
+    (map_same (λ (p : List ℕ). f (i ∷ p)) (λ (p : List ℕ). g (i ∷ p)) (places_in t) (λ p. e (i ∷ p) refl))
     ∙ ap (λ (xs : List B). xs ++ map f (places_from (i + 1) is)) (sym (map-map g (λ (p : List ℕ). i ∷ p) (places_in t)))
     ∙ ap (λ (xs : List B). map g (map (λ (p : List ℕ). i ∷ p) (places_in t)) ++ xs) (map_from f g (i + 1) is e)
     ∙ sym (map-append g (map (λ (p : List ℕ). i ∷ p) (places_in t)) (places_from (i + 1) is))
@@ -252,20 +277,24 @@ part_visit_station rows s start width (Some links) = refl
 
 -- and so are their stations
 pub part_stations : (rows : List Row) (s : Station) (at : ℕ) (is : Items)
-    → map (part_station_at rows s is) (places_from 0 is) ≡ map (λ v. Some (station_of rows v)) (visits rows s (at + 4) [] is)
+    → map (part_station_at rows s is) (places_from 0 is)
+    ≡ map (λ v. Some (station_of rows v)) (visits rows s (at + 4) [] is)
 part_stations rows s at is =
     let f : Option Visit → Option Station = λ o. option_map (station_of rows) o in
-    map_same (part_station_at rows s is) (λ p. f (part_visit_at rows s at is p)) (places_from 0 is) (λ p. sym (part_visit_station rows s _ _ (chain_inside p is)))
+    map_same (part_station_at rows s is) (λ p. f (part_visit_at rows s at is p)) (places_from 0 is)
+    (λ p. sym (part_visit_station rows s _ _ (chain_inside p is)))
     ∙ sym (map-map f (part_visit_at rows s at is) (places_from 0 is))
     ∙ ap (map f) (part_by_place rows s at is)
     ∙ map-map f (λ (v : Visit). Some v) (visits rows s (at + 4) [] is)
 
 -- and their offences
 pub part_offences : (db : List ℕ) (info : Option Collection) (rows : List Row) (s : Station) (at : ℕ) (is : Items)
-    → map (part_offence_at db info rows s is) (places_from 0 is) ≡ map (offence_by db info rows) (visits rows s (at + 4) [] is)
+    → map (part_offence_at db info rows s is) (places_from 0 is)
+    ≡ map (offence_by db info rows) (visits rows s (at + 4) [] is)
 part_offences db info rows s at is =
     let f : Option Visit → Option Reason = λ o. option_and_then (offence_by db info rows) o in
-    map_same (part_offence_at db info rows s is) (λ p. f (part_visit_at rows s at is p)) (places_from 0 is) (λ p. sym (visit_offence db info rows s _ _ (chain_inside p is)))
+    map_same (part_offence_at db info rows s is) (λ p. f (part_visit_at rows s at is p)) (places_from 0 is)
+    (λ p. sym (visit_offence db info rows s _ _ (chain_inside p is)))
     ∙ sym (map-map f (part_visit_at rows s at is) (places_from 0 is))
     ∙ ap (map f) (part_by_place rows s at is)
     ∙ map-map f (λ (v : Visit). Some v) (visits rows s (at + 4) [] is)
@@ -297,8 +326,10 @@ pub refusal_by_place : (pass : Visit → Option Reason) (rows : List Row) (at : 
     → first_refusal pass (command_visits rows at c) ≡ first_refusal_at pass rows at c
 refusal_by_place pass rows at c =
     let f : Option Visit → Option Refusal = λ o. option_and_then (refusal pass) o in
-    let read : map f (map (visit_at rows at c) (places c)) ≡ map (refusal_at pass rows at c) (places c) = map-map f (visit_at rows at c) (places c) in
-    let own : map f (map Some (command_visits rows at c)) ≡ map (refusal pass) (command_visits rows at c) = map-map f (λ (v : Visit). Some v) (command_visits rows at c) in
+    let read : map f (map (visit_at rows at c) (places c)) ≡ map (refusal_at pass rows at c) (places c) =
+    map-map f (visit_at rows at c) (places c) in
+    let own : map f (map Some (command_visits rows at c)) ≡ map (refusal pass) (command_visits rows at c) =
+    map-map f (λ (v : Visit). Some v) (command_visits rows at c) in
     first_in pass (command_visits rows at c)
     ∙ ap first_of (sym own ∙ (ap (map f) (sym (by_place rows at c)) ∙ read))
 

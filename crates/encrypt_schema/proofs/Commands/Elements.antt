@@ -1,5 +1,6 @@
 -- The places of the elements that are left, one element after the other.
-use Rattle.std.proofs.Common.{◌≡◌, ℕ, zero, suc, ◌+◌, ◌-◌, ◌≤◌, Bool, true, false, ◌||◌, List, [], ◌∷◌, ◌++◌, length, take, drop, Option, Some, None, Result, Err, refl, sym, ap, ◌∙◌, subst, arith}
+use Rattle.std.proofs.Common.{◌≡◌, ℕ, zero, suc, ◌+◌, ◌-◌, ◌≤◌, Bool, true, false, ◌||◌, List, [], ◌∷◌, ◌++◌, length}
+use Rattle.std.proofs.Common.{take, drop, Option, Some, None, Result, Err, refl, sym, ap, ◌∙◌, subst, arith}
 use Rattle.std.proofs.lemmas.Bool.{false≢true}
 use Rattle.std.proofs.lemmas.List.{append_assoc, append-nil}
 use Rattle.bson_tree.specs.Spelling.{value_bytes}
@@ -13,7 +14,8 @@ use Rattle.encrypt_schema.specs.Language.Names.{named, is_among}
 use Rattle.encrypt_schema.specs.Commands.Stations.{Station, Store, Compare, station, has_role, is_silent}
 use Rattle.encrypt_schema.specs.Commands.Offences.{ruled_offence}
 use Rattle.encrypt_schema.specs.declared.command.reason.Reason.{Reason}
-use Rattle.encrypt_schema.specs.Commands.Visits.{entry, Visit, visits_in, visits, mark_at, marks, ruled_of, Refusal, refused_at, first_refusal, or_else}
+use Rattle.encrypt_schema.specs.Commands.Visits.{entry, Visit, visits_in, visits, mark_at, marks, ruled_of, Refusal}
+use Rattle.encrypt_schema.specs.Commands.Visits.{refused_at, first_refusal, or_else}
 use Rattle.encrypt_schema.specs.Views.Walking.{element_visit, element_visits, Told, MarksPlaces, Begins}
 use Rattle.encrypt_schema.proofs.Commands.Silence.{marks_append, refusal_append, silent_inside, ruled_quiet}
 
@@ -41,24 +43,37 @@ among_next name n (suc m) ns all some e differs =
     ∙ ap (λ (ms : List (List ℕ)). is_among name (take (suc m) ms)) (sym e)
 
 -- the places of what is left are those of the first element and those of the others
-left_places : (rows : List Row) (s : Station) (elder : List (List ℕ)) (left rest : At) (e : Elem) → TakesElement left (Some e) rest
-    → visits rows s left.start elder left.tree ≡ element_visits rows s elder e ++ visits rows s rest.start (elder ++ e.name ∷ []) rest.tree
+left_places : (rows : List Row) (s : Station) (elder : List (List ℕ)) (left rest : At) (e : Elem)
+    → TakesElement left (Some e) rest
+    → visits rows s left.start elder left.tree ≡ element_visits rows s elder e
+    ++ visits rows s rest.start (elder ++ e.name ∷ []) rest.tree
 left_places rows s elder left rest e taken =
     let more : List (List ℕ) = elder ++ e.name ∷ [] in
     ap (visits rows s left.start elder) taken.0
-    ∙ ap (λ (n : ℕ). record { parent = s; elder = elder; entry = entry e.name e.tree; start = n; width = length (value_bytes e.tree) }
-    ∷ (visits_in rows (station rows s (entry e.name e.tree)) n e.tree ++ visits rows s (n + length (value_bytes e.tree)) more rest.tree)) (sym taken.1)
+    ∙ ap (λ (n : ℕ). record {
+      parent = s;
+      elder = elder;
+      entry = entry e.name e.tree;
+      start = n;
+      width = length (value_bytes e.tree);
+    }
+    ∷ (visits_in rows (station rows s (entry e.name e.tree)) n e.tree
+    ++ visits rows s (n + length (value_bytes e.tree)) more rest.tree)) (sym taken.1)
     ∙ ap (λ (n : ℕ). element_visits rows s elder e ++ visits rows s n more rest.tree) (sym taken.2)
 
 -- the same is told by equal marks and equal refusals
-pub told_as : (own other : List Mark) (refused refusal : Option Refusal) (before after : List Mark) (result : Result _ MarkFault)
+pub told_as : (own other : List Mark) (refused refusal : Option Refusal) (before after : List Mark)
+    (result : Result _ MarkFault)
     → own ≡ other → refused ≡ refusal → Told own refused before after result → Told other refusal before after result
 told_as own other refused refusal before after result p q told =
-    subst (λ (r : Option Refusal). Told other r before after result) q (subst (λ (ms : List Mark). Told ms refused before after result) p told)
+    subst (λ (r : Option Refusal). Told other r before after result) q
+    (subst (λ (ms : List Mark). Told ms refused before after result) p told)
 
 -- an element that isn't looked into has its own mark, if any, and no refusal
-pub own_told : (rows : List Row) (s u : Station) (elder : List (List ℕ)) (e : Elem) (before after : List Mark) (result : Result _ MarkFault)
-    → u ≡ station rows s (entry e.name e.tree) → None ≡ ruled_offence rows s elder (entry e.name e.tree) → is_silent u ≡ true
+pub own_told : (rows : List Row) (s u : Station) (elder : List (List ℕ)) (e : Elem) (before after : List Mark)
+    (result : Result _ MarkFault)
+    → u ≡ station rows s (entry e.name e.tree) → None ≡ ruled_offence rows s elder (entry e.name e.tree)
+    → is_silent u ≡ true
     → Told (mark_at u (element_visit s elder e)) None before after result
     → MarksPlaces rows (element_visits rows s elder e) before after result
 own_told rows s u elder e before after result stands free quiet told =
@@ -70,7 +85,8 @@ own_told rows s u elder e before after result stands free quiet told =
     ∙ ap (λ (x : Station). mark_at x v ++ marks rows (visits_in rows x e.start e.tree)) stands)
     (sym inside.1
     ∙ ap (λ (x : Station). first_refusal (ruled_of rows) (visits_in rows x e.start e.tree)) stands
-    ∙ ap (λ (r : Option Reason). or_else (refused_at e.start r) (first_refusal (ruled_of rows) (visits_in rows (station rows s (entry e.name e.tree)) e.start e.tree))) free)
+    ∙ ap (λ (r : Option Reason). or_else (refused_at e.start r)
+    (first_refusal (ruled_of rows) (visits_in rows (station rows s (entry e.name e.tree)) e.start e.tree))) free)
     told
 
 -- a place that isn't protected has no mark of its own
@@ -80,31 +96,39 @@ no_mark (Compare i) v h = absurd (false≢true (sym h))
 no_mark _ v h = refl
 
 -- an element that is looked into has the marks and the refusal of what stands in it
-pub inside_told : (rows : List Row) (s u : Station) (elder : List (List ℕ)) (e : Elem) (before after : List Mark) (result : Result _ MarkFault)
-    → u ≡ station rows s (entry e.name e.tree) → None ≡ ruled_offence rows s elder (entry e.name e.tree) → has_role u ≡ false
+pub inside_told : (rows : List Row) (s u : Station) (elder : List (List ℕ)) (e : Elem) (before after : List Mark)
+    (result : Result _ MarkFault)
+    → u ≡ station rows s (entry e.name e.tree) → None ≡ ruled_offence rows s elder (entry e.name e.tree)
+    → has_role u ≡ false
     → MarksPlaces rows (visits_in rows u e.start e.tree) before after result
     → MarksPlaces rows (element_visits rows s elder e) before after result
 inside_told rows s u elder e before after result stands free plain told =
     let v : Visit = element_visit s elder e in
-    told_as (marks rows (visits_in rows u e.start e.tree)) _ (first_refusal (ruled_of rows) (visits_in rows u e.start e.tree)) _ before after result
+    told_as (marks rows (visits_in rows u e.start e.tree)) _
+    (first_refusal (ruled_of rows) (visits_in rows u e.start e.tree)) _ before after result
     (ap (λ (ms : List Mark). ms ++ marks rows (visits_in rows u e.start e.tree)) (sym (no_mark u v plain))
     ∙ ap (λ (x : Station). mark_at x v ++ marks rows (visits_in rows x e.start e.tree)) stands)
     (ap (λ (x : Station). first_refusal (ruled_of rows) (visits_in rows x e.start e.tree)) stands
-    ∙ ap (λ (r : Option Reason). or_else (refused_at e.start r) (first_refusal (ruled_of rows) (visits_in rows (station rows s (entry e.name e.tree)) e.start e.tree))) free)
+    ∙ ap (λ (r : Option Reason). or_else (refused_at e.start r)
+    (first_refusal (ruled_of rows) (visits_in rows (station rows s (entry e.name e.tree)) e.start e.tree))) free)
     told
 
 -- behind an element without a refusal the others are left
-pub goes_on : (rows : List Row) (s : Station) (elder next : List (List ℕ)) (left rest : At) (e : Elem) (before after whole : List Mark) (first : Option Refusal)
+pub goes_on : (rows : List Row) (s : Station) (elder next : List (List ℕ)) (left rest : At) (e : Elem)
+    (before after whole : List Mark) (first : Option Refusal)
     → TakesElement left (Some e) rest → next ≡ elder ++ e.name ∷ []
-    → (after ≡ before ++ marks rows (element_visits rows s elder e)) × (first_refusal (ruled_of rows) (element_visits rows s elder e) ≡ None)
+    → (after ≡ before ++ marks rows (element_visits rows s elder e))
+    × (first_refusal (ruled_of rows) (element_visits rows s elder e) ≡ None)
     → before ++ marks rows (visits rows s left.start elder left.tree) ≡ whole
     → first_refusal (ruled_of rows) (visits rows s left.start elder left.tree) ≡ first
-    → (after ++ marks rows (visits rows s rest.start next rest.tree) ≡ whole) × (first_refusal (ruled_of rows) (visits rows s rest.start next rest.tree) ≡ first)
+    → (after ++ marks rows (visits rows s rest.start next rest.tree) ≡ whole)
+    × (first_refusal (ruled_of rows) (visits rows s rest.start next rest.tree) ≡ first)
 goes_on rows s elder next left rest e before after whole first taken more told marked clean =
     let here : List Visit = element_visits rows s elder e in
     let others : List Visit = visits rows s rest.start (elder ++ e.name ∷ []) rest.tree in
     let parted = left_places rows s elder left rest e taken in
-    let same : visits rows s rest.start next rest.tree ≡ others = ap (λ (ns : List (List ℕ)). visits rows s rest.start ns rest.tree) more in (
+    let same : visits rows s rest.start next rest.tree ≡ others =
+    ap (λ (ns : List (List ℕ)). visits rows s rest.start ns rest.tree) more in (
       ap (λ (vs : List Visit). after ++ marks rows vs) same
           ∙ ap (λ (ms : List Mark). ms ++ marks rows others) told.0
           ∙ append_assoc before (marks rows here) (marks rows others)
@@ -119,9 +143,11 @@ goes_on rows s elder next left rest e before after whole first taken more told m
     )
 
 -- the first refusal of what is left is that of an element that has one
-pub ends : (rows : List Row) (s : Station) (elder : List (List ℕ)) (left rest : At) (e : Elem) (before after own start : List Mark) (first : Option Refusal) (fault : MarkFault)
+pub ends : (rows : List Row) (s : Station) (elder : List (List ℕ)) (left rest : At) (e : Elem)
+    (before after own start : List Mark) (first : Option Refusal) (fault : MarkFault)
     → TakesElement left (Some e) rest
-    → Told (marks rows (element_visits rows s elder e)) (first_refusal (ruled_of rows) (element_visits rows s elder e)) before after (Err fault)
+    → Told (marks rows (element_visits rows s elder e))
+    (first_refusal (ruled_of rows) (element_visits rows s elder e)) before after (Err fault)
     → first_refusal (ruled_of rows) (visits rows s left.start elder left.tree) ≡ first
     → Told own first start after (Err fault)
 ends rows s elder left rest e before after own start first (faults.Refused reason at) taken told clean =

@@ -25,14 +25,21 @@ command_station : (rows : List Row) (c : Items)
     → station rows Outside (command_entry c) ≡ station rows Outside (entry_in [] (branch 3 (skeleton rows c)))
 command_station rows c =
     ap
-    (λ (ns : List (List ℕ)). station rows Outside (record { name = []; tag = 3; names = ns; raw = []; payload = false }))
+    (λ (ns : List (List ℕ)). station rows Outside (record {
+      name = [];
+      tag = 3;
+      names = ns;
+      raw = [];
+      payload = false;
+    }))
     (sym (names_kept rows (station rows Outside (command_entry c)) c))
 
 shown_below : (rows : List Row) (c : Items) (i : ℕ) (place : List ℕ)
     → is_shown rows c (i ∷ place) ≡ is_some (seen_below rows 0 (skeleton rows c) i place)
 shown_below rows c i place =
     let u = station rows Outside (command_entry c) in
-    shows_node rows Outside (link [] [] (node 3 c)) (chain_from [] i place c) false _ (command_without_role rows (command_entry c)) (shows_seen rows u 4 [] i place c)
+    shows_node rows Outside (link [] [] (node 3 c)) (chain_from [] i place c) false _
+    (command_without_role rows (command_entry c)) (shows_seen rows u 4 [] i place c)
     ∙ ap (λ (s : Station). is_some (seen_from rows s 4 [] i place (skeleton rows c))) (command_station rows c)
 
 veiled_below : (rows : List Row) (at : ℕ) (c : Items) (i : ℕ) (place : List ℕ) → is_shown rows c (i ∷ place) ≡ true
@@ -40,7 +47,9 @@ veiled_below : (rows : List Row) (at : ℕ) (c : Items) (i : ℕ) (place : List 
 veiled_below rows at c i place h =
     let u = station rows Outside (command_entry c) in
     ap (option_map (veil rows)) (visit_at_from rows at c i place)
-    ∙ (veiled_node rows Outside (link [] [] (node 3 c)) (chain_from [] i place c) false (visit_from rows u (at + 4) [] i place c) _ (command_without_role rows (command_entry c)) (veiled_seen rows u (at + 4) [] i place c) h
+    ∙ (veiled_node rows Outside (link [] [] (node 3 c)) (chain_from [] i place c) false
+    (visit_from rows u (at + 4) [] i place c) _ (command_without_role rows (command_entry c))
+    (veiled_seen rows u (at + 4) [] i place c) h
     ∙ ap (λ (s : Station). seen_from rows s (at + 4) [] i place (skeleton rows c)) (command_station rows c))
 
 -- commands with equal skeletons have the same places with no protected ancestor
@@ -48,7 +57,8 @@ pub equal_shown : (rows : List Row) (c d : Items) → skeleton rows c ≡ skelet
     → is_shown rows c place ≡ is_shown rows d place
 equal_shown rows c d e [] = refl
 equal_shown rows c d e (i ∷ place) =
-    shown_below rows c i place ∙ (ap (λ (ks : Skeletons). is_some (seen_below rows 0 ks i place)) e ∙ sym (shown_below rows d i place))
+    shown_below rows c i place ∙ (ap (λ (ks : Skeletons). is_some (seen_below rows 0 ks i place)) e
+    ∙ sym (shown_below rows d i place))
 
 -- the first place of a list
 abbrev pub first_visit : List Visit → Option Visit
@@ -62,7 +72,8 @@ pub equal_visits : (rows : List Row) (at : ℕ) (c d : Items) → skeleton rows 
 equal_visits rows at c d e [] h = ap first_visit (shown_equal rows at c d e)
 equal_visits rows at c d e (i ∷ place) h =
     veiled_below rows at c i place h
-    ∙ (ap (λ (ks : Skeletons). seen_below rows at ks i place) e ∙ sym (veiled_below rows at d i place (sym (equal_shown rows c d e (i ∷ place)) ∙ h)))
+    ∙ (ap (λ (ks : Skeletons). seen_below rows at ks i place) e
+    ∙ sym (veiled_below rows at d i place (sym (equal_shown rows c d e (i ∷ place)) ∙ h)))
 
 offence_veiled : (db : List ℕ) (info : Option Collection) (rows : List Row) (v : Visit)
     → offence_by db info rows (veil rows v) ≡ offence_by db info rows v
@@ -76,7 +87,8 @@ offence_behind db info rows None = refl
 offence_behind db info rows (Some v) = offence_veiled db info rows v
 
 -- and has the same offence
-pub equal_offences : (db : List ℕ) (info : Option Collection) (rows : List Row) (c d : Items) → skeleton rows c ≡ skeleton rows d → (place : List ℕ)
+pub equal_offences : (db : List ℕ) (info : Option Collection) (rows : List Row) (c d : Items)
+    → skeleton rows c ≡ skeleton rows d → (place : List ℕ)
     → is_shown rows c place ≡ true
     → offence_at db info rows c place ≡ offence_at db info rows d place
 equal_offences db info rows c d e place h =
@@ -97,4 +109,5 @@ pub equal_starts : (rows : List Row) (at : ℕ) (c d : Items) → skeleton rows 
     → option_map (λ v. v.start) (visit_at rows at c place) ≡ option_map (λ v. v.start) (visit_at rows at d place)
 equal_starts rows at c d e place h =
     sym (start_behind rows (visit_at rows at c place))
-    ∙ (ap (option_map (λ (v : Visit). v.start)) (equal_visits rows at c d e place h) ∙ start_behind rows (visit_at rows at d place))
+    ∙ (ap (option_map (λ (v : Visit). v.start)) (equal_visits rows at c d e place h)
+    ∙ start_behind rows (visit_at rows at d place))

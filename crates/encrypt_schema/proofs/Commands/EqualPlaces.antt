@@ -5,7 +5,9 @@ use Rattle.bson_tree.specs.Spelling.{framed, items_bytes}
 use Rattle.encrypt_schema.specs.Language.Row.{Row}
 use Rattle.encrypt_schema.specs.Commands.Stations.{Station, Outside, station, has_role}
 use Rattle.encrypt_schema.specs.Commands.Visits.{entry, command_entry, is_payload}
-use Rattle.encrypt_schema.specs.Commands.Skeletons.{Skeleton, hole, plain, branch, Skeletons, no_more, more, skeleton_in, skeletons, skeleton, blank_hole, blank_in, blanks, blank}
+use Rattle.encrypt_schema.specs.Commands.Skeletons.{Skeleton, hole, plain, branch, Skeletons, no_more, more}
+use Rattle.encrypt_schema.specs.Commands.Skeletons.{skeleton_in, skeletons, skeleton, blank_hole, blank_in, blanks}
+use Rattle.encrypt_schema.specs.Commands.Skeletons.{blank}
 use Rattle.encrypt_schema.specs.Commands.Chains.{sites}
 use Rattle.encrypt_schema.proofs.Commands.Sites.{equal_sites}
 
@@ -37,7 +39,8 @@ mutual
       → blank_in rows s t ≡ blanked_in (skeleton_in rows s t)
   blank_kept_in rows s (leaf tag bytes) = blanked_leaf (has_role s) tag bytes
   blank_kept_in rows s (node tag is) =
-      blanked_node (has_role s) tag (length (framed (items_bytes is))) (blanks rows s is) (skeletons rows s is) (blanks_kept rows s is)
+      blanked_node (has_role s) tag (length (framed (items_bytes is))) (blanks rows s is) (skeletons rows s is)
+      (blanks_kept rows s is)
 
   blanks_kept : (rows : List Row) (s : Station) (is : Items)
       → blanks rows s is ≡ blanked (skeletons rows s is)

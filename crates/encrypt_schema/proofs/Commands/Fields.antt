@@ -1,5 +1,6 @@
 -- A pass that looks at a command and its fields alone is read from these, whatever the rules are.
-use Rattle.std.proofs.Common.{◌≡◌, ℕ, ◌+◌, Bool, true, false, cond, not, ◌&&◌, codes, List, [], ◌∷◌, ◌++◌, length, Option, Some, None, refl, sym, ap, ap₂, ◌∙◌}
+use Rattle.std.proofs.Common.{◌≡◌, ℕ, ◌+◌, Bool, true, false, cond, not, ◌&&◌, codes, List, [], ◌∷◌, ◌++◌, length}
+use Rattle.std.proofs.Common.{Option, Some, None, refl, sym, ap, ap₂, ◌∙◌}
 use Rattle.std.proofs.lemmas.Bool.{false≢true}
 use Rattle.bson_tree.specs.Tree.{Tree, leaf, node, Items, no_items, item}
 use Rattle.bson_tree.specs.Spelling.{value_bytes}
@@ -14,9 +15,17 @@ use Rattle.encrypt_schema.specs.Language.Names.{named}
 use Rattle.encrypt_schema.specs.Language.Row.{Row}
 use Rattle.encrypt_schema.specs.Paths.Classes.{class}
 use Rattle.encrypt_schema.specs.Paths.Dotted.{split, is_dollar}
-use Rattle.encrypt_schema.specs.Commands.Stations.{Entry, Station, Outside, Insert, Update, Delete, Find, Unknown, Inserts, Updates, Deletes, UpdateItem, DeleteItem, Filter, Cases, Projection, Test, Elements, Operators, Sets, Argument, operator_of, Document, Compare, Bare, Passed, is_passed, is_document, is_array, is_operators, is_dollar_first, has_name, is_logical, is_equality, is_membership, is_set, is_random_field, dotted, stored_at, tested_at, compared_with, command_of, station}
+use Rattle.encrypt_schema.specs.Commands.Stations.{Entry, Station, Outside, Insert, Update, Delete, Find, Unknown}
+use Rattle.encrypt_schema.specs.Commands.Stations.{Inserts, Updates, Deletes, UpdateItem, DeleteItem, Filter, Cases}
+use Rattle.encrypt_schema.specs.Commands.Stations.{Projection, Test, Elements, Operators, Sets, Argument, operator_of}
+use Rattle.encrypt_schema.specs.Commands.Stations.{Document, Compare, Bare, Passed, is_passed, is_document, is_array}
+use Rattle.encrypt_schema.specs.Commands.Stations.{is_operators, is_dollar_first, has_name, is_logical, is_equality}
+use Rattle.encrypt_schema.specs.Commands.Stations.{is_membership, is_set, is_random_field, dotted, stored_at, tested_at}
+use Rattle.encrypt_schema.specs.Commands.Stations.{compared_with, command_of, station}
 use Rattle.encrypt_schema.specs.Commands.Offences.{is_marked, is_view, when, least, target_offence, view_offence}
-use Rattle.encrypt_schema.specs.Commands.Visits.{names_of, entry, Visit, visit, visits_in, visits, command_visit, command_visits, target_of, view_of, Refusal, refused_at, or_else, first_refusal, target_verdict}
+use Rattle.encrypt_schema.specs.Commands.Visits.{names_of, entry, Visit, visit, visits_in, visits, command_visit}
+use Rattle.encrypt_schema.specs.Commands.Visits.{command_visits, target_of, view_of, Refusal, refused_at, or_else}
+use Rattle.encrypt_schema.specs.Commands.Visits.{first_refusal, target_verdict}
 use Rattle.encrypt_schema.proofs.Commands.Silence.{refusal, refusal_append}
 
 -- what is no command, and not around one
@@ -62,12 +71,14 @@ inner_child rows Inserts e h = inner_cond (is_document e) (Document []) Passed r
 inner_child rows Update e h = inner_cond (has_name (codes "updates") e && is_array e) Updates Passed refl refl
 inner_child rows Delete e h = inner_cond (has_name (codes "deletes") e && is_array e) Deletes Passed refl refl
 inner_child rows Find e h =
-    inner_cond (has_name (codes "filter") e && is_document e) Filter _ refl (inner_cond (has_name (codes "projection") e && is_document e) Projection Passed refl refl)
+    inner_cond (has_name (codes "filter") e && is_document e) Filter _ refl
+    (inner_cond (has_name (codes "projection") e && is_document e) Projection Passed refl refl)
 inner_child rows Updates e h = inner_cond (is_document e) UpdateItem Passed refl refl
 inner_child rows Deletes e h = inner_cond (is_document e) DeleteItem Passed refl refl
 inner_child rows UpdateItem e h =
     inner_cond (has_name (codes "q") e && is_document e) Filter _ refl
-    (inner_cond (has_name (codes "u") e && is_document e) _ Passed (inner_cond (is_dollar_first e.names) Operators (Document []) refl refl) refl)
+    (inner_cond (has_name (codes "u") e && is_document e) _ Passed
+    (inner_cond (is_dollar_first e.names) Operators (Document []) refl refl) refl)
 inner_child rows DeleteItem e h = inner_cond (has_name (codes "q") e && is_document e) Filter Passed refl refl
 inner_child rows (Document p) e h = inner_stored (class rows (p ++ e.name ∷ [])) (p ++ e.name ∷ []) (is_document e)
 inner_child rows Filter e h =
@@ -76,11 +87,13 @@ inner_child rows Filter e h =
 inner_child rows Cases e h = inner_cond (is_document e) Filter Passed refl refl
 inner_child rows (Test x) e h =
     inner_cond (is_equality e.name) _ _ (inner_compared x)
-    (inner_cond (is_membership e.name) _ _ (inner_cond (is_array e && not (is_random_field rows x)) (Elements x) Passed refl refl)
+    (inner_cond (is_membership e.name) _ _ (inner_cond (is_array e && not (is_random_field rows x))
+    (Elements x) Passed refl refl)
     (inner_cond (has_name (codes "$not") e && is_operators e) (Test x) Passed refl refl))
 inner_child rows (Elements x) e h = inner_compared x
 inner_child rows Operators e h =
-    inner_cond (is_set e.name && is_document e) Sets _ refl (inner_cond (is_dollar e.name && is_document e) (Argument (operator_of e.name)) Passed refl refl)
+    inner_cond (is_set e.name && is_document e) Sets _ refl
+    (inner_cond (is_dollar e.name && is_document e) (Argument (operator_of e.name)) Passed refl refl)
 inner_child rows Sets e h = inner_stored (dotted rows e.name) (split e.name) (is_document e)
 inner_child rows _ e h = refl
 
@@ -92,7 +105,8 @@ not_outside _ h = refl
 pub record IsShallow (pass : Visit → Option Reason) : Type 0 where
   pub clear : (v : Visit) → is_inner v.parent ≡ true → pass v ≡ None
 
-target_inner : (db : List ℕ) (s : Station) (elder : List (List ℕ)) (e : Entry) → is_inner s ≡ true → target_offence db s elder e ≡ None
+target_inner : (db : List ℕ) (s : Station) (elder : List (List ℕ)) (e : Entry) → is_inner s ≡ true
+    → target_offence db s elder e ≡ None
 unfolding target_offence
 target_inner db Outside elder e h = absurd (false≢true h)
 target_inner db Insert elder e h = absurd (false≢true h)
@@ -102,7 +116,8 @@ target_inner db Find elder e h = absurd (false≢true h)
 target_inner db Unknown elder e h = absurd (false≢true h)
 target_inner db _ elder e h = refl
 
-view_inner : (info : Option Collection) (s : Station) (elder : List (List ℕ)) (e : Entry) → is_inner s ≡ true → view_offence info s elder e ≡ None
+view_inner : (info : Option Collection) (s : Station) (elder : List (List ℕ)) (e : Entry) → is_inner s ≡ true
+    → view_offence info s elder e ≡ None
 unfolding view_offence
 view_inner info Insert elder e h = absurd (false≢true h)
 view_inner info Update elder e h = absurd (false≢true h)
@@ -118,19 +133,22 @@ pub view_shallow : (info : Option Collection) → IsShallow (view_of info)
 view_shallow info = record { clear = λ v h. view_inner info v.parent v.elder v.entry h }
 
 mutual
-  nothing_in : (pass : Visit → Option Reason) (rows : List Row) (s : Station) (at : ℕ) (t : Tree) → IsShallow pass → is_inner s ≡ true
+  nothing_in : (pass : Visit → Option Reason) (rows : List Row) (s : Station) (at : ℕ) (t : Tree) → IsShallow pass
+      → is_inner s ≡ true
       → first_refusal pass (visits_in rows s at t) ≡ None
   nothing_in pass rows s at (leaf tag bytes) p h = refl
   nothing_in pass rows s at (node tag is) p h = nothing_among pass rows s (at + 4) [] is p h
 
-  nothing_among : (pass : Visit → Option Reason) (rows : List Row) (s : Station) (at : ℕ) (elder : List (List ℕ)) (is : Items) → IsShallow pass → is_inner s ≡ true
+  nothing_among : (pass : Visit → Option Reason) (rows : List Row) (s : Station) (at : ℕ) (elder : List (List ℕ))
+      (is : Items) → IsShallow pass → is_inner s ≡ true
       → first_refusal pass (visits rows s at elder is) ≡ None
   nothing_among pass rows s at elder no_items p h = refl
   nothing_among pass rows s at elder (item name t is) p h =
       let u = station rows s (entry name t) in
       let inside = visits_in rows u (at + (2 + length name)) t in
       let behind = visits rows s (at + (2 + length name) + length (value_bytes t)) (elder ++ name ∷ []) is in
-      ap (λ (r : Option Reason). or_else (refused_at (at + (2 + length name)) r) (first_refusal pass (inside ++ behind))) (p.clear (visit s elder at name t) h)
+      ap (λ (r : Option Reason). or_else (refused_at (at + (2 + length name)) r)
+      (first_refusal pass (inside ++ behind))) (p.clear (visit s elder at name t) h)
       ∙ refusal_append pass inside behind
       ∙ ap₂ or_else
       (nothing_in pass rows u (at + (2 + length name)) t p (inner_child rows s (entry name t) (not_outside s h)))
@@ -145,7 +163,8 @@ fields_refusal pass s at elder (item name t is) =
     (fields_refusal pass s (at + (2 + length name) + length (value_bytes t)) (elder ++ name ∷ []) is)
 
 -- such a pass reads the fields of a command alone
-pub fields_alone : (pass : Visit → Option Reason) (rows : List Row) (s : Station) (at : ℕ) (elder : List (List ℕ)) (is : Items) → IsShallow pass → is_outside s ≡ false
+pub fields_alone : (pass : Visit → Option Reason) (rows : List Row) (s : Station) (at : ℕ) (elder : List (List ℕ))
+    (is : Items) → IsShallow pass → is_outside s ≡ false
     → first_refusal pass (visits rows s at elder is) ≡ fields_refusal pass s at elder is
 fields_alone pass rows s at elder no_items p h = refl
 fields_alone pass rows s at elder (item name t is) p h =
@@ -158,7 +177,8 @@ fields_alone pass rows s at elder (item name t is) p h =
     (nothing_in pass rows u (at + (2 + length name)) t p (inner_child rows s (entry name t) h))
     (fields_alone pass rows s (at + (2 + length name) + length (value_bytes t)) (elder ++ name ∷ []) is p h))
 
-outside_cond : (b : Bool) (s u : Station) → is_outside s ≡ false → is_outside u ≡ false → is_outside (cond b s u) ≡ false
+outside_cond : (b : Bool) (s u : Station) → is_outside s ≡ false → is_outside u ≡ false
+    → is_outside (cond b s u) ≡ false
 outside_cond true s u p q = p
 outside_cond false s u p q = q
 
@@ -175,13 +195,15 @@ pub command_alone : (pass : Visit → Option Reason) (rows : List Row) (at : ℕ
     → first_refusal pass (command_visits rows at c)
     ≡ or_else (refused_at 0 (pass (command_visit c))) (fields_refusal pass (command_of (names_of c)) (at + 4) [] c)
 command_alone pass rows at c p =
-    ap (or_else (refusal pass (command_visit c))) (fields_alone pass rows (command_of (names_of c)) (at + 4) [] c p (command_inside (names_of c)))
+    ap (or_else (refusal pass (command_visit c)))
+    (fields_alone pass rows (command_of (names_of c)) (at + 4) [] c p (command_inside (names_of c)))
 
 -- the target pass whatever the rules are
 pub target_anyhow : (db : List ℕ) (rows : List Row) (at : ℕ) (c : Items)
     → first_refusal (target_of db) (command_visits rows at c) ≡ target_verdict db at c
 target_anyhow db rows at c =
-    command_alone (target_of db) rows at c (target_shallow db) ∙ sym (command_alone (target_of db) [] at c (target_shallow db))
+    command_alone (target_of db) rows at c (target_shallow db)
+    ∙ sym (command_alone (target_of db) [] at c (target_shallow db))
 
 -- a view is refused at the first field
 
@@ -194,8 +216,10 @@ later_views : (info : Option Collection) (s : Station) (at : ℕ) (first : List 
 unfolding view_offence
 later_views info s at first elder no_items = refl
 later_views info s at first elder (item name t is) =
-    let behind = fields_refusal (view_of info) s (at + (2 + length name) + length (value_bytes t)) (first ∷ (elder ++ name ∷ [])) is in
-    ap (λ (r : Option Reason). or_else (refused_at (at + (2 + length name)) r) behind) (not_first (is_marked s) (is_view info))
+    let behind = fields_refusal (view_of info) s (at + (2 + length name) + length (value_bytes t))
+    (first ∷ (elder ++ name ∷ [])) is in
+    ap (λ (r : Option Reason). or_else (refused_at (at + (2 + length name)) r) behind)
+    (not_first (is_marked s) (is_view info))
     ∙ later_views info s (at + (2 + length name) + length (value_bytes t)) first (elder ++ name ∷ []) is
 
 nothing_behind : (r : Option Refusal) → or_else r None ≡ r
@@ -209,7 +233,8 @@ view_root info c = refl
 -- the refusal of a view, of a command with fields
 pub view_alone : (info : Option Collection) (rows : List Row) (at : ℕ) (name : List ℕ) (t : Tree) (is : Items)
     → first_refusal (view_of info) (command_visits rows at (item name t is))
-    ≡ refused_at (at + 4 + (2 + length name)) (least (when (is_marked (command_of (name ∷ names_of is)) && true && is_view info) View))
+    ≡ refused_at (at + 4 + (2 + length name)) (least
+    (when (is_marked (command_of (name ∷ names_of is)) && true && is_view info) View))
 unfolding view_offence
 view_alone info rows at name t is =
     let s = command_of (name ∷ names_of is) in

@@ -1,5 +1,6 @@
 -- By places: where a command is refused there is an offence, and where it isn't there is none.
-use Rattle.std.proofs.Common.{◌≡◌, ℕ, Bool, true, false, not, ◌&&◌, ◌||◌, List, [], ◌∷◌, map, Option, Some, None, option_map, option_and_then, refl, sym, ap, ap₂, ◌∙◌}
+use Rattle.std.proofs.Common.{◌≡◌, ℕ, Bool, true, false, not, ◌&&◌, ◌||◌, List, [], ◌∷◌, map, Option, Some, None}
+use Rattle.std.proofs.Common.{option_map, option_and_then, refl, sym, ap, ap₂, ◌∙◌}
 use Rattle.std.specs.List.{list_all}
 use Rattle.std.specs.Option.{is_none, option_map_or}
 use Rattle.std.proofs.lemmas.Bool.{false≢true}
@@ -11,12 +12,17 @@ use Rattle.encrypt_schema.specs.Language.Collection.{Collection}
 use Rattle.encrypt_schema.specs.Language.Row.{Row}
 use Rattle.encrypt_schema.specs.Commands.Stations.{Station, Outside, station, has_role, is_silent}
 use Rattle.encrypt_schema.specs.Commands.Offences.{first_reason}
-use Rattle.encrypt_schema.specs.Commands.Visits.{Visit, command_visits, target_of, view_of, content_of, Refusal, refused_at, or_else, first_refusal, verdict_on}
+use Rattle.encrypt_schema.specs.Commands.Visits.{Visit, command_visits, target_of, view_of, content_of, Refusal}
+use Rattle.encrypt_schema.specs.Commands.Visits.{refused_at, or_else, first_refusal, verdict_on}
 use Rattle.encrypt_schema.specs.Commands.Skeletons.{skeleton}
-use Rattle.encrypt_schema.specs.Commands.Chains.{Chain, last, onward, chain, parent_along, visit_along, visit_at, width_at, start_at, offence_at, refusal_at, first_of, first_refusal_at, is_below_role, is_shown}
-use Rattle.encrypt_schema.proofs.Commands.Silence.{IsQuiet, child_passed, role_silent, target_quiet, view_quiet, content_quiet}
+use Rattle.encrypt_schema.specs.Commands.Chains.{Chain, last, onward, chain, parent_along, visit_along, visit_at}
+use Rattle.encrypt_schema.specs.Commands.Chains.{width_at, start_at, offence_at, refusal_at, first_of, first_refusal_at}
+use Rattle.encrypt_schema.specs.Commands.Chains.{is_below_role, is_shown}
+use Rattle.encrypt_schema.proofs.Commands.Silence.{IsQuiet, child_passed, role_silent, target_quiet, view_quiet}
+use Rattle.encrypt_schema.proofs.Commands.Silence.{content_quiet}
 use Rattle.encrypt_schema.proofs.Commands.Worlds.{IsVeiled, veil, target_veiled, view_veiled, content_veiled}
-use Rattle.encrypt_schema.proofs.Commands.ByPlace.{refusal, offence_by, offence_read, offences_by_place, verdict_by_place}
+use Rattle.encrypt_schema.proofs.Commands.ByPlace.{refusal, offence_by, offence_read, offences_by_place}
+use Rattle.encrypt_schema.proofs.Commands.ByPlace.{verdict_by_place}
 use Rattle.encrypt_schema.proofs.Commands.EqualOffences.{equal_visits}
 
 -- the first of two is none, and so is the second
@@ -43,7 +49,8 @@ found_by f p ps r (Some x) is later e =
     record { place = p; is = is ∙ e; free = λ g h. first_none (g p) (first_of (map g ps)) h }
 
 -- the first refusal of places is that of one of them
-pub found : (f : List ℕ → Option Refusal) (ps : List (List ℕ)) (r : Refusal) → first_of (map f ps) ≡ Some r → Found f ps r
+pub found : (f : List ℕ → Option Refusal) (ps : List (List ℕ)) (r : Refusal) → first_of (map f ps) ≡ Some r
+    → Found f ps r
 found f [] r e = absurd cc
 found f (p ∷ ps) r e = found_by f p ps r (f p) refl (found f ps r) e
 
@@ -61,7 +68,8 @@ by_target : (db : List ℕ) (info : Option Collection) (rows : List Row) (o : Op
     → option_and_then (refusal (target_of db)) o ≡ Some r → option_and_then (offence_by db info rows) o ≡ Some r.reason
 by_target db info rows None r e = absurd cc
 by_target db info rows (Some v) r e =
-    ap (λ (x : Option Reason). first_reason x (first_reason (view_of info v) (content_of rows v))) (reason_of v.start (target_of db v) r e)
+    ap (λ (x : Option Reason). first_reason x (first_reason (view_of info v) (content_of rows v)))
+    (reason_of v.start (target_of db v) r e)
 
 -- that the view refuses
 by_view : (db : List ℕ) (info : Option Collection) (rows : List Row) (o : Option Visit) (r : Refusal)
@@ -69,7 +77,8 @@ by_view : (db : List ℕ) (info : Option Collection) (rows : List Row) (o : Opti
     → option_and_then (offence_by db info rows) o ≡ Some r.reason
 by_view db info rows None r t e = absurd cc
 by_view db info rows (Some v) r t e =
-    ap (λ (x : Option Reason). first_reason x (first_reason (view_of info v) (content_of rows v))) (unrefused v.start (target_of db v) t)
+    ap (λ (x : Option Reason). first_reason x (first_reason (view_of info v) (content_of rows v)))
+    (unrefused v.start (target_of db v) t)
     ∙ ap (λ (x : Option Reason). first_reason x (content_of rows v)) (reason_of v.start (view_of info v) r e)
 
 -- that the content pass refuses
@@ -79,7 +88,8 @@ by_content : (db : List ℕ) (info : Option Collection) (rows : List Row) (o : O
     → option_and_then (offence_by db info rows) o ≡ Some r.reason
 by_content db info rows None r t w e = absurd cc
 by_content db info rows (Some v) r t w e =
-    ap (λ (x : Option Reason). first_reason x (first_reason (view_of info v) (content_of rows v))) (unrefused v.start (target_of db v) t)
+    ap (λ (x : Option Reason). first_reason x (first_reason (view_of info v) (content_of rows v)))
+    (unrefused v.start (target_of db v) t)
     ∙ ap (λ (x : Option Reason). first_reason x (content_of rows v)) (unrefused v.start (view_of info v) w)
     ∙ reason_of v.start (content_of rows v) r e
 
@@ -93,8 +103,10 @@ pub record Refused (db : List ℕ) (info : Option Collection) (rows : List Row) 
   pub offence : offence_at db info rows c place ≡ Some r.reason
 
 -- by the first pass that refuses
-refused_by : (db : List ℕ) (info : Option Collection) (rows : List Row) (c : Items) (r : Refusal) (t w k : Option Refusal)
-    → first_refusal_at (target_of db) rows 0 c ≡ t → first_refusal_at (view_of info) rows 0 c ≡ w → first_refusal_at (content_of rows) rows 0 c ≡ k
+refused_by : (db : List ℕ) (info : Option Collection) (rows : List Row) (c : Items) (r : Refusal)
+    (t w k : Option Refusal)
+    → first_refusal_at (target_of db) rows 0 c ≡ t → first_refusal_at (view_of info) rows 0 c ≡ w
+    → first_refusal_at (content_of rows) rows 0 c ≡ k
     → or_else t (or_else w k) ≡ Some r → Refused db info rows c r
 refused_by db info rows c r (Some x) w k p q s e =
     let at = found (refusal_at (target_of db) rows 0 c) (places c) r (p ∙ e) in
@@ -104,7 +116,8 @@ refused_by db info rows c r (Some x) w k p q s e =
       read = target_veiled db rows;
       place = at.place;
       is = at.is;
-      offence = sym (offence_read db info rows 0 c at.place) ∙ by_target db info rows (visit_at rows 0 c at.place) r at.is;
+      offence = sym (offence_read db info rows 0 c at.place)
+          ∙ by_target db info rows (visit_at rows 0 c at.place) r at.is;
     }
 refused_by db info rows c r None (Some x) k p q s e =
     let at = found (refusal_at (view_of info) rows 0 c) (places c) r (q ∙ e) in
@@ -138,31 +151,38 @@ refused db info rows c r e =
 
 -- nothing is refused below a protected place
 
-silent_parent : (rows : List Row) (s : Station) (links : Chain) → is_silent s ≡ true → is_silent (parent_along rows s links) ≡ true
+silent_parent : (rows : List Row) (s : Station) (links : Chain) → is_silent s ≡ true
+    → is_silent (parent_along rows s links) ≡ true
 silent_parent rows s (last l) h = h
 silent_parent rows s (onward l rest) h =
     silent_parent rows (station rows s l.entry) rest (ap is_silent (child_passed rows s l.entry h))
 
-below_cases : (rows : List Row) (u : Station) (rest : Chain) (b : Bool) → has_role u ≡ b → (b || is_below_role rows u rest) ≡ true
+below_cases : (rows : List Row) (u : Station) (rest : Chain) (b : Bool) → has_role u ≡ b
+    → (b || is_below_role rows u rest) ≡ true
     → (is_below_role rows u rest ≡ true → is_silent (parent_along rows u rest) ≡ true)
     → is_silent (parent_along rows u rest) ≡ true
 below_cases rows u rest true h e later = silent_parent rows u rest (role_silent u h)
 below_cases rows u rest false h e later = later e
 
-below_silent : (rows : List Row) (s : Station) (links : Chain) → is_below_role rows s links ≡ true → is_silent (parent_along rows s links) ≡ true
+below_silent : (rows : List Row) (s : Station) (links : Chain) → is_below_role rows s links ≡ true
+    → is_silent (parent_along rows s links) ≡ true
 below_silent rows s (last l) h = absurd (false≢true h)
 below_silent rows s (onward l rest) h =
-    below_cases rows (station rows s l.entry) rest (has_role (station rows s l.entry)) refl h (below_silent rows (station rows s l.entry) rest)
+    below_cases rows (station rows s l.entry) rest (has_role (station rows s l.entry)) refl h
+    (below_silent rows (station rows s l.entry) rest)
 
-shown_by : (pass : Visit → Option Reason) (rows : List Row) (start width : ℕ) (links : Chain) (r : Refusal) (b : Bool) → IsQuiet pass
-    → is_below_role rows Outside links ≡ b → refusal pass (visit_along rows Outside start width links) ≡ Some r → not b ≡ true
+shown_by : (pass : Visit → Option Reason) (rows : List Row) (start width : ℕ) (links : Chain) (r : Refusal) (b : Bool)
+    → IsQuiet pass
+    → is_below_role rows Outside links ≡ b → refusal pass (visit_along rows Outside start width links) ≡ Some r
+    → not b ≡ true
 shown_by pass rows start width links r true quiet h e =
     let none = quiet.clear (visit_along rows Outside start width links) (below_silent rows Outside links h) in
     let gone = sym (ap (refused_at start) none) ∙ e in
     absurd cc
 shown_by pass rows start width links r false quiet h e = refl
 
-shown_in : (pass : Visit → Option Reason) (rows : List Row) (start width : ℕ) (o : Option Chain) (r : Refusal) → IsQuiet pass
+shown_in : (pass : Visit → Option Reason) (rows : List Row) (start width : ℕ) (o : Option Chain) (r : Refusal)
+    → IsQuiet pass
     → option_and_then (refusal pass) (option_map (visit_along rows Outside start width) o) ≡ Some r
     → option_map_or (λ links. not (is_below_role rows Outside links)) o false ≡ true
 shown_in pass rows start width None r quiet e = absurd cc
@@ -170,7 +190,8 @@ shown_in pass rows start width (Some links) r quiet e =
     shown_by pass rows start width links r (is_below_role rows Outside links) quiet refl e
 
 -- a place that is refused has no protected ancestor
-pub refused_shown : (pass : Visit → Option Reason) (rows : List Row) (c : Items) (place : List ℕ) (r : Refusal) → IsQuiet pass
+pub refused_shown : (pass : Visit → Option Reason) (rows : List Row) (c : Items) (place : List ℕ) (r : Refusal)
+    → IsQuiet pass
     → refusal_at pass rows 0 c place ≡ Some r → is_shown rows c place ≡ true
 refused_shown pass rows c place r quiet e =
     shown_in pass rows (start_at 0 place c) (width_at place (node 3 c)) (chain place c) r quiet e
@@ -181,12 +202,14 @@ refusal_veiled pass rows None p = refl
 refusal_veiled pass rows (Some v) p = ap (refused_at v.start) (p.read v)
 
 -- of two commands with equal skeletons the same is refused at each place with no protected ancestor
-pub equal_refusal_at : (pass : Visit → Option Reason) (rows : List Row) (c d : Items) (place : List ℕ) → IsVeiled pass rows
+pub equal_refusal_at : (pass : Visit → Option Reason) (rows : List Row) (c d : Items) (place : List ℕ)
+    → IsVeiled pass rows
     → skeleton rows c ≡ skeleton rows d → is_shown rows c place ≡ true
     → refusal_at pass rows 0 c place ≡ refusal_at pass rows 0 d place
 equal_refusal_at pass rows c d place read e h =
     sym (refusal_veiled pass rows (visit_at rows 0 c place) read)
-    ∙ (ap (option_and_then (refusal pass)) (equal_visits rows 0 c d e place h) ∙ refusal_veiled pass rows (visit_at rows 0 d place) read)
+    ∙ (ap (option_and_then (refusal pass)) (equal_visits rows 0 c d e place h)
+    ∙ refusal_veiled pass rows (visit_at rows 0 d place) read)
 
 -- where nothing is refused
 
@@ -202,7 +225,8 @@ none_refused : (at : ℕ) (o : Option Reason) → is_none (refused_at at o) ≡ 
 none_refused at None = refl
 none_refused at (Some r) = refl
 
-none_first : (pass : Visit → Option Reason) (vs : List Visit) → is_none (first_refusal pass vs) ≡ list_all (λ v. is_none (pass v)) vs
+none_first : (pass : Visit → Option Reason) (vs : List Visit)
+    → is_none (first_refusal pass vs) ≡ list_all (λ v. is_none (pass v)) vs
 none_first pass [] = refl
 none_first pass (v ∷ vs) =
     none_either (refused_at v.start (pass v)) (first_refusal pass vs)
@@ -230,22 +254,27 @@ all_same f g [] e = refl
 all_same f g (v ∷ vs) e = ap₂ (λ (a b : Bool). a && b) (e v) (all_same f g vs e)
 
 none_at : (db : List ℕ) (info : Option Collection) (rows : List Row) (v : Visit)
-    → (is_none (target_of db v) && (is_none (view_of info v) && is_none (content_of rows v))) ≡ is_none (offence_by db info rows v)
+    → (is_none (target_of db v) && (is_none (view_of info v) && is_none (content_of rows v)))
+    ≡ is_none (offence_by db info rows v)
 none_at db info rows v =
     sym (none_reason (target_of db v) (first_reason (view_of info v) (content_of rows v))
     ∙ ap (λ (b : Bool). is_none (target_of db v) && b) (none_reason (view_of info v) (content_of rows v)))
 
 -- nothing is refused exactly where no place has an offence
 pub accepted : (db : List ℕ) (info : Option Collection) (rows : List Row) (at : ℕ) (c : Items)
-    → is_none (verdict_on db info rows (command_visits rows at c)) ≡ list_all is_none (map (offence_at db info rows c) (places c))
+    → is_none (verdict_on db info rows (command_visits rows at c))
+    ≡ list_all is_none (map (offence_at db info rows c) (places c))
 accepted db info rows at c =
     let vs = command_visits rows at c in
     let t : Visit → Bool = λ v. is_none (target_of db v) in
     let w : Visit → Bool = λ v. is_none (view_of info v) in
     let k : Visit → Bool = λ v. is_none (content_of rows v) in
-    none_either (first_refusal (target_of db) vs) (or_else (first_refusal (view_of info) vs) (first_refusal (content_of rows) vs))
-    ∙ ap (λ (b : Bool). is_none (first_refusal (target_of db) vs) && b) (none_either (first_refusal (view_of info) vs) (first_refusal (content_of rows) vs))
-    ∙ ap₂ (λ (a b : Bool). a && b) (none_first (target_of db) vs) (ap₂ (λ (a b : Bool). a && b) (none_first (view_of info) vs) (none_first (content_of rows) vs))
+    none_either (first_refusal (target_of db) vs)
+    (or_else (first_refusal (view_of info) vs) (first_refusal (content_of rows) vs))
+    ∙ ap (λ (b : Bool). is_none (first_refusal (target_of db) vs) && b)
+    (none_either (first_refusal (view_of info) vs) (first_refusal (content_of rows) vs))
+    ∙ ap₂ (λ (a b : Bool). a && b) (none_first (target_of db) vs)
+    (ap₂ (λ (a b : Bool). a && b) (none_first (view_of info) vs) (none_first (content_of rows) vs))
     ∙ all_three t w k vs
     ∙ all_same (λ v. t v && (w v && k v)) (λ v. is_none (offence_by db info rows v)) vs (none_at db info rows)
     ∙ sym (list_all-map is_none (offence_by db info rows) vs)

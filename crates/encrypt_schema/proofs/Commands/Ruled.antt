@@ -1,5 +1,6 @@
 -- The mark of a protected place has the number of a rule that is there.
-use Rattle.std.proofs.Common.{◌≡◌, ℕ, ◌+◌, ◌<◌, Bool, true, false, cond, ◌&&◌, not, codes, List, [], ◌∷◌, ◌++◌, length, refl, subst, sym}
+use Rattle.std.proofs.Common.{◌≡◌, ℕ, ◌+◌, ◌<◌, Bool, true, false, cond, ◌&&◌, not, codes, List, [], ◌∷◌, ◌++◌, length}
+use Rattle.std.proofs.Common.{refl, subst, sym}
 use Rattle.bson_tree.specs.Tree.{Tree, leaf, node, Items, no_items, item}
 use Rattle.bson_tree.specs.Spelling.{value_bytes}
 use Rattle.encrypt_schema.specs.declared.command.operators.Subject.{Subject}
@@ -11,8 +12,15 @@ use Rattle.encrypt_schema.specs.Language.Names.{named}
 use Rattle.encrypt_schema.specs.Language.Row.{Row}
 use Rattle.encrypt_schema.specs.Paths.Classes.{class}
 use Rattle.encrypt_schema.specs.Paths.Dotted.{split, is_dollar, positional}
-use Rattle.encrypt_schema.specs.Commands.Stations.{Entry, Station, Outside, Insert, Update, Delete, Find, Inserts, Updates, Deletes, UpdateItem, DeleteItem, Filter, Cases, Projection, Test, Elements, Operators, Sets, Argument, operator_of, Document, Store, Compare, Bare, Passed, Unknown, is_passed, is_document, is_array, is_operators, is_dollar_first, has_name, is_logical, is_equality, is_membership, is_set, is_random_field, dotted, command_of, update_of, stored_at, tested_at, compared_with, station}
-use Rattle.encrypt_schema.specs.Commands.Visits.{entry, command_entry, Visit, visit, visits_in, visits, command_visit, mark_at, marks, roles}
+use Rattle.encrypt_schema.specs.Commands.Stations.{Entry, Station, Outside, Insert, Update, Delete, Find, Inserts}
+use Rattle.encrypt_schema.specs.Commands.Stations.{Updates, Deletes, UpdateItem, DeleteItem, Filter, Cases, Projection}
+use Rattle.encrypt_schema.specs.Commands.Stations.{Test, Elements, Operators, Sets, Argument, operator_of, Document}
+use Rattle.encrypt_schema.specs.Commands.Stations.{Store, Compare, Bare, Passed, Unknown, is_passed, is_document}
+use Rattle.encrypt_schema.specs.Commands.Stations.{is_array, is_operators, is_dollar_first, has_name, is_logical}
+use Rattle.encrypt_schema.specs.Commands.Stations.{is_equality, is_membership, is_set, is_random_field, dotted}
+use Rattle.encrypt_schema.specs.Commands.Stations.{command_of, update_of, stored_at, tested_at, compared_with, station}
+use Rattle.encrypt_schema.specs.Commands.Visits.{entry, command_entry, Visit, visit, visits_in, visits, command_visit}
+use Rattle.encrypt_schema.specs.Commands.Visits.{mark_at, marks, roles}
 use Rattle.encrypt_schema.proofs.Commands.Silence.{marks_append}
 use Rattle.encrypt_schema.proofs.Paths.Steps.{protected_inside}
 
@@ -70,7 +78,8 @@ compared_ruled : (n : ℕ) (x : Subject) → IsRuledSubject n x → IsRuled n (c
 compared_ruled n (Field i) h = h
 compared_ruled n Prefix h = tt
 
-class_by_ruled : (rows : List Row) (path : List (List ℕ)) (c : Class) → class rows path ≡ c → IsRuledClass (length rows) c
+class_by_ruled : (rows : List Row) (path : List (List ℕ)) (c : Class) → class rows path ≡ c
+    → IsRuledClass (length rows) c
 unfolding IsRuledClass
 class_by_ruled rows path (Protected i) e = protected_inside rows path i e
 class_by_ruled rows path _ e = tt
@@ -85,7 +94,8 @@ dotted_ruled rows name =
     [ true ↦ tt | false ↦ class_ruled rows (split name) ]
 
 -- a place whose parent's number is that of a rule has such a number
-pub station_ruled : (rows : List Row) (s : Station) (e : Entry) → IsRuled (length rows) s → IsRuled (length rows) (station rows s e)
+pub station_ruled : (rows : List Row) (s : Station) (e : Entry) → IsRuled (length rows) s
+    → IsRuled (length rows) (station rows s e)
 station_ruled rows Outside e h = command_ruled (length rows) e.names
 station_ruled rows Insert e h = either (length rows) (has_name (codes "documents") e && is_array e) Inserts Passed tt tt
 station_ruled rows Inserts e h = either (length rows) (is_document e) (Document []) Passed tt tt
@@ -98,17 +108,21 @@ station_ruled rows Updates e h = either (length rows) (is_document e) UpdateItem
 station_ruled rows Deletes e h = either (length rows) (is_document e) DeleteItem Passed tt tt
 station_ruled rows UpdateItem e h =
     either (length rows) (has_name (codes "q") e && is_document e) Filter _ tt
-    (either (length rows) (has_name (codes "u") e && is_document e) (update_of e.names) Passed (update_ruled (length rows) e.names) tt)
+    (either (length rows) (has_name (codes "u") e && is_document e) (update_of e.names) Passed
+    (update_ruled (length rows) e.names) tt)
 station_ruled rows DeleteItem e h = either (length rows) (has_name (codes "q") e && is_document e) Filter Passed tt tt
 station_ruled rows (Document path) e h =
-    stored_ruled (length rows) (class rows (path ++ e.name ∷ [])) (path ++ e.name ∷ []) (is_document e) (class_ruled rows (path ++ e.name ∷ []))
+    stored_ruled (length rows) (class rows (path ++ e.name ∷ [])) (path ++ e.name ∷ []) (is_document e)
+    (class_ruled rows (path ++ e.name ∷ []))
 station_ruled rows Filter e h =
     either (length rows) (is_logical e.name) _ _ (either (length rows) (is_array e) Cases Passed tt tt)
-    (either (length rows) (is_dollar e.name) Passed _ tt (tested_ruled (length rows) (dotted rows e.name) (is_operators e) (dotted_ruled rows e.name)))
+    (either (length rows) (is_dollar e.name) Passed _ tt
+    (tested_ruled (length rows) (dotted rows e.name) (is_operators e) (dotted_ruled rows e.name)))
 station_ruled rows Cases e h = either (length rows) (is_document e) Filter Passed tt tt
 station_ruled rows (Test x) e h =
     either (length rows) (is_equality e.name) (compared_with x) _ (compared_ruled (length rows) x h)
-    (either (length rows) (is_membership e.name) _ _ (either (length rows) (is_array e && not (is_random_field rows x)) (Elements x) Passed h tt)
+    (either (length rows) (is_membership e.name) _ _
+    (either (length rows) (is_array e && not (is_random_field rows x)) (Elements x) Passed h tt)
     (either (length rows) (has_name (codes "$not") e && is_operators e) (Test x) Passed h tt))
 station_ruled rows (Elements x) e h = compared_ruled (length rows) x h
 station_ruled rows Operators e h =

@@ -1,6 +1,7 @@
 -- By places: no protected place lies below another one; and of two commands with equal skeletons the same is
 -- read at each place with no protected ancestor.
-use Rattle.std.proofs.Common.{◌≡◌, ℕ, zero, suc, ◌+◌, Bool, true, false, cond, not, ◌||◌, List, [], ◌∷◌, ◌++◌, length, Option, Some, None, refl, sym, ap, ◌∙◌}
+use Rattle.std.proofs.Common.{◌≡◌, ℕ, zero, suc, ◌+◌, Bool, true, false, cond, not, ◌||◌, List, [], ◌∷◌, ◌++◌, length}
+use Rattle.std.proofs.Common.{Option, Some, None, refl, sym, ap, ◌∙◌}
 use Rattle.std.specs.Prelude.{option_map, is_some}
 use Rattle.std.specs.Option.{option_map_or}
 use Rattle.std.proofs.lemmas.Bool.{false≢true}
@@ -9,8 +10,10 @@ use Rattle.bson_tree.specs.Spelling.{framed, value_bytes, items_bytes}
 use Rattle.encrypt_schema.specs.Language.Row.{Row}
 use Rattle.encrypt_schema.specs.Commands.Stations.{Station, Outside, Store, Compare, Passed, station, has_role}
 use Rattle.encrypt_schema.specs.Commands.Visits.{is_payload, entry, Visit}
-use Rattle.encrypt_schema.specs.Commands.Skeletons.{Skeleton, hole, plain, branch, Skeletons, no_more, more, skeleton_in, skeletons, width_of}
-use Rattle.encrypt_schema.specs.Commands.Chains.{Link, Chain, last, onward, link, chain_from, chain, station_along, station_at, is_below_role, is_shown}
+use Rattle.encrypt_schema.specs.Commands.Skeletons.{Skeleton, hole, plain, branch, Skeletons, no_more, more}
+use Rattle.encrypt_schema.specs.Commands.Skeletons.{skeleton_in, skeletons, width_of}
+use Rattle.encrypt_schema.specs.Commands.Chains.{Link, Chain, last, onward, link, chain_from, chain, station_along}
+use Rattle.encrypt_schema.specs.Commands.Chains.{station_at, is_below_role, is_shown}
 use Rattle.encrypt_schema.proofs.Commands.Widths.{entry_in, width_kept, station_kept}
 use Rattle.encrypt_schema.proofs.Commands.Worlds.{skeleton_visit, veil, visit_kept}
 use Rattle.encrypt_schema.proofs.Commands.ByPlace.{visit_from}
@@ -37,7 +40,8 @@ none_below : (rows : List Row) (s : Station) (links : Chain) → has_role (stati
     → is_below_role rows s links ≡ false
 none_below rows s (last l) h = refl
 none_below rows s (onward l rest) h =
-    below_cases rows (station rows s l.entry) rest (has_role (station rows s l.entry)) refl h (none_below rows (station rows s l.entry) rest h)
+    below_cases rows (station rows s l.entry) rest (has_role (station rows s l.entry)) refl h
+    (none_below rows (station rows s l.entry) rest h)
 
 no_role_in : (rows : List Row) (o : Option Chain)
     → option_map_or has_role (option_map (station_along rows Outside) o) false ≡ true
@@ -71,7 +75,8 @@ abbrev pub shows : List Row → Station → Option Chain → Bool
 shows rows s o = option_map_or (λ links. not (is_below_role rows s links)) o false
 
 -- one link of a chain: nothing below a protected value is seen
-pub shows_node : (rows : List Row) (s : Station) (l : Link) (o : Option Chain) (b : Bool) (seen : Option Visit) → has_role (station rows s l.entry) ≡ b
+pub shows_node : (rows : List Row) (s : Station) (l : Link) (o : Option Chain) (b : Bool) (seen : Option Visit)
+    → has_role (station rows s l.entry) ≡ b
     → shows rows (station rows s l.entry) o ≡ is_some seen
     → shows rows s (option_map (onward l) o) ≡ is_some (cond b None seen)
 shows_node rows s l None true seen h p = refl
@@ -85,21 +90,25 @@ seen_hidden : (rows : List Row) (u v : Station) (at i : ℕ) (place : List ℕ) 
     → seen_in rows v at i place (cond (has_role u) (hole tag width false) (branch tag ks))
     ≡ cond (has_role u) None (seen_from rows v (at + 4) [] i place ks)
 seen_hidden rows u v at i place tag width ks =
-    elim (has_role u) as (λ b. seen_in rows v at i place (cond b (hole tag width false) (branch tag ks)) ≡ cond b None (seen_from rows v (at + 4) [] i place ks))
+    elim (has_role u) as (λ b. seen_in rows v at i place (cond b (hole tag width false) (branch tag ks))
+    ≡ cond b None (seen_from rows v (at + 4) [] i place ks))
     [ true ↦ refl | false ↦ refl ]
 
 seen_leaf : (rows : List Row) (u v : Station) (at i : ℕ) (place : List ℕ) (tag : ℕ) (bytes : List ℕ)
     → seen_in rows v at i place (skeleton_in rows u (leaf tag bytes)) ≡ None
 seen_leaf rows u v at i place tag bytes =
-    elim (has_role u) as (λ b. seen_in rows v at i place (cond b (hole tag (length bytes) (is_payload tag bytes)) (plain tag bytes)) ≡ None)
+    elim (has_role u) as (λ b. seen_in rows v at i place
+    (cond b (hole tag (length bytes) (is_payload tag bytes)) (plain tag bytes)) ≡ None)
     [ true ↦ refl | false ↦ refl ]
 
 -- in a skeleton, what is seen of an embedded document or array
 seen_node : (rows : List Row) (s : Station) (at j : ℕ) (place : List ℕ) (name : List ℕ) (tag : ℕ) (js : Items)
-    → seen_in rows (station rows s (entry_in name (skeleton_in rows (station rows s (entry name (node tag js))) (node tag js)))) at j place
+    → seen_in rows (station rows s (entry_in name
+    (skeleton_in rows (station rows s (entry name (node tag js))) (node tag js)))) at j place
     (skeleton_in rows (station rows s (entry name (node tag js))) (node tag js))
     ≡ cond (has_role (station rows s (entry name (node tag js)))) None
-    (seen_from rows (station rows s (entry name (node tag js))) (at + 4) [] j place (skeletons rows (station rows s (entry name (node tag js))) js))
+    (seen_from rows (station rows s (entry name (node tag js))) (at + 4) [] j place
+    (skeletons rows (station rows s (entry name (node tag js))) js))
 seen_node rows s at j place name tag js =
     let u = station rows s (entry name (node tag js)) in
     let k = skeleton_in rows u (node tag js) in
@@ -113,18 +122,22 @@ pub shows_seen : (rows : List Row) (s : Station) (at : ℕ) (elder : List (List 
 shows_seen rows s at elder i place no_items = refl
 shows_seen rows s at elder zero [] (item name t is) = refl
 shows_seen rows s at elder zero (j ∷ place) (item name (leaf tag bytes) is) =
-    ap is_some (sym (seen_leaf rows (station rows s (entry name (leaf tag bytes))) _ (at + (2 + length name)) j place tag bytes))
+    ap is_some (sym (seen_leaf rows (station rows s (entry name (leaf tag bytes))) _
+    (at + (2 + length name)) j place tag bytes))
 shows_seen rows s at elder zero (j ∷ place) (item name (node tag js) is) =
     let u = station rows s (entry name (node tag js)) in
-    shows_node rows s (link elder name (node tag js)) (chain_from [] j place js) (has_role u) _ refl (shows_seen rows u (at + (2 + length name) + 4) [] j place js)
+    shows_node rows s (link elder name (node tag js)) (chain_from [] j place js) (has_role u) _ refl
+    (shows_seen rows u (at + (2 + length name) + 4) [] j place js)
     ∙ ap is_some (sym (seen_node rows s (at + (2 + length name)) j place name tag js))
 shows_seen rows s at elder (suc i) place (item name t is) =
     shows_seen rows s (at + (2 + length name) + length (value_bytes t)) (elder ++ name ∷ []) i place is
-    ∙ ap (λ (n : ℕ). is_some (seen_from rows s (at + (2 + length name) + n) (elder ++ name ∷ []) i place (skeletons rows s is)))
+    ∙ ap (λ (n : ℕ). is_some (seen_from rows s (at + (2 + length name) + n) (elder ++ name ∷ []) i place
+    (skeletons rows s is)))
     (sym (width_kept rows (station rows s (entry name t)) t))
 
 -- one link of a chain, for what is read of the place
-pub veiled_node : (rows : List Row) (s : Station) (l : Link) (o : Option Chain) (b : Bool) (v seen : Option Visit) → has_role (station rows s l.entry) ≡ b
+pub veiled_node : (rows : List Row) (s : Station) (l : Link) (o : Option Chain) (b : Bool) (v seen : Option Visit)
+    → has_role (station rows s l.entry) ≡ b
     → (shows rows (station rows s l.entry) o ≡ true → option_map (veil rows) v ≡ seen)
     → shows rows s (option_map (onward l) o) ≡ true → option_map (veil rows) v ≡ cond b None seen
 veiled_node rows s l None b v seen h p q = absurd (false≢true q)

@@ -1,5 +1,6 @@
 -- Inside a value that isn't looked into nothing is marked and nothing is refused.
-use Rattle.std.proofs.Common.{◌≡◌, ℕ, ◌+◌, Bool, true, false, cond, List, [], ◌∷◌, ◌++◌, length, Option, Some, None, refl, sym, ap, ◌∙◌}
+use Rattle.std.proofs.Common.{◌≡◌, ℕ, ◌+◌, Bool, true, false, cond, List, [], ◌∷◌, ◌++◌, length, Option, Some, None}
+use Rattle.std.proofs.Common.{refl, sym, ap, ◌∙◌}
 use Rattle.std.proofs.lemmas.Bool.{false≢true}
 use Rattle.std.proofs.lemmas.List.{append_assoc}
 use Rattle.bson_tree.specs.Tree.{Tree, leaf, node, Items, no_items, item}
@@ -7,10 +8,13 @@ use Rattle.bson_tree.specs.Spelling.{value_bytes}
 use Rattle.encrypt_schema.specs.declared.command.marks.Mark.{Mark}
 use Rattle.encrypt_schema.specs.declared.command.reason.Reason.{Reason}
 use Rattle.encrypt_schema.specs.Language.Row.{Row}
-use Rattle.encrypt_schema.specs.Commands.Stations.{Entry, Station, Store, Compare, Bare, Passed, station, has_role, is_silent}
+use Rattle.encrypt_schema.specs.Commands.Stations.{Entry, Station, Store, Compare, Bare, Passed, station, has_role}
+use Rattle.encrypt_schema.specs.Commands.Stations.{is_silent}
 use Rattle.encrypt_schema.specs.Language.Collection.{Collection}
 use Rattle.encrypt_schema.specs.Commands.Offences.{target_offence, view_offence, ruled_offence}
-use Rattle.encrypt_schema.specs.Commands.Visits.{entry, Visit, visit, visits_in, visits, mark_at, marks, Refusal, target_of, view_of, ruled_of, content_of, refused_at, first_refusal, or_else, station_of}
+use Rattle.encrypt_schema.specs.Commands.Visits.{entry, Visit, visit, visits_in, visits, mark_at, marks, Refusal}
+use Rattle.encrypt_schema.specs.Commands.Visits.{target_of, view_of, ruled_of, content_of, refused_at, first_refusal}
+use Rattle.encrypt_schema.specs.Commands.Visits.{or_else, station_of}
 use Rattle.encrypt_schema.proofs.Commands.Worlds.{shown_in, shown}
 
 -- the marks of one list of places and of another behind it
@@ -47,7 +51,8 @@ pub same : {pass : Visit → Option Reason} {rows : List Row} {vs : List Visit} 
 same = record { marked = refl; refused = refl }
 
 -- lists of places that are alike, behind lists that are alike
-pub alike_append : (pass : Visit → Option Reason) (rows : List Row) (vs us xs ys : List Visit) → Alike pass rows vs us → Alike pass rows xs ys
+pub alike_append : (pass : Visit → Option Reason) (rows : List Row) (vs us xs ys : List Visit) → Alike pass rows vs us
+    → Alike pass rows xs ys
     → Alike pass rows (vs ++ xs) (us ++ ys)
 alike_append pass rows vs us xs ys p q =
     let a = marks_append rows vs xs in
@@ -61,7 +66,8 @@ alike_append pass rows vs us xs ys p q =
     record { marked = cc; refused = cc }
 
 -- the same place before lists that are alike
-pub alike_cons : (pass : Visit → Option Reason) (rows : List Row) (v : Visit) (vs us : List Visit) → Alike pass rows vs us
+pub alike_cons : (pass : Visit → Option Reason) (rows : List Row) (v : Visit) (vs us : List Visit)
+    → Alike pass rows vs us
     → Alike pass rows (v ∷ vs) (v ∷ us)
 alike_cons pass rows v vs us p = record {
   marked = ap (λ (ms : List Mark). mark_at (station_of rows v) v ++ ms) p.marked;
@@ -125,40 +131,48 @@ ruled_quiet rows = record { clear = λ v h. ruled_clear rows v.parent v.elder v.
 pub content_quiet : (rows : List Row) → IsQuiet (content_of rows)
 content_quiet rows = record { clear = content_clear rows }
 
-one_silent : (pass : Visit → Option Reason) (rows : List Row) (s : Station) (at : ℕ) (elder : List (List ℕ)) (name : List ℕ) (t : Tree) (vs us : List Visit)
+one_silent : (pass : Visit → Option Reason) (rows : List Row) (s : Station) (at : ℕ) (elder : List (List ℕ))
+    (name : List ℕ) (t : Tree) (vs us : List Visit)
     → IsQuiet pass → is_silent s ≡ true → Alike pass rows vs [] → Alike pass rows us []
     → Alike pass rows (visit s elder at name t ∷ (vs ++ us)) []
 one_silent pass rows s at elder name t vs us quiet h p q =
     let rest = alike_append pass rows vs [] us [] p q in
     record {
       marked =
-          ap (λ (u : Station). mark_at u (visit s elder at name t) ++ marks rows (vs ++ us)) (child_passed rows s (entry name t) h) ∙ rest.marked;
+          ap (λ (u : Station). mark_at u (visit s elder at name t) ++ marks rows (vs ++ us))
+          (child_passed rows s (entry name t) h) ∙ rest.marked;
       refused =
-          ap (λ (r : Option Reason). or_else (refused_at (at + (2 + length name)) r) (first_refusal pass (vs ++ us))) (quiet.clear (visit s elder at name t) h) ∙ rest.refused;
+          ap (λ (r : Option Reason). or_else (refused_at (at + (2 + length name)) r) (first_refusal pass (vs ++ us)))
+          (quiet.clear (visit s elder at name t) h) ∙ rest.refused;
     }
 
 mutual
-  silent_in : (pass : Visit → Option Reason) (rows : List Row) (s : Station) (at : ℕ) (t : Tree) → IsQuiet pass → is_silent s ≡ true
+  silent_in : (pass : Visit → Option Reason) (rows : List Row) (s : Station) (at : ℕ) (t : Tree) → IsQuiet pass
+      → is_silent s ≡ true
       → Alike pass rows (visits_in rows s at t) []
   silent_in pass rows s at (leaf tag bytes) quiet h = same
   silent_in pass rows s at (node tag is) quiet h = silent_among pass rows s (at + 4) [] is quiet h
 
-  silent_among : (pass : Visit → Option Reason) (rows : List Row) (s : Station) (at : ℕ) (elder : List (List ℕ)) (is : Items)
+  silent_among : (pass : Visit → Option Reason) (rows : List Row) (s : Station) (at : ℕ) (elder : List (List ℕ))
+      (is : Items)
       → IsQuiet pass → is_silent s ≡ true → Alike pass rows (visits rows s at elder is) []
   silent_among pass rows s at elder no_items quiet h = same
   silent_among pass rows s at elder (item name t is) quiet h =
       one_silent pass rows s at elder name t _ _ quiet h
-      (silent_in pass rows (station rows s (entry name t)) (at + (2 + length name)) t quiet (ap is_silent (child_passed rows s (entry name t) h)))
+      (silent_in pass rows (station rows s (entry name t)) (at + (2 + length name)) t quiet
+      (ap is_silent (child_passed rows s (entry name t) h)))
       (silent_among pass rows s (at + (2 + length name) + length (value_bytes t)) (elder ++ name ∷ []) is quiet h)
 
 -- inside a value that isn't looked into nothing is marked, and nothing is refused
-pub silent : (pass : Visit → Option Reason) (rows : List Row) (s : Station) (at : ℕ) (elder : List (List ℕ)) (is : Items)
+pub silent : (pass : Visit → Option Reason) (rows : List Row) (s : Station) (at : ℕ) (elder : List (List ℕ))
+    (is : Items)
     → IsQuiet pass → is_silent s ≡ true
     → (marks rows (visits rows s at elder is) ≡ []) × (first_refusal pass (visits rows s at elder is) ≡ None)
 silent pass rows s at elder is quiet h = let a = silent_among pass rows s at elder is quiet h in (a.marked, a.refused)
 
 -- nor inside one value
-pub silent_inside : (pass : Visit → Option Reason) (rows : List Row) (s : Station) (at : ℕ) (t : Tree) → IsQuiet pass → is_silent s ≡ true
+pub silent_inside : (pass : Visit → Option Reason) (rows : List Row) (s : Station) (at : ℕ) (t : Tree) → IsQuiet pass
+    → is_silent s ≡ true
     → (marks rows (visits_in rows s at t) ≡ []) × (first_refusal pass (visits_in rows s at t) ≡ None)
 silent_inside pass rows s at t quiet h = let a = silent_in pass rows s at t quiet h in (a.marked, a.refused)
 
@@ -168,10 +182,12 @@ role_silent (Store i) h = refl
 role_silent (Compare i) h = refl
 role_silent _ h = absurd (false≢true h)
 
-back : {pass : Visit → Option Reason} {rows : List Row} {vs us : List Visit} → Alike pass rows vs us → Alike pass rows us vs
+back : {pass : Visit → Option Reason} {rows : List Row} {vs us : List Visit} → Alike pass rows vs us
+    → Alike pass rows us vs
 back p = record { marked = sym p.marked; refused = sym p.refused }
 
-cut_node : (pass : Visit → Option Reason) (rows : List Row) (s : Station) (at : ℕ) (is : Items) (b : Bool) → IsQuiet pass → has_role s ≡ b
+cut_node : (pass : Visit → Option Reason) (rows : List Row) (s : Station) (at : ℕ) (is : Items) (b : Bool)
+    → IsQuiet pass → has_role s ≡ b
     → Alike pass rows (shown rows s at [] is) (visits rows s at [] is)
     → Alike pass rows (cond b [] (shown rows s at [] is)) (visits rows s at [] is)
 cut_node pass rows s at is true quiet h p = back (silent_among pass rows s at [] is quiet (role_silent s h))
@@ -182,9 +198,11 @@ mutual
   cut_in : (pass : Visit → Option Reason) (rows : List Row) (s : Station) (at : ℕ) (t : Tree) → IsQuiet pass
       → Alike pass rows (shown_in rows s at t) (visits_in rows s at t)
   cut_in pass rows s at (leaf tag bytes) quiet = same
-  cut_in pass rows s at (node tag is) quiet = cut_node pass rows s (at + 4) is (has_role s) quiet refl (cut pass rows s (at + 4) [] is quiet)
+  cut_in pass rows s at (node tag is) quiet = cut_node pass rows s (at + 4) is (has_role s) quiet refl
+      (cut pass rows s (at + 4) [] is quiet)
 
-  pub cut : (pass : Visit → Option Reason) (rows : List Row) (s : Station) (at : ℕ) (elder : List (List ℕ)) (is : Items) → IsQuiet pass
+  pub cut : (pass : Visit → Option Reason) (rows : List Row) (s : Station) (at : ℕ) (elder : List (List ℕ)) (is : Items)
+      → IsQuiet pass
       → Alike pass rows (shown rows s at elder is) (visits rows s at elder is)
   cut pass rows s at elder no_items quiet = same
   cut pass rows s at elder (item name t is) quiet =

@@ -1,5 +1,6 @@
 -- Two commands with equal blanks have the same protected places, with the same rules and roles.
-use Rattle.std.proofs.Common.{◌≡◌, ℕ, ◌+◌, Bool, true, false, cond, List, [], ◌∷◌, ◌++◌, length, map, Option, Some, None, refl, sym, ap, ◌∙◌}
+use Rattle.std.proofs.Common.{◌≡◌, ℕ, ◌+◌, Bool, true, false, cond, List, [], ◌∷◌, ◌++◌, length, map, Option, Some}
+use Rattle.std.proofs.Common.{None, refl, sym, ap, ◌∙◌}
 use Rattle.std.specs.Prelude.{flat_map, option_map}
 use Rattle.std.specs.Option.{option_map_or}
 use Rattle.std.proofs.lemmas.Bool.{false≢true}
@@ -10,15 +11,20 @@ use Rattle.bson_tree.specs.Tree.{Tree, leaf, node, Items, no_items, item}
 use Rattle.bson_tree.specs.Places.{places_in, places_from, places}
 use Rattle.bson_tree.specs.Spelling.{value_bytes}
 use Rattle.encrypt_schema.specs.Language.Row.{Row}
-use Rattle.encrypt_schema.specs.Commands.Stations.{Station, Outside, Store, Compare, Passed, station, has_role, is_silent}
-use Rattle.encrypt_schema.specs.Commands.Visits.{entry, command_entry, Visit, visit, command_visit, station_of, mark_at, roles}
-use Rattle.encrypt_schema.specs.Commands.Skeletons.{Skeleton, hole, plain, branch, Skeletons, no_more, more, blank_hole, blank_in, blanks, blank}
-use Rattle.encrypt_schema.specs.Commands.Chains.{Site, site_at, site_of, sites, visit_at, mark_of, use_of_mark, use_of_site}
+use Rattle.encrypt_schema.specs.Commands.Stations.{Station, Outside, Store, Compare, Passed, station, has_role}
+use Rattle.encrypt_schema.specs.Commands.Stations.{is_silent}
+use Rattle.encrypt_schema.specs.Commands.Visits.{entry, command_entry, Visit, visit, command_visit, station_of, mark_at}
+use Rattle.encrypt_schema.specs.Commands.Visits.{roles}
+use Rattle.encrypt_schema.specs.Commands.Skeletons.{Skeleton, hole, plain, branch, Skeletons, no_more, more, blank_hole}
+use Rattle.encrypt_schema.specs.Commands.Skeletons.{blank_in, blanks, blank}
+use Rattle.encrypt_schema.specs.Commands.Chains.{Site, site_at, site_of, sites, visit_at, mark_of, use_of_mark}
+use Rattle.encrypt_schema.specs.Commands.Chains.{use_of_site}
 use Rattle.encrypt_schema.proofs.Commands.Tables.{command_without_role}
 use Rattle.encrypt_schema.proofs.Commands.Widths.{entry_in}
 use Rattle.encrypt_schema.proofs.Commands.Silence.{child_passed, role_silent}
 use Rattle.encrypt_schema.proofs.Commands.Blanks.{names_blank, station_blank}
-use Rattle.encrypt_schema.proofs.Commands.ByPlace.{station_read, next, visit_from, visit_below, places_next, below_next, visit_at_below, roles_by_place}
+use Rattle.encrypt_schema.proofs.Commands.ByPlace.{station_read, next, visit_from, visit_below, places_next, below_next}
+use Rattle.encrypt_schema.proofs.Commands.ByPlace.{visit_at_below, roles_by_place}
 
 -- sites below a first element, and behind it
 abbrev pub site_first : Site → Site
@@ -37,7 +43,8 @@ abbrev mutual
   pub sites_below : List Row → Station → Items → List Site
   sites_below rows s no_items = []
   sites_below rows s (item name t is) =
-      (site_at (0 ∷ []) (station rows s (entry name t)) ++ map site_first (sites_in rows (station rows s (entry name t)) t)) ++ map site_next (sites_below rows s is)
+      (site_at (0 ∷ []) (station rows s (entry name t))
+      ++ map site_first (sites_in rows (station rows s (entry name t)) t)) ++ map site_next (sites_below rows s is)
 
 -- the same, read from blanks
 abbrev mutual
@@ -49,7 +56,8 @@ abbrev mutual
   pub told_below : List Row → Station → Skeletons → List Site
   told_below rows s no_more = []
   told_below rows s (more name k ks) =
-      (site_at (0 ∷ []) (station rows s (entry_in name k)) ++ map site_first (told_in rows (station rows s (entry_in name k)) k)) ++ map site_next (told_below rows s ks)
+      (site_at (0 ∷ []) (station rows s (entry_in name k))
+      ++ map site_first (told_in rows (station rows s (entry_in name k)) k)) ++ map site_next (told_below rows s ks)
 
 told_item : (rows : List Row) (s : Station) (name : List ℕ) (t : Tree) (is : Items)
     → sites_in rows (station rows s (entry name t)) t
@@ -59,12 +67,16 @@ told_item : (rows : List Row) (s : Station) (name : List ℕ) (t : Tree) (is : I
 told_item rows s name t is p q =
     let u = station rows s (entry name t) in
     let k = blank_in rows u t in
-    let a : (site_at (0 ∷ []) u ++ map site_first (sites_in rows u t)) ≡ (site_at (0 ∷ []) u ++ map site_first (told_in rows u k))
+    let a : (site_at (0 ∷ []) u ++ map site_first (sites_in rows u t))
+    ≡ (site_at (0 ∷ []) u ++ map site_first (told_in rows u k))
     = ap (λ (xs : List Site). site_at (0 ∷ []) u ++ map site_first xs) p in
-    let b : (site_at (0 ∷ []) u ++ map site_first (told_in rows u k)) ≡ (site_at (0 ∷ []) (station rows s (entry_in name k)) ++ map site_first (told_in rows (station rows s (entry_in name k)) k))
+    let b : (site_at (0 ∷ []) u ++ map site_first (told_in rows u k))
+    ≡ (site_at (0 ∷ []) (station rows s (entry_in name k))
+    ++ map site_first (told_in rows (station rows s (entry_in name k)) k))
     = ap (λ (x : Station). site_at (0 ∷ []) x ++ map site_first (told_in rows x k)) (station_blank rows s name t) in
     ap (λ (xs : List Site). xs ++ map site_next (sites_below rows s is)) (a ∙ b)
-    ∙ ap (λ (ys : List Site). (site_at (0 ∷ []) (station rows s (entry_in name k)) ++ map site_first (told_in rows (station rows s (entry_in name k)) k)) ++ map site_next ys) q
+    ∙ ap (λ (ys : List Site). (site_at (0 ∷ []) (station rows s (entry_in name k))
+    ++ map site_first (told_in rows (station rows s (entry_in name k)) k)) ++ map site_next ys) q
 
 silent_item : (rows : List Row) (s u : Station) (name : List ℕ) (t : Tree) (is : Items)
     → station rows s (entry name t) ≡ u → site_at (0 ∷ []) u ≡ []
@@ -72,7 +84,8 @@ silent_item : (rows : List Row) (s u : Station) (name : List ℕ) (t : Tree) (is
     → sites_below rows s (item name t is) ≡ []
 silent_item rows s u name t is e n p q =
     let a : site_at (0 ∷ []) (station rows s (entry name t)) ≡ [] = ap (site_at (0 ∷ [])) e ∙ n in
-    ap (λ (xs : List Site). (xs ++ map site_first (sites_in rows (station rows s (entry name t)) t)) ++ map site_next (sites_below rows s is)) a
+    ap (λ (xs : List Site). (xs ++ map site_first (sites_in rows (station rows s (entry name t)) t))
+    ++ map site_next (sites_below rows s is)) a
     ∙ (ap (λ (xs : List Site). map site_first xs ++ map site_next (sites_below rows s is)) p ∙ ap (map site_next) q)
 
 -- no site is inside a value that isn't looked into
@@ -157,35 +170,48 @@ abbrev pub site_below : Option Visit → List Row → Station → ℕ → List (
 site_below o rows s at elder is place = site_visit rows place (visit_below o rows s at elder is place)
 
 flat_within : (rows : List Row) (s : Station) (at : ℕ) (elder : List (List ℕ)) (name : List ℕ) (tag : ℕ) (js is : Items)
-    → flat_map (site_below (Some (visit s elder at name (node tag js))) rows (station rows s (entry name (node tag js))) (at + (2 + length name) + 4) [] js) (places_from 0 js)
+    → flat_map (site_below (Some (visit s elder at name (node tag js))) rows (station rows s (entry name (node tag js)))
+    (at + (2 + length name) + 4) [] js) (places_from 0 js)
     ≡ sites_below rows (station rows s (entry name (node tag js))) js
-    → flat_map (λ (p : List ℕ). site_visit rows (0 ∷ p) (visit_from rows s at elder 0 p (item name (node tag js) is))) (places_in (node tag js))
-    ≡ site_at (0 ∷ []) (station rows s (entry name (node tag js))) ++ map site_first (sites_in rows (station rows s (entry name (node tag js))) (node tag js))
+    → flat_map (λ (p : List ℕ). site_visit rows (0 ∷ p) (visit_from rows s at elder 0 p (item name (node tag js) is)))
+    (places_in (node tag js))
+    ≡ site_at (0 ∷ []) (station rows s (entry name (node tag js)))
+    ++ map site_first (sites_in rows (station rows s (entry name (node tag js))) (node tag js))
 flat_within rows s at elder name tag js is h =
     let v = visit s elder at name (node tag js) in
     let u = station rows s (entry name (node tag js)) in
-    let f : List ℕ → List Site = λ p. site_visit rows (0 ∷ p) (visit_from rows s at elder 0 p (item name (node tag js) is)) in
+    let f : List ℕ → List Site = λ p. site_visit rows (0 ∷ p)
+    (visit_from rows s at elder 0 p (item name (node tag js) is)) in
     let g = site_below (Some v) rows u (at + (2 + length name) + 4) [] js in
     ap (λ (xs : List Site). site_at (0 ∷ []) u ++ xs)
     (flat_same f (λ p. map site_first (g p)) (places_from 0 js)
-    (λ p. elim p as (λ q. f q ≡ map site_first (g q))
-    [ [] ↦ visit_first rows [] (Some v) | j ∷ q ↦ visit_first rows (j ∷ q) (visit_from rows u (at + (2 + length name) + 4) [] j q js) ])
+    (λ p. elim p as (λ q. f q ≡ map site_first (g q)) [
+      | [] ↦ visit_first rows [] (Some v)
+      | j ∷ q ↦ visit_first rows (j ∷ q)
+          (visit_from rows u (at + (2 + length name) + 4) [] j q js)
+    ])
     ∙ (map_flat site_first g (places_from 0 js) ∙ ap (map site_first) h))
 
-flat_item : (o : Option Visit) (rows : List Row) (s : Station) (at : ℕ) (elder : List (List ℕ)) (name : List ℕ) (t : Tree) (is : Items)
+flat_item : (o : Option Visit) (rows : List Row) (s : Station) (at : ℕ) (elder : List (List ℕ)) (name : List ℕ)
+    (t : Tree) (is : Items)
     → flat_map (λ (p : List ℕ). site_visit rows (0 ∷ p) (visit_from rows s at elder 0 p (item name t is))) (places_in t)
-    ≡ site_at (0 ∷ []) (station rows s (entry name t)) ++ map site_first (sites_in rows (station rows s (entry name t)) t)
-    → flat_map (site_below o rows s (at + (2 + length name) + length (value_bytes t)) (elder ++ name ∷ []) is) (places_from 0 is) ≡ sites_below rows s is
+    ≡ site_at (0 ∷ []) (station rows s (entry name t))
+    ++ map site_first (sites_in rows (station rows s (entry name t)) t)
+    → flat_map (site_below o rows s (at + (2 + length name) + length (value_bytes t)) (elder ++ name ∷ []) is)
+    (places_from 0 is) ≡ sites_below rows s is
     → flat_map (site_below o rows s at elder (item name t is)) (places_from 0 (item name t is))
     ≡ sites_below rows s (item name t is)
 flat_item o rows s at elder name t is inside behind =
     let f = site_below o rows s at elder (item name t is) in
     let g = site_below o rows s (at + (2 + length name) + length (value_bytes t)) (elder ++ name ∷ []) is in
-    let own = site_at (0 ∷ []) (station rows s (entry name t)) ++ map site_first (sites_in rows (station rows s (entry name t)) t) in
-    let left : flat_map f (map (λ (p : List ℕ). 0 ∷ p) (places_in t)) ≡ own = flat_map-map f (λ (p : List ℕ). 0 ∷ p) (places_in t) ∙ inside in
+    let own = site_at (0 ∷ []) (station rows s (entry name t))
+    ++ map site_first (sites_in rows (station rows s (entry name t)) t) in
+    let left : flat_map f (map (λ (p : List ℕ). 0 ∷ p) (places_in t)) ≡ own =
+    flat_map-map f (λ (p : List ℕ). 0 ∷ p) (places_in t) ∙ inside in
     let each : (p : List ℕ) → f (next p) ≡ map site_next (g p)
     = λ p. ap (site_visit rows (next p)) (below_next o rows s at elder name t is p)
-    ∙ visit_next rows p (visit_below o rows s (at + (2 + length name) + length (value_bytes t)) (elder ++ name ∷ []) is p) in
+    ∙ visit_next rows p (visit_below o rows s (at + (2 + length name) + length (value_bytes t))
+    (elder ++ name ∷ []) is p) in
     let right : flat_map f (places_from 1 is) ≡ map site_next (sites_below rows s is)
     = ap (flat_map f) (places_next 0 is)
     ∙ (flat_map-map f next (places_from 0 is)
@@ -196,12 +222,15 @@ flat_item o rows s at elder name t is inside behind =
 
 mutual
   flat_in : (rows : List Row) (s : Station) (at : ℕ) (elder : List (List ℕ)) (name : List ℕ) (t : Tree) (is : Items)
-      → flat_map (λ (p : List ℕ). site_visit rows (0 ∷ p) (visit_from rows s at elder 0 p (item name t is))) (places_in t)
-      ≡ site_at (0 ∷ []) (station rows s (entry name t)) ++ map site_first (sites_in rows (station rows s (entry name t)) t)
+      → flat_map (λ (p : List ℕ). site_visit rows (0 ∷ p) (visit_from rows s at elder 0 p (item name t is)))
+      (places_in t)
+      ≡ site_at (0 ∷ []) (station rows s (entry name t))
+      ++ map site_first (sites_in rows (station rows s (entry name t)) t)
   flat_in rows s at elder name (leaf tag bytes) is = refl
   flat_in rows s at elder name (node tag js) is =
       flat_within rows s at elder name tag js is
-      (flat_below (Some (visit s elder at name (node tag js))) rows (station rows s (entry name (node tag js))) (at + (2 + length name) + 4) [] js)
+      (flat_below (Some (visit s elder at name (node tag js))) rows (station rows s (entry name (node tag js)))
+      (at + (2 + length name) + 4) [] js)
 
   flat_below : (o : Option Visit) (rows : List Row) (s : Station) (at : ℕ) (elder : List (List ℕ)) (is : Items)
       → flat_map (site_below o rows s at elder is) (places_from 0 is) ≡ sites_below rows s is
@@ -232,9 +261,11 @@ sites_are : (rows : List Row) (c : Items)
 sites_are rows c =
     let u = station rows Outside (command_entry c) in
     let first = Some (command_visit c) in
-    ap (λ (xs : List Site). xs ++ flat_map (site_of rows c) (places_from 0 c)) (site_none [] u (command_without_role rows (command_entry c)))
+    ap (λ (xs : List Site). xs ++ flat_map (site_of rows c) (places_from 0 c))
+    (site_none [] u (command_without_role rows (command_entry c)))
     ∙ (flat_same (site_of rows c) (site_below first rows u 4 [] c) (places_from 0 c)
-    (λ p. sym (site_there rows 0 c p) ∙ site_read rows p (visit_at rows 0 c p) ∙ ap (site_visit rows p) (visit_at_below rows 0 c p))
+    (λ p. sym (site_there rows 0 c p) ∙ site_read rows p (visit_at rows 0 c p)
+    ∙ ap (site_visit rows p) (visit_at_below rows 0 c p))
     ∙ flat_below first rows u 4 [] c)
 
 -- the sites of a command, read from its blank
@@ -245,7 +276,13 @@ sites_told_of : (rows : List Row) (c : Items) → sites rows c ≡ told rows (bl
 sites_told_of rows c =
     let u = station rows Outside (command_entry c) in
     let e : u ≡ station rows Outside (entry_in [] (branch 3 (blank rows c)))
-    = ap (λ (ns : List (List ℕ)). station rows Outside (record { name = []; tag = 3; names = ns; raw = []; payload = false })) (sym (names_blank rows u c)) in
+    = ap (λ (ns : List (List ℕ)). station rows Outside (record {
+      name = [];
+      tag = 3;
+      names = ns;
+      raw = [];
+      payload = false;
+    })) (sym (names_blank rows u c)) in
     sites_are rows c ∙ (sites_told rows u c ∙ ap (λ (s : Station). told_below rows s (blank rows c)) e)
 
 -- commands with equal blanks have the same protected places, with the same rules and roles

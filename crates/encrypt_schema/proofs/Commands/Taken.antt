@@ -1,5 +1,6 @@
 -- The marks of a command stand at its values, in reading order.
-use Rattle.std.proofs.Common.{◌≡◌, ℕ, ◌+◌, ◌≤◌, ◌*◌, Bool, true, false, cond, List, [], ◌∷◌, ◌++◌, length, refl, sym, ap, ◌∙◌, subst, arith}
+use Rattle.std.proofs.Common.{◌≡◌, ℕ, ◌+◌, ◌≤◌, ◌*◌, Bool, true, false, cond, List, [], ◌∷◌, ◌++◌, length, refl, sym}
+use Rattle.std.proofs.Common.{ap, ◌∙◌, subst, arith}
 use Rattle.std.proofs.lemmas.Bool.{false≢true}
 use Rattle.std.proofs.lemmas.List.{append_assoc, append-nil}
 use Rattle.bson_tree.specs.Tree.{Tree, leaf, node, Items, no_items, item}
@@ -28,7 +29,8 @@ takes_own (Compare i) v t ms rest w p q =
 takes_own _ v t ms rest w p q = q refl
 
 -- nothing is shown inside a protected value
-none_shown : (rows : List Row) (u : Station) (at : ℕ) (t : Tree) → has_role u ≡ true → marks rows (shown_in rows u at t) ≡ []
+none_shown : (rows : List Row) (u : Station) (at : ℕ) (t : Tree) → has_role u ≡ true
+    → marks rows (shown_in rows u at t) ≡ []
 none_shown rows u at (leaf tag bytes) h = refl
 none_shown rows u at (node tag is) h = ap (λ (b : Bool). marks rows (cond b [] (shown rows u (at + 4) [] is))) h
 
@@ -39,9 +41,11 @@ takes_node rows u at tag is rest true h d = absurd (false≢true (sym h))
 takes_node rows u at tag is rest false h d = inside at tag is (marks rows (shown rows u (at + 4) [] is) ++ rest) rest d
 
 -- the marks of one element, and of those behind it
-pub marks_item : (rows : List Row) (s : Station) (at : ℕ) (elder : List (List ℕ)) (name : List ℕ) (t : Tree) (is : Items) (rest : List Mark)
+pub marks_item : (rows : List Row) (s : Station) (at : ℕ) (elder : List (List ℕ)) (name : List ℕ) (t : Tree)
+    (is : Items) (rest : List Mark)
     → marks rows (shown rows s at elder (item name t is)) ++ rest
-    ≡ own_marks rows s elder at name t ++ (marks rows (shown rows s (at + (2 + length name) + length (value_bytes t)) (elder ++ name ∷ []) is) ++ rest)
+    ≡ own_marks rows s elder at name t ++ (marks rows
+    (shown rows s (at + (2 + length name) + length (value_bytes t)) (elder ++ name ∷ []) is) ++ rest)
 marks_item rows s at elder name t is rest =
     let here = mark_at (station rows s (entry name t)) (visit s elder at name t) in
     let within = shown_in rows (station rows s (entry name t)) (at + (2 + length name)) t in
@@ -54,7 +58,8 @@ mutual
   takes_in : (rows : List Row) (u : Station) (at : ℕ) (t : Tree) (rest : List Mark) → has_role u ≡ false
       → TakesIn at t (marks rows (shown_in rows u at t) ++ rest) rest
   takes_in rows u at (leaf tag bytes) rest h = raw at tag bytes rest
-  takes_in rows u at (node tag is) rest h = takes_node rows u at tag is rest (has_role u) h (takes_among rows u (at + 4) [] is rest)
+  takes_in rows u at (node tag is) rest h = takes_node rows u at tag is rest (has_role u) h
+      (takes_among rows u (at + 4) [] is rest)
 
   -- elements take the marks of what is shown of them
   pub takes_among : (rows : List Row) (s : Station) (at : ℕ) (elder : List (List ℕ)) (is : Items) (rest : List Mark)
@@ -62,7 +67,8 @@ mutual
   takes_among rows s at elder no_items rest = done at rest
   takes_among rows s at elder (item name t is) rest =
       let u = station rows s (entry name t) in
-      let left = marks rows (shown rows s (at + (2 + length name) + length (value_bytes t)) (elder ++ name ∷ []) is) ++ rest in
+      let left = marks rows (shown rows s (at + (2 + length name) + length (value_bytes t)) (elder ++ name ∷ []) is)
+      ++ rest in
       subst (λ (ms : List Mark). Takes at (item name t is) ms rest) (sym (marks_item rows s at elder name t is rest))
       (next at name t is (own_marks rows s elder at name t ++ left) left rest
       (takes_own u (visit s elder at name t) t (marks rows (shown_in rows u (at + (2 + length name)) t)) left refl
@@ -71,7 +77,8 @@ mutual
       (takes_among rows s (at + (2 + length name) + length (value_bytes t)) (elder ++ name ∷ []) is rest))
 
 -- an element's value takes its own mark or those inside it
-pub takes_value : (rows : List Row) (s : Station) (at : ℕ) (elder : List (List ℕ)) (name : List ℕ) (t : Tree) (rest : List Mark)
+pub takes_value : (rows : List Row) (s : Station) (at : ℕ) (elder : List (List ℕ)) (name : List ℕ) (t : Tree)
+    (rest : List Mark)
     → TakesIn (at + (2 + length name)) t (own_marks rows s elder at name t ++ rest) rest
 takes_value rows s at elder name t rest =
     let u = station rows s (entry name t) in
@@ -83,7 +90,8 @@ takes_value rows s at elder name t rest =
 pub roles_taken : (rows : List Row) (at : ℕ) (c : Items) → Takes (at + 4) c (roles rows at c) []
 roles_taken rows at c =
     let s = station rows Outside (command_entry c) in
-    subst (λ (ms : List Mark). Takes (at + 4) c ms []) (append-nil (marks rows (shown rows s (at + 4) [] c)) ∙ sym (roles_shown rows at c))
+    subst (λ (ms : List Mark). Takes (at + 4) c ms [])
+    (append-nil (marks rows (shown rows s (at + 4) [] c)) ∙ sym (roles_shown rows at c))
     (takes_among rows s (at + 4) [] c [])
 
 few_apart : (from : ℕ) (ms : List Mark) (to : ℕ) → AreApart from ms to → from + 2 * length ms ≤ to

@@ -1,5 +1,6 @@
 -- Without rules, and in commands that pass unchanged, nothing is protected.
-use Rattle.std.proofs.Common.{◌≡◌, ℕ, ◌+◌, Bool, true, false, cond, ◌&&◌, ◌||◌, List, [], ◌∷◌, ◌++◌, codes, length, Option, None, refl, ap, ap₂, ◌∙◌}
+use Rattle.std.proofs.Common.{◌≡◌, ℕ, ◌+◌, Bool, true, false, cond, ◌&&◌, ◌||◌, List, [], ◌∷◌, ◌++◌, codes, length}
+use Rattle.std.proofs.Common.{Option, None, refl, ap, ap₂, ◌∙◌}
 use Rattle.std.proofs.lemmas.Bool.{false≢true}
 use Rattle.std.proofs.lemmas.Slice.Eq.{bytes_eq-Decides}
 use Rattle.bson_tree.specs.Tree.{Tree, leaf, node, Items, no_items, item}
@@ -11,12 +12,22 @@ use Rattle.encrypt_schema.specs.Language.Names.{named, is_among}
 use Rattle.encrypt_schema.specs.Language.Row.{Row}
 use Rattle.encrypt_schema.specs.Paths.Classes.{class}
 use Rattle.encrypt_schema.specs.Paths.Dotted.{split, is_dollar, positional}
-use Rattle.encrypt_schema.specs.Commands.Stations.{Entry, Station, Outside, Insert, Update, Delete, Find, Inserts, Updates, Deletes, UpdateItem, DeleteItem, Filter, Cases, Projection, Test, Elements, Operators, Sets, Argument, operator_of, Document, Store, Compare, Passed, Unknown, is_document, is_array, is_operators, is_dollar_first, has_name, is_logical, is_set, dotted, station, stored_at, tested_at, command_of, passed_names, is_passed}
-use Rattle.encrypt_schema.specs.Commands.Offences.{least, target_offence, view_offence, ruled_offence, of_role, command_lacks}
+use Rattle.encrypt_schema.specs.Commands.Stations.{Entry, Station, Outside, Insert, Update, Delete, Find, Inserts}
+use Rattle.encrypt_schema.specs.Commands.Stations.{Updates, Deletes, UpdateItem, DeleteItem, Filter, Cases, Projection}
+use Rattle.encrypt_schema.specs.Commands.Stations.{Test, Elements, Operators, Sets, Argument, operator_of, Document}
+use Rattle.encrypt_schema.specs.Commands.Stations.{Store, Compare, Passed, Unknown, is_document, is_array, is_operators}
+use Rattle.encrypt_schema.specs.Commands.Stations.{is_dollar_first, has_name, is_logical, is_set, dotted, station}
+use Rattle.encrypt_schema.specs.Commands.Stations.{stored_at, tested_at, command_of, passed_names, is_passed}
+use Rattle.encrypt_schema.specs.Commands.Offences.{least, target_offence, view_offence, ruled_offence, of_role}
+use Rattle.encrypt_schema.specs.Commands.Offences.{command_lacks}
 use Rattle.encrypt_schema.specs.Language.Collection.{Collection}
 use Rattle.encrypt_schema.specs.declared.command.reason.Reason.{Reason}
-use Rattle.encrypt_schema.specs.Commands.Visits.{names_of, entry, command_entry, Visit, visit, visits_in, visits, command_visit, command_visits, mark_at, marks, roles, target_of, view_of, ruled_of, content_of, first_refusal, or_else, refused_at, verdict_on}
-use Rattle.encrypt_schema.proofs.Commands.Silence.{marks_append, silent, IsQuiet, target_quiet, view_quiet, content_quiet}
+use Rattle.encrypt_schema.specs.Commands.Visits.{names_of, entry, command_entry, Visit, visit, visits_in, visits}
+use Rattle.encrypt_schema.specs.Commands.Visits.{command_visit, command_visits, mark_at, marks, roles, target_of}
+use Rattle.encrypt_schema.specs.Commands.Visits.{view_of, ruled_of, content_of, first_refusal, or_else, refused_at}
+use Rattle.encrypt_schema.specs.Commands.Visits.{verdict_on}
+use Rattle.encrypt_schema.proofs.Commands.Silence.{marks_append, silent, IsQuiet, target_quiet, view_quiet}
+use Rattle.encrypt_schema.proofs.Commands.Silence.{content_quiet}
 
 -- what is no value that is tested or protected
 abbrev pub is_free : Station → Bool
@@ -33,7 +44,8 @@ class_none path = refl
 
 dotted_none : (name : List ℕ) → dotted [] name ≡ Clear
 dotted_none name =
-    elim (positional [] (split name)) as (λ b. cond b Clear (class [] (split name)) ≡ Clear) [ true ↦ refl | false ↦ class_none (split name) ]
+    elim (positional [] (split name)) as (λ b. cond b Clear (class [] (split name))
+    ≡ Clear) [ true ↦ refl | false ↦ class_none (split name) ]
 
 free_cond : (b : Bool) (s u : Station) → is_free s ≡ true → is_free u ≡ true → is_free (cond b s u) ≡ true
 free_cond true s u p q = p
@@ -44,7 +56,8 @@ command_free [] = refl
 command_free (n ∷ ns) =
     free_cond (named n (codes "insert")) Insert _ refl
     (free_cond (named n (codes "update")) Update _ refl
-    (free_cond (named n (codes "delete")) Delete _ refl (free_cond (named n (codes "find")) Find _ refl (free_cond (is_passed n) Passed Unknown refl refl))))
+    (free_cond (named n (codes "delete")) Delete _ refl
+    (free_cond (named n (codes "find")) Find _ refl (free_cond (is_passed n) Passed Unknown refl refl))))
 
 free_child : (s : Station) (e : Entry) → is_free s ≡ true → is_free (station [] s e) ≡ true
 free_child Outside e h = command_free e.names
@@ -53,21 +66,25 @@ free_child Inserts e h = free_cond (is_document e) (Document []) Passed refl ref
 free_child Update e h = free_cond (has_name (codes "updates") e && is_array e) Updates Passed refl refl
 free_child Delete e h = free_cond (has_name (codes "deletes") e && is_array e) Deletes Passed refl refl
 free_child Find e h =
-    free_cond (has_name (codes "filter") e && is_document e) Filter _ refl (free_cond (has_name (codes "projection") e && is_document e) Projection Passed refl refl)
+    free_cond (has_name (codes "filter") e && is_document e) Filter _ refl
+    (free_cond (has_name (codes "projection") e && is_document e) Projection Passed refl refl)
 free_child Updates e h = free_cond (is_document e) UpdateItem Passed refl refl
 free_child Deletes e h = free_cond (is_document e) DeleteItem Passed refl refl
 free_child UpdateItem e h =
     free_cond (has_name (codes "q") e && is_document e) Filter _ refl
-    (free_cond (has_name (codes "u") e && is_document e) _ Passed (free_cond (is_dollar_first e.names) Operators (Document []) refl refl) refl)
+    (free_cond (has_name (codes "u") e && is_document e) _ Passed
+    (free_cond (is_dollar_first e.names) Operators (Document []) refl refl) refl)
 free_child DeleteItem e h = free_cond (has_name (codes "q") e && is_document e) Filter Passed refl refl
 free_child (Document p) e h =
     ap (λ (c : Class). is_free (stored_at c (p ++ e.name ∷ []) (is_document e))) (class_none (p ++ e.name ∷ []))
 free_child Filter e h =
     free_cond (is_logical e.name) _ _ (free_cond (is_array e) Cases Passed refl refl)
-    (free_cond (is_dollar e.name) Passed _ refl (ap (λ (c : Class). is_free (tested_at c (is_operators e))) (dotted_none e.name)))
+    (free_cond (is_dollar e.name) Passed _ refl (ap (λ (c : Class). is_free (tested_at c (is_operators e)))
+    (dotted_none e.name)))
 free_child Cases e h = free_cond (is_document e) Filter Passed refl refl
 free_child Operators e h =
-    free_cond (is_set e.name && is_document e) Sets _ refl (free_cond (is_dollar e.name && is_document e) (Argument (operator_of e.name)) Passed refl refl)
+    free_cond (is_set e.name && is_document e) Sets _ refl
+    (free_cond (is_dollar e.name && is_document e) (Argument (operator_of e.name)) Passed refl refl)
 free_child Sets e h =
     ap (λ (c : Class). is_free (stored_at c (split e.name) (is_document e))) (dotted_none e.name)
 free_child (Test x) e h = absurd (false≢true h)
@@ -85,7 +102,8 @@ free_item : (s : Station) (at : ℕ) (elder : List (List ℕ)) (name : List ℕ)
     → is_free s ≡ true
     → marks [] vs ≡ [] → marks [] us ≡ [] → marks [] (visit s elder at name t ∷ (vs ++ us)) ≡ []
 free_item s at elder name t vs us h p q =
-    ap (λ (ms : List Mark). ms ++ marks [] (vs ++ us)) (free_unmarked (station [] s (entry name t)) (visit s elder at name t) (free_child s (entry name t) h))
+    ap (λ (ms : List Mark). ms ++ marks [] (vs ++ us))
+    (free_unmarked (station [] s (entry name t)) (visit s elder at name t) (free_child s (entry name t) h))
     ∙ (marks_append [] vs us ∙ (ap (λ (ms : List Mark). ms ++ marks [] us) p ∙ q))
 
 mutual
@@ -108,7 +126,8 @@ mutual
 pub no_rows_no_roles : (at : ℕ) (c : Items) → roles [] at c ≡ []
 no_rows_no_roles at c =
     let h = command_free (command_entry c).names in
-    ap (λ (ms : List Mark). ms ++ marks [] (visits [] (station [] Outside (command_entry c)) (at + 4) [] c)) (free_unmarked (station [] Outside (command_entry c)) (command_visit c) h)
+    ap (λ (ms : List Mark). ms ++ marks [] (visits [] (station [] Outside (command_entry c)) (at + 4) [] c))
+    (free_unmarked (station [] Outside (command_entry c)) (command_visit c) h)
     ∙ free_among (station [] Outside (command_entry c)) (at + 4) [] c h
 
 -- commands that pass
@@ -132,7 +151,8 @@ pass_among : (name : List ℕ) (names words : List (List ℕ)) → AllPass words
     → command_of (name ∷ names) ≡ Passed
 pass_among name names [] a h = absurd (false≢true h)
 pass_among name names (word ∷ words) a h =
-    either_true (named name word) (is_among name words) h (λ e. passes name word names e a.0) (λ e. pass_among name names words a.1 e)
+    either_true (named name word) (is_among name words) h (λ e. passes name word names e a.0)
+    (λ e. pass_among name names words a.1 e)
 
 -- a command that passes is not looked into
 pub passed_command : (name : List ℕ) (names : List (List ℕ)) → is_passed name ≡ true
@@ -152,14 +172,16 @@ pub passed_no_roles : (rows : List Row) (at : ℕ) (name : List ℕ) (t : Tree) 
     → roles rows at (item name t is) ≡ []
 passed_no_roles rows at name t is h = unread rows (at + 4) (item name t is) _ (passed_command name (names_of is) h)
 
-unjudged : (pass : Visit → Option Reason) (rows : List Row) (at : ℕ) (c : Items) (s : Station) → IsQuiet pass → pass (command_visit c) ≡ None → s ≡ Passed
+unjudged : (pass : Visit → Option Reason) (rows : List Row) (at : ℕ) (c : Items) (s : Station) → IsQuiet pass
+    → pass (command_visit c) ≡ None → s ≡ Passed
     → or_else (refused_at 0 (pass (command_visit c))) (first_refusal pass (visits rows s at [] c)) ≡ None
 unjudged pass rows at c s quiet own e =
     ap (λ (r : Option Reason). or_else (refused_at 0 r) (first_refusal pass (visits rows s at [] c))) own
     ∙ ap (λ (u : Station). first_refusal pass (visits rows u at [] c)) e
     ∙ (silent pass rows Passed at [] c quiet refl).1
 
-target_free : (db : List ℕ) (name : List ℕ) (t : Tree) (is : Items) → target_of db (command_visit (item name t is)) ≡ None
+target_free : (db : List ℕ) (name : List ℕ) (t : Tree) (is : Items)
+    → target_of db (command_visit (item name t is)) ≡ None
 unfolding target_offence
 target_free db name t is = refl
 
@@ -167,20 +189,27 @@ view_free : (info : Option Collection) (c : Items) → view_of info (command_vis
 unfolding view_offence
 view_free info c = refl
 
-ruled_free : (rows : List Row) (c : Items) (s : Station) → station rows Outside (command_entry c) ≡ s → s ≡ Passed → ruled_of rows (command_visit c) ≡ None
+ruled_free : (rows : List Row) (c : Items) (s : Station) → station rows Outside (command_entry c) ≡ s → s ≡ Passed
+    → ruled_of rows (command_visit c) ≡ None
 unfolding ruled_offence
-ruled_free rows c s is e = ap (λ (u : Station). least (of_role rows u (command_entry c) ++ command_lacks u (names_of c))) (is ∙ e)
+ruled_free rows c s is e = ap (λ (u : Station). least
+    (of_role rows u (command_entry c) ++ command_lacks u (names_of c))) (is ∙ e)
 
-content_free : (rows : List Row) (c : Items) → station rows Outside (command_entry c) ≡ Passed → content_of rows (command_visit c) ≡ None
+content_free : (rows : List Row) (c : Items) → station rows Outside (command_entry c) ≡ Passed
+    → content_of rows (command_visit c) ≡ None
 content_free [] c e = refl
 content_free (row ∷ rows) c e = ruled_free (row ∷ rows) c _ refl e
 
 -- and nothing is refused
-pub passed_no_refusal : (db : List ℕ) (info : Option Collection) (rows : List Row) (at : ℕ) (name : List ℕ) (t : Tree) (is : Items) → is_passed name ≡ true
+pub passed_no_refusal : (db : List ℕ) (info : Option Collection) (rows : List Row) (at : ℕ) (name : List ℕ) (t : Tree)
+    (is : Items) → is_passed name ≡ true
     → verdict_on db info rows (command_visits rows at (item name t is)) ≡ None
 passed_no_refusal db info rows at name t is h =
     let c : Items = item name t is in
     let e = passed_command name (names_of is) h in
-    ap₂ or_else (unjudged (target_of db) rows (at + 4) c (station rows Outside (command_entry c)) (target_quiet db) (target_free db name t is) e)
-    (ap₂ or_else (unjudged (view_of info) rows (at + 4) c (station rows Outside (command_entry c)) (view_quiet info) (view_free info c) e)
-    (unjudged (content_of rows) rows (at + 4) c (station rows Outside (command_entry c)) (content_quiet rows) (content_free rows c e) e))
+    ap₂ or_else (unjudged (target_of db) rows (at + 4) c (station rows Outside (command_entry c)) (target_quiet db)
+    (target_free db name t is) e)
+    (ap₂ or_else (unjudged (view_of info) rows (at + 4) c (station rows Outside (command_entry c)) (view_quiet info)
+    (view_free info c) e)
+    (unjudged (content_of rows) rows (at + 4) c (station rows Outside (command_entry c)) (content_quiet rows)
+    (content_free rows c e) e))

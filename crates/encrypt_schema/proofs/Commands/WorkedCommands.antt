@@ -3,7 +3,9 @@ use Rattle.std.proofs.Common.{◌≡◌, [], ◌∷◌, codes, refl}
 use Rattle.std.specs.Prelude.{None}
 use Rattle.bson_tree.specs.Tree.{Items, node, item, no_items}
 use Rattle.encrypt_schema.specs.declared.command.marks.Role.TheVariants as role
-use Rattle.encrypt_schema.specs.declared.command.reason.Reason.TheVariants.{BadField, TypeNotAllowed, AlreadyEncrypted, ArrayOnPath, OperatorOnProtected, FieldNotAllowed}
+use Rattle.encrypt_schema.specs.declared.command.reason.Reason.TheVariants.{BadField, TypeNotAllowed, AlreadyEncrypted}
+use Rattle.encrypt_schema.specs.declared.command.reason.Reason.TheVariants.{ArrayOnPath, OperatorOnProtected}
+use Rattle.encrypt_schema.specs.declared.command.reason.Reason.TheVariants.{FieldNotAllowed}
 use Rattle.encrypt_schema.specs.Language.Names.{named}
 use Rattle.encrypt_schema.specs.Language.Policies.{policy_at}
 use Rattle.encrypt_schema.specs.Paths.Classes.{class}
@@ -11,12 +13,14 @@ use Rattle.encrypt_schema.specs.Paths.Dotted.{is_dollar, is_position, positional
 use Rattle.encrypt_schema.specs.Commands.Stations.{is_equality, is_logical, is_membership}
 use Rattle.encrypt_schema.specs.Commands.Offences.{is_again, ruled_offence}
 use Rattle.encrypt_schema.specs.Commands.Visits.{is_payload, roles, content_verdict}
-use Rattle.encrypt_schema.proofs.Commands.Examples.{text, int, null, sealed, empty, one, insert_into, mark_at, refusal, people, staff}
+use Rattle.encrypt_schema.proofs.Commands.Examples.{text, int, null, sealed, empty, one, insert_into, mark_at, refusal}
+use Rattle.encrypt_schema.proofs.Commands.Examples.{people, staff}
 
 -- insert people {ssn: "123-45-6789", n: 1}
 abbrev pub stored : Items
 stored =
-    insert_into (text (codes "people")) (node 3 (item (codes "ssn") (text (codes "123-45-6789")) (one (codes "n") (int 1))))
+    insert_into (text (codes "people")) (node 3 (item (codes "ssn") (text (codes "123-45-6789"))
+    (one (codes "n") (int 1))))
 
 pub stored_accepted : content_verdict people 0 stored ≡ None
 unfolding class is_again is_payload named ruled_offence policy_at
@@ -34,7 +38,8 @@ stored_inside_roles = refl
 -- insert people {ssn: "x", ssn: "x"}
 abbrev pub stored_twice : Items
 stored_twice =
-    insert_into (text (codes "people")) (node 3 (item (codes "ssn") (text (codes "x")) (one (codes "ssn") (text (codes "x")))))
+    insert_into (text (codes "people")) (node 3 (item (codes "ssn") (text (codes "x"))
+    (one (codes "ssn") (text (codes "x")))))
 
 pub stored_twice_accepted : content_verdict people 0 stored_twice ≡ None
 unfolding class is_again is_payload named ruled_offence policy_at
@@ -89,7 +94,8 @@ sealed_for_string_refused = refl
 -- insert staff {a: [{b: 1}]}, refused at 1.0.0
 abbrev pub array_on_path : Items
 array_on_path =
-    insert_into (text (codes "staff")) (node 3 (one (codes "a") (node 4 (one (codes "0") (node 3 (one (codes "b") (int 1)))))))
+    insert_into (text (codes "staff")) (node 3 (one (codes "a")
+    (node 4 (one (codes "0") (node 3 (one (codes "b") (int 1)))))))
 
 pub array_on_path_refused : content_verdict staff 0 array_on_path ≡ refusal ArrayOnPath 47
 unfolding class is_again named ruled_offence
@@ -122,7 +128,9 @@ documents_missing_inside_refused = refl
 -- insert people with documents [{}, 1], refused at 1.1
 abbrev pub no_document : Items
 no_document =
-    item (codes "insert") (text (codes "people")) (item (codes "documents") (node 4 (item (codes "0") empty (one (codes "1") (int 1)))) (one (codes "$db") (text (codes "hr"))))
+    item (codes "insert") (text (codes "people"))
+    (item (codes "documents") (node 4 (item (codes "0") empty (one (codes "1") (int 1))))
+    (one (codes "$db") (text (codes "hr"))))
 
 pub no_document_refused : content_verdict people 0 no_document ≡ refusal BadField 49
 unfolding is_again named ruled_offence
@@ -131,7 +139,8 @@ no_document_refused = refl
 -- insert people with `documents` twice, refused at 2
 abbrev pub documents_twice : Items
 documents_twice =
-    item (codes "insert") (text (codes "people")) (item (codes "documents") (node 4 no_items) (one (codes "documents") (node 4 no_items)))
+    item (codes "insert") (text (codes "people"))
+    (item (codes "documents") (node 4 no_items) (one (codes "documents") (node 4 no_items)))
 
 pub documents_twice_refused : content_verdict people 0 documents_twice ≡ refusal BadField 50
 unfolding is_again named ruled_offence
@@ -148,7 +157,10 @@ no_array_refused = refl
 -- delete people {ssn: {$gt: "x"}}, refused at 1.0.0.0.0
 abbrev pub deleted_above : Items
 deleted_above =
-    item (codes "delete") (text (codes "people")) (item (codes "deletes") (node 4 (one (codes "0") (node 3 (item (codes "q") (node 3 (one (codes "ssn") (node 3 (one (codes "$gt") (text (codes "x")))))) (one (codes "limit") (int 1)))))) (one (codes "$db") (text (codes "hr"))))
+    item (codes "delete") (text (codes "people"))
+    (item (codes "deletes") (node 4 (one (codes "0")
+    (node 3 (item (codes "q") (node 3 (one (codes "ssn") (node 3 (one (codes "$gt") (text (codes "x"))))))
+    (one (codes "limit") (int 1)))))) (one (codes "$db") (text (codes "hr"))))
 
 pub deleted_above_refused : content_verdict people 0 deleted_above ≡ refusal OperatorOnProtected 64
 unfolding class is_again is_dollar is_equality is_logical is_membership is_position named ruled_offence positional split
@@ -157,7 +169,8 @@ deleted_above_refused = refl
 -- delete people with an item without `q`, refused at 1.0
 abbrev pub deleted_without_filter : Items
 deleted_without_filter =
-    item (codes "delete") (text (codes "people")) (one (codes "deletes") (node 4 (one (codes "0") (node 3 (one (codes "limit") (int 1))))))
+    item (codes "delete") (text (codes "people"))
+    (one (codes "deletes") (node 4 (one (codes "0") (node 3 (one (codes "limit") (int 1))))))
 
 pub deleted_without_filter_refused : content_verdict people 0 deleted_without_filter ≡ refusal BadField 39
 unfolding is_again named ruled_offence

@@ -3,7 +3,10 @@ use Rattle.std.proofs.Common.{◌≡◌, [], ◌∷◌, codes, refl}
 use Rattle.std.specs.Prelude.{None}
 use Rattle.bson_tree.specs.Tree.{Items, node, item, no_items}
 use Rattle.encrypt_schema.specs.declared.command.marks.Role.TheVariants as role
-use Rattle.encrypt_schema.specs.declared.command.reason.Reason.TheVariants.{BadField, TypeNotAllowed, ArrayOnPath, BelowProtected, PositionalOnPath, OperatorOnProtected, Pipeline, FieldNotAllowed, RenameMixed}
+use Rattle.encrypt_schema.specs.declared.command.reason.Reason.TheVariants.{BadField, TypeNotAllowed, ArrayOnPath}
+use Rattle.encrypt_schema.specs.declared.command.reason.Reason.TheVariants.{BelowProtected, PositionalOnPath}
+use Rattle.encrypt_schema.specs.declared.command.reason.Reason.TheVariants.{OperatorOnProtected, Pipeline}
+use Rattle.encrypt_schema.specs.declared.command.reason.Reason.TheVariants.{FieldNotAllowed, RenameMixed}
 use Rattle.encrypt_schema.specs.Language.Names.{named}
 use Rattle.encrypt_schema.specs.Language.Policies.{is_same_policy, policy_at}
 use Rattle.encrypt_schema.specs.Paths.Classes.{class}
@@ -11,7 +14,8 @@ use Rattle.encrypt_schema.specs.Paths.Dotted.{is_dollar, is_position, positional
 use Rattle.encrypt_schema.specs.Commands.Stations.{is_set, operator_of}
 use Rattle.encrypt_schema.specs.Commands.Offences.{is_again, ruled_offence, renamed}
 use Rattle.encrypt_schema.specs.Commands.Visits.{is_payload, roles, content_verdict}
-use Rattle.encrypt_schema.proofs.Commands.Examples.{text, int, empty, one, update_by, update_with, mark_at, refusal, staff, pair}
+use Rattle.encrypt_schema.proofs.Commands.Examples.{text, int, empty, one, update_by, update_with, mark_at, refusal}
+use Rattle.encrypt_schema.proofs.Commands.Examples.{staff, pair}
 
 -- update staff {$set: {"a.b": 1}}
 abbrev pub dotted_set : Items
@@ -19,7 +23,8 @@ dotted_set =
     update_by (text (codes "staff")) (node 3 (one (codes "$set") (node 3 (one (codes "a.b") (int 1)))))
 
 pub dotted_set_accepted : content_verdict staff 0 dotted_set ≡ None
-unfolding class is_again is_dollar is_payload is_position is_set operator_of named ruled_offence policy_at positional split
+unfolding class is_again is_dollar is_payload is_position is_set operator_of named ruled_offence policy_at positional
+    split
 dotted_set_accepted = refl
 
 pub dotted_set_roles : roles staff 0 dotted_set ≡ mark_at 72 76 16 0 role.Store ∷ []
@@ -29,10 +34,12 @@ dotted_set_roles = refl
 -- update staff {$set: {a: {b: 1}}}
 abbrev pub nested_set : Items
 nested_set =
-    update_by (text (codes "staff")) (node 3 (one (codes "$set") (node 3 (one (codes "a") (node 3 (one (codes "b") (int 1)))))))
+    update_by (text (codes "staff")) (node 3 (one (codes "$set")
+    (node 3 (one (codes "a") (node 3 (one (codes "b") (int 1)))))))
 
 pub nested_set_accepted : content_verdict staff 0 nested_set ≡ None
-unfolding class is_again is_dollar is_payload is_position is_set operator_of named ruled_offence policy_at positional split
+unfolding class is_again is_dollar is_payload is_position is_set operator_of named ruled_offence policy_at positional
+    split
 nested_set_accepted = refl
 
 pub nested_set_roles : roles staff 0 nested_set ≡ mark_at 77 81 16 0 role.Store ∷ []
@@ -63,10 +70,12 @@ positional_set_refused = refl
 -- update staff {$setOnInsert: {"a.b": "t"}}, refused at 1.0.1.0.0
 abbrev pub text_set : Items
 text_set =
-    update_by (text (codes "staff")) (node 3 (one (codes "$setOnInsert") (node 3 (one (codes "a.b") (text (codes "t"))))))
+    update_by (text (codes "staff")) (node 3 (one (codes "$setOnInsert")
+    (node 3 (one (codes "a.b") (text (codes "t"))))))
 
 pub text_set_refused : content_verdict staff 0 text_set ≡ refusal TypeNotAllowed 80
-unfolding class is_again is_dollar is_payload is_position is_set operator_of named ruled_offence policy_at positional split
+unfolding class is_again is_dollar is_payload is_position is_set operator_of named ruled_offence policy_at positional
+    split
 text_set_refused = refl
 
 -- update staff {$set: {a: []}}, refused at 1.0.1.0.0
@@ -89,7 +98,8 @@ number_set_refused = refl
 -- update staff {$set: {c: 1}, x: 1}, refused at 1.0.1.1
 abbrev pub plain_name : Items
 plain_name =
-    update_by (text (codes "staff")) (node 3 (item (codes "$set") (node 3 (one (codes "c") (int 1))) (one (codes "x") (int 1))))
+    update_by (text (codes "staff")) (node 3 (item (codes "$set") (node 3 (one (codes "c") (int 1)))
+    (one (codes "x") (int 1))))
 
 pub plain_name_refused : content_verdict staff 0 plain_name ≡ refusal BadField 78
 unfolding class is_again is_dollar is_position is_set operator_of named ruled_offence positional split
@@ -114,7 +124,8 @@ no_update_refused = refl
 -- update staff with the updates {} and [], refused at 1.0.2
 abbrev pub update_twice : Items
 update_twice =
-    update_with (text (codes "staff")) (node 3 (item (codes "q") empty (item (codes "u") empty (one (codes "u") (node 4 no_items)))))
+    update_with (text (codes "staff")) (node 3 (item (codes "q") empty
+    (item (codes "u") empty (one (codes "u") (node 4 no_items)))))
 
 pub update_twice_refused : content_verdict staff 0 update_twice ≡ refusal BadField 61
 unfolding is_again named ruled_offence
@@ -123,7 +134,8 @@ update_twice_refused = refl
 -- update staff with `arrayFilters`, refused at 1.0.2
 abbrev pub array_filters : Items
 array_filters =
-    update_with (text (codes "staff")) (node 3 (item (codes "q") empty (item (codes "u") empty (one (codes "arrayFilters") (node 4 no_items)))))
+    update_with (text (codes "staff")) (node 3 (item (codes "q") empty
+    (item (codes "u") empty (one (codes "arrayFilters") (node 4 no_items)))))
 
 pub array_filters_refused : content_verdict staff 0 array_filters ≡ refusal FieldNotAllowed 72
 unfolding is_again named ruled_offence
@@ -211,7 +223,8 @@ renamed_alike =
     update_by (text (codes "pair")) (node 3 (one (codes "$rename") (node 3 (one (codes "x") (text (codes "y"))))))
 
 pub renamed_alike_accepted : content_verdict pair 0 renamed_alike ≡ None
-unfolding class is_again is_dollar is_same_policy is_position is_set operator_of named ruled_offence policy_at positional renamed split
+unfolding class is_again is_dollar is_same_policy is_position is_set operator_of named ruled_offence policy_at
+    positional renamed split
 renamed_alike_accepted = refl
 
 pub renamed_alike_roles : roles pair 0 renamed_alike ≡ []
@@ -224,5 +237,6 @@ renamed_otherwise =
     update_by (text (codes "pair")) (node 3 (one (codes "$rename") (node 3 (one (codes "x") (text (codes "z"))))))
 
 pub renamed_otherwise_refused : content_verdict pair 0 renamed_otherwise ≡ refusal RenameMixed 72
-unfolding class is_again is_dollar is_same_policy is_position is_set operator_of named ruled_offence policy_at positional renamed split
+unfolding class is_again is_dollar is_same_policy is_position is_set operator_of named ruled_offence policy_at
+    positional renamed split
 renamed_otherwise_refused = refl

@@ -1,17 +1,24 @@
 -- What is shown of a command, its places that aren't below a protected one, is read from its skeleton alone.
-use Rattle.std.proofs.Common.{◌≡◌, ℕ, ◌+◌, Bool, true, false, cond, ◌&&◌, codes, List, [], ◌∷◌, ◌++◌, length, map, Option, refl, sym, ap, ◌∙◌, arith}
+use Rattle.std.proofs.Common.{◌≡◌, ℕ, ◌+◌, Bool, true, false, cond, ◌&&◌, codes, List, [], ◌∷◌, ◌++◌, length, map}
+use Rattle.std.proofs.Common.{Option, refl, sym, ap, ◌∙◌, arith}
 use Rattle.std.proofs.lemmas.Bool.{false≢true}
 use Rattle.bson_tree.specs.Tree.{Tree, leaf, node, Items, no_items, item}
 use Rattle.bson_tree.specs.Spelling.{framed, value_bytes, items_bytes}
 use Rattle.encrypt_schema.specs.declared.command.reason.Reason.{Reason}
 use Rattle.encrypt_schema.specs.Language.Row.{Row}
-use Rattle.encrypt_schema.specs.Commands.Stations.{Entry, Station, Outside, Insert, Update, Delete, Find, Inserts, Updates, Deletes, Filter, Projection, Store, Compare, Passed, is_document, is_array, has_name, station, has_role}
+use Rattle.encrypt_schema.specs.Commands.Stations.{Entry, Station, Outside, Insert, Update, Delete, Find, Inserts}
+use Rattle.encrypt_schema.specs.Commands.Stations.{Updates, Deletes, Filter, Projection, Store, Compare, Passed}
+use Rattle.encrypt_schema.specs.Commands.Stations.{is_document, is_array, has_name, station, has_role}
 use Rattle.encrypt_schema.specs.Language.Collection.{Collection}
 use Rattle.encrypt_schema.specs.Commands.Offences.{is_marked, target_offence, view_offence, ruled_offence, least}
-use Rattle.encrypt_schema.specs.Commands.Visits.{is_payload, entry, command_entry, Visit, visit, command_visit, mark_at, marks, target_of, view_of, ruled_of, content_of, first_refusal, station_of}
-use Rattle.encrypt_schema.specs.Commands.Skeletons.{Skeleton, hole, plain, branch, Skeletons, no_more, more, skeleton_in, skeletons, skeleton, width_of, widths_of}
+use Rattle.encrypt_schema.specs.Commands.Visits.{is_payload, entry, command_entry, Visit, visit, command_visit, mark_at}
+use Rattle.encrypt_schema.specs.Commands.Visits.{marks, target_of, view_of, ruled_of, content_of, first_refusal}
+use Rattle.encrypt_schema.specs.Commands.Visits.{station_of}
+use Rattle.encrypt_schema.specs.Commands.Skeletons.{Skeleton, hole, plain, branch, Skeletons, no_more, more}
+use Rattle.encrypt_schema.specs.Commands.Skeletons.{skeleton_in, skeletons, skeleton, width_of, widths_of}
 use Rattle.encrypt_schema.proofs.Commands.Tables.{without, station_without, reasons_without, command_without_role}
-use Rattle.encrypt_schema.proofs.Commands.Widths.{entry_in, names_kept, width_kept, widths_kept, veiled, entry_kept, station_kept}
+use Rattle.encrypt_schema.proofs.Commands.Widths.{entry_in, names_kept, width_kept, widths_kept, veiled, entry_kept}
+use Rattle.encrypt_schema.proofs.Commands.Widths.{station_kept}
 use Rattle.bson_tree.proofs.Sizes.{framed_size}
 
 -- the places that aren't below a protected one
@@ -70,7 +77,8 @@ pub visit_kept : (rows : List Row) (s : Station) (elder : List (List ℕ)) (at :
     ≡ skeleton_visit s elder at name (skeleton_in rows (station rows s (entry name t)) t)
 visit_kept rows s elder at name t =
     let k = skeleton_in rows (station rows s (entry name t)) t in
-    let a : veiled (station rows s (entry name t)) (entry name t) ≡ entry_in name k = entry_kept rows (station rows s (entry name t)) name t in
+    let a : veiled (station rows s (entry name t)) (entry name t) ≡ entry_in name k =
+    entry_kept rows (station rows s (entry name t)) name t in
     let b : width_of k ≡ length (value_bytes t) = width_kept rows (station rows s (entry name t)) t in
     cc
 
@@ -82,9 +90,12 @@ mutual
   inside_kept : (rows : List Row) (s : Station) (at : ℕ) (t : Tree)
       → map (veil rows) (shown_in rows s at t) ≡ seen_in rows s at (skeleton_in rows s t)
   inside_kept rows s at (leaf tag bytes) =
-      elim (has_role s) as (λ b. [] ≡ seen_in rows s at (cond b (hole tag (length bytes) (is_payload tag bytes)) (plain tag bytes))) [ true ↦ refl | false ↦ refl ]
+      elim (has_role s) as (λ b. [] ≡ seen_in rows s at
+      (cond b (hole tag (length bytes) (is_payload tag bytes)) (plain tag bytes))) [ true ↦ refl | false ↦ refl ]
   inside_kept rows s at (node tag is) =
-      elim (has_role s) as (λ b. map (veil rows) (cond b [] (shown rows s (at + 4) [] is)) ≡ seen_in rows s at (cond b (hole tag (length (framed (items_bytes is))) false) (branch tag (skeletons rows s is))))
+      elim (has_role s) as (λ b. map (veil rows) (cond b [] (shown rows s (at + 4) [] is))
+      ≡ seen_in rows s at (cond b (hole tag (length (framed (items_bytes is))) false)
+      (branch tag (skeletons rows s is))))
       [ true ↦ refl | false ↦ shown_kept rows s (at + 4) [] is ]
 
   shown_kept : (rows : List Row) (s : Station) (at : ℕ) (elder : List (List ℕ)) (is : Items)
@@ -95,9 +106,11 @@ mutual
       let k = skeleton_in rows u t in
       joined (veil rows) _ _ _ _ _ _
       (visit_kept rows s elder at name t)
-      (inside_kept rows u (at + (2 + length name)) t ∙ ap (λ (x : Station). seen_in rows x (at + (2 + length name)) k) (station_kept rows s name t))
+      (inside_kept rows u (at + (2 + length name)) t
+      ∙ ap (λ (x : Station). seen_in rows x (at + (2 + length name)) k) (station_kept rows s name t))
       (shown_kept rows s (at + (2 + length name) + length (value_bytes t)) (elder ++ name ∷ []) is
-      ∙ ap (λ (n : ℕ). seen rows s (at + (2 + length name) + n) (elder ++ name ∷ []) (skeletons rows s is)) (sym (width_kept rows u t)))
+      ∙ ap (λ (n : ℕ). seen rows s (at + (2 + length name) + n) (elder ++ name ∷ []) (skeletons rows s is))
+      (sym (width_kept rows u t)))
 
 no_role_cond : (b : Bool) (s u : Station) → has_role s ≡ false → has_role u ≡ false → has_role (cond b s u) ≡ false
 no_role_cond true s u p q = p
@@ -113,14 +126,37 @@ command_kept rows at c =
     let e = command_entry c in
     let u = station rows Outside e in
     let a : e ≡ entry_in [] (branch 3 (skeletons rows u c))
-    = ap (λ (ns : List (List ℕ)). record { name = []; tag = 3; names = ns; raw = []; payload = false }) (sym (names_kept rows u c)) in
+    = ap (λ (ns : List (List ℕ)). record { name = []; tag = 3; names = ns; raw = []; payload = false })
+    (sym (names_kept rows u c)) in
     let v = command_veiled rows e in
-    let w : widths_of (skeletons rows u c) + 5 ≡ length (framed (items_bytes c)) = omega (arith, widths_kept rows u c, framed_size (items_bytes c)) in
-    let rest : map (veil rows) (shown rows u (at + 4) [] c) ≡ seen rows (station rows Outside (entry_in [] (branch 3 (skeletons rows u c)))) (at + 4) [] (skeletons rows u c)
-    = shown_kept rows u (at + 4) [] c ∙ ap (λ (f : Entry). seen rows (station rows Outside f) (at + 4) [] (skeletons rows u c)) a in
-    let first : veil rows (command_visit c) ≡ record { parent = Outside; elder = []; entry = entry_in [] (branch 3 (skeletons rows u c)); start = 0; width = widths_of (skeletons rows u c) + 5 }
-    = ap (λ (f : Entry). record { parent = Outside; elder = []; entry = f; start = 0; width = length (framed (items_bytes c)) }) (v ∙ a)
-    ∙ ap (λ (n : ℕ). record { parent = Outside; elder = []; entry = entry_in [] (branch 3 (skeletons rows u c)); start = 0; width = n }) (sym w) in
+    let w : widths_of (skeletons rows u c) + 5 ≡ length (framed (items_bytes c)) =
+    omega (arith, widths_kept rows u c, framed_size (items_bytes c)) in
+    let rest : map (veil rows) (shown rows u (at + 4) [] c)
+    ≡ seen rows (station rows Outside (entry_in [] (branch 3 (skeletons rows u c)))) (at + 4) []
+    (skeletons rows u c)
+    = shown_kept rows u (at + 4) [] c ∙ ap (λ (f : Entry). seen rows (station rows Outside f) (at + 4) []
+    (skeletons rows u c)) a in
+    let first : veil rows (command_visit c) ≡ record {
+      parent = Outside;
+      elder = [];
+      entry = entry_in [] (branch 3 (skeletons rows u c));
+      start = 0;
+      width = widths_of (skeletons rows u c) + 5;
+    }
+    = ap (λ (f : Entry). record {
+      parent = Outside;
+      elder = [];
+      entry = f;
+      start = 0;
+      width = length (framed (items_bytes c));
+    }) (v ∙ a)
+    ∙ ap (λ (n : ℕ). record {
+      parent = Outside;
+      elder = [];
+      entry = entry_in [] (branch 3 (skeletons rows u c));
+      start = 0;
+      width = n;
+    }) (sym w) in
     cc
 
 mark_without : (s : Station) (v : Visit) → mark_at s (record v { entry = without v.entry }) ≡ mark_at s v
@@ -129,9 +165,11 @@ mark_without (Compare i) v = refl
 mark_without _ v = refl
 
 mark_veiled : (rows : List Row) (v : Visit) (b : Bool) → has_role (station_of rows v) ≡ b
-    → mark_at (station rows v.parent (cond b (without v.entry) v.entry)) (record v { entry = cond b (without v.entry) v.entry }) ≡ mark_at (station_of rows v) v
+    → mark_at (station rows v.parent (cond b (without v.entry) v.entry))
+    (record v { entry = cond b (without v.entry) v.entry }) ≡ mark_at (station_of rows v) v
 mark_veiled rows v true h =
-    ap (λ (s : Station). mark_at s (record v { entry = without v.entry })) (station_without rows v.parent v.entry h) ∙ mark_without (station_of rows v) v
+    ap (λ (s : Station). mark_at s (record v { entry = without v.entry })) (station_without rows v.parent v.entry h)
+    ∙ mark_without (station_of rows v) v
 mark_veiled rows v false h = refl
 
 -- the marks of places are read behind their veils
@@ -145,12 +183,15 @@ pub record IsVeiled (pass : Visit → Option Reason) (rows : List Row) : Type 0 
   pub read : (v : Visit) → pass (veil rows v) ≡ pass v
 
 -- no field of a marked command is protected
-pub field_without_role : (rows : List Row) (s : Station) (e : Entry) → is_marked s ≡ true → has_role (station rows s e) ≡ false
-field_without_role rows Insert e h = no_role_cond (has_name (codes "documents") e && is_array e) Inserts Passed refl refl
+pub field_without_role : (rows : List Row) (s : Station) (e : Entry) → is_marked s ≡ true
+    → has_role (station rows s e) ≡ false
+field_without_role rows Insert e h = no_role_cond
+    (has_name (codes "documents") e && is_array e) Inserts Passed refl refl
 field_without_role rows Update e h = no_role_cond (has_name (codes "updates") e && is_array e) Updates Passed refl refl
 field_without_role rows Delete e h = no_role_cond (has_name (codes "deletes") e && is_array e) Deletes Passed refl refl
 field_without_role rows Find e h =
-    no_role_cond (has_name (codes "filter") e && is_document e) Filter _ refl (no_role_cond (has_name (codes "projection") e && is_document e) Projection Passed refl refl)
+    no_role_cond (has_name (codes "filter") e && is_document e) Filter _ refl
+    (no_role_cond (has_name (codes "projection") e && is_document e) Projection Passed refl refl)
 field_without_role rows _ e h = absurd (false≢true h)
 
 -- so it has no veil
@@ -161,9 +202,12 @@ target_read : (db : List ℕ) (rows : List Row) (s : Station) (elder : List (Lis
     → target_offence db s elder (veiled (station rows s e) e) ≡ target_offence db s elder e
 unfolding target_offence
 target_read db rows Outside elder e = ap (λ (x : Entry). target_offence db Outside elder x) (command_veiled rows e)
-target_read db rows Insert elder e = ap (λ (x : Entry). target_offence db Insert elder x) (field_unveiled rows Insert e refl)
-target_read db rows Update elder e = ap (λ (x : Entry). target_offence db Update elder x) (field_unveiled rows Update e refl)
-target_read db rows Delete elder e = ap (λ (x : Entry). target_offence db Delete elder x) (field_unveiled rows Delete e refl)
+target_read db rows Insert elder e = ap (λ (x : Entry). target_offence db Insert elder x)
+    (field_unveiled rows Insert e refl)
+target_read db rows Update elder e = ap (λ (x : Entry). target_offence db Update elder x)
+    (field_unveiled rows Update e refl)
+target_read db rows Delete elder e = ap (λ (x : Entry). target_offence db Delete elder x)
+    (field_unveiled rows Delete e refl)
 target_read db rows Find elder e = ap (λ (x : Entry). target_offence db Find elder x) (field_unveiled rows Find e refl)
 target_read db rows _ elder e = refl
 

@@ -14,7 +14,8 @@ stands_too-stands_too u t absent = refl
 stands_too-stands_too u t (once v) = refl
 stands_too-stands_too u t repeated = refl
 
-pub combined_stands_last : (f : Standing) (t : Tree) (s : Standing) → combined (stands_last f t) s ≡ combined f (stands_too t s)
+pub combined_stands_last : (f : Standing) (t : Tree) (s : Standing)
+    → combined (stands_last f t) s ≡ combined f (stands_too t s)
 combined_stands_last absent t s = refl
 combined_stands_last (once u) t s = stands_too-stands_too u t s
 combined_stands_last repeated t s = refl

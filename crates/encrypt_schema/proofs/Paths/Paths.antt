@@ -1,5 +1,6 @@
 -- Paths compared name by name: equal ones, prefixes, and paths with one name more.
-use Rattle.std.proofs.Common.{◌≡◌, ℕ, ◌+◌, Bool, true, false, cond, ◌&&◌, ◌||◌, List, [], ◌∷◌, ◌++◌, Option, Some, None, is_some, refl, sym, ap, ap₂, ◌∙◌, bytes_eq, ⊎_elim}
+use Rattle.std.proofs.Common.{◌≡◌, ℕ, ◌+◌, Bool, true, false, cond, ◌&&◌, ◌||◌, List, [], ◌∷◌, ◌++◌, Option, Some, None}
+use Rattle.std.proofs.Common.{is_some, refl, sym, ap, ap₂, ◌∙◌, bytes_eq, ⊎_elim}
 use mathlib.Core.Bool.{false≢true}
 use Rattle.std.specs.Cmp.Lexicographic.{bytes_decides, nat_list_eq_equiv}
 use Rattle.std.proofs.lemmas.Bool.{and_parts, and_from, or_cases, or_left, or_right}
@@ -36,7 +37,8 @@ pub path_same : (p q : List (List ℕ)) → is_same_path p q ≡ true → p ≡ 
 path_same [] [] e = refl
 path_same [] (y ∷ q) e = absurd (false≢true e)
 path_same (x ∷ p) [] e = absurd (false≢true e)
-path_same (x ∷ p) (y ∷ q) e = let h = and_parts (named x y) (is_same_path p q) e in ap₂ (λ (n : List ℕ) (r : List (List ℕ)). n ∷ r) (named_same x y h.0) (path_same p q h.1)
+path_same (x ∷ p) (y ∷ q) e = let h = and_parts (named x y) (is_same_path p q) e in ap₂
+    (λ (n : List ℕ) (r : List (List ℕ)). n ∷ r) (named_same x y h.0) (path_same p q h.1)
 
 pub path_self : (p : List (List ℕ)) → is_same_path p p ≡ true
 path_self [] = refl
@@ -51,7 +53,8 @@ path_turn (x ∷ p) (y ∷ q) = ap₂ (λ (a b : Bool). a && b) (named_turn x y)
 path_prefix : (p q : List (List ℕ)) → is_same_path p q ≡ true → is_prefix p q ≡ true
 path_prefix [] q e = refl
 path_prefix (x ∷ p) [] e = e
-path_prefix (x ∷ p) (y ∷ q) e = let h = and_parts (named x y) (is_same_path p q) e in and_from (named x y) (is_prefix p q) h.0 (path_prefix p q h.1)
+path_prefix (x ∷ p) (y ∷ q) e = let h = and_parts (named x y) (is_same_path p q) e in and_from (named x y)
+    (is_prefix p q) h.0 (path_prefix p q h.1)
 
 -- a path isn't the same with a name more
 pub path_longer : (p : List (List ℕ)) (n : List ℕ) → is_same_path (p ++ n ∷ []) p ≡ false
@@ -66,7 +69,8 @@ nil_prefix [] = refl
 nil_prefix (x ∷ r) = refl
 
 -- a prefix of a path with a name more is one of the path, or the longer path itself
-prefix_push : (r q : List (List ℕ)) (n : List ℕ) → is_prefix r (q ++ n ∷ []) ≡ (is_prefix r q || is_same_path (q ++ n ∷ []) r)
+prefix_push : (r q : List (List ℕ)) (n : List ℕ)
+    → is_prefix r (q ++ n ∷ []) ≡ (is_prefix r q || is_same_path (q ++ n ∷ []) r)
 prefix_push [] q n = refl
 prefix_push (x ∷ r) [] n = ap₂ (λ (a b : Bool). a && b) (named_turn x n) (nil_prefix r)
 prefix_push (x ∷ r) (y ∷ q) n =
@@ -74,10 +78,12 @@ prefix_push (x ∷ r) (y ∷ q) n =
     ∙ spread_and (named x y) (is_prefix r q) (is_same_path (q ++ n ∷ []) r)
     ∙ ap (λ (a : Bool). (named x y && is_prefix r q) || (a && is_same_path (q ++ n ∷ []) r)) (named_turn x y)
 
-prefix_front : (p : List (List ℕ)) (n : List ℕ) (r : List (List ℕ)) → is_prefix (p ++ n ∷ []) r ≡ true → is_prefix p r ≡ true
+prefix_front : (p : List (List ℕ)) (n : List ℕ) (r : List (List ℕ)) → is_prefix (p ++ n ∷ []) r ≡ true
+    → is_prefix p r ≡ true
 prefix_front [] n r e = refl
 prefix_front (x ∷ p) n [] e = e
-prefix_front (x ∷ p) n (y ∷ r) e = let h = and_parts (named x y) (is_prefix (p ++ n ∷ []) r) e in and_from (named x y) (is_prefix p r) h.0 (prefix_front p n r h.1)
+prefix_front (x ∷ p) n (y ∷ r) e = let h = and_parts (named x y) (is_prefix (p ++ n ∷ []) r) e in and_from (named x y)
+    (is_prefix p r) h.0 (prefix_front p n r h.1)
 
 -- the path is one of these
 abbrev pub among : List (List ℕ) → List (List (List ℕ)) → Bool
@@ -102,13 +108,15 @@ pub some_among : (q : List (List ℕ)) (ps : List (List (List ℕ))) (i : ℕ) �
 some_among q ps i e = sym (found_is 0 q ps) ∙ ap is_some e
 
 -- what a name more changes
-pub covers_push : (q : List (List ℕ)) (n : List ℕ) (rs : List (List (List ℕ))) → covers (q ++ n ∷ []) rs ≡ (covers q rs || among (q ++ n ∷ []) rs)
+pub covers_push : (q : List (List ℕ)) (n : List ℕ) (rs : List (List (List ℕ)))
+    → covers (q ++ n ∷ []) rs ≡ (covers q rs || among (q ++ n ∷ []) rs)
 covers_push q n [] = refl
 covers_push q n (r ∷ rs) =
     ap₂ (λ (a b : Bool). a || b) (prefix_push r q n) (covers_push q n rs)
     ∙ or_swap (is_prefix r q) (is_same_path (q ++ n ∷ []) r) (covers q rs) (among (q ++ n ∷ []) rs)
 
-pub leads_front : (p : List (List ℕ)) (n : List ℕ) (rs : List (List (List ℕ))) → leads (p ++ n ∷ []) rs ≡ true → leads p rs ≡ true
+pub leads_front : (p : List (List ℕ)) (n : List ℕ) (rs : List (List (List ℕ))) → leads (p ++ n ∷ []) rs ≡ true
+    → leads p rs ≡ true
 leads_front p n [] e = e
 leads_front p n (r ∷ rs) e =
     ⊎_elim

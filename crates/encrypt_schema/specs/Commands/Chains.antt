@@ -1,7 +1,8 @@
 -- MongoDB commands insert, update, delete and find, by places: what a place is, read from its chain, which is
 -- the command, the place's ancestors and itself. A place is a list of child numbers; the empty one is the
 -- command itself.
-use Rattle.std.specs.Prelude.{ℕ, zero, suc, ◌+◌, Bool, false, not, ◌||◌, List, [], ◌∷◌, ◌++◌, length, Option, Some, None, unwrap_or, map, option_map, option_and_then, flat_map}
+use Rattle.std.specs.Prelude.{ℕ, zero, suc, ◌+◌, Bool, false, not, ◌||◌, List, [], ◌∷◌, ◌++◌, length, Option, Some}
+use Rattle.std.specs.Prelude.{None, unwrap_or, map, option_map, option_and_then, flat_map}
 use Rattle.std.specs.Option.{option_map_or}
 use Rattle.bson_tree.specs.Tree.{Tree, leaf, node, Items, no_items, item}
 use Rattle.bson_tree.specs.Places.{tree_at, start_from, places}
@@ -14,7 +15,8 @@ use Rattle.encrypt_schema.specs.Language.Row.{Row}
 use Rattle.encrypt_schema.specs.Commands.Stations.{Entry, Station, Outside, Store, Compare, station, has_role}
 use Rattle.encrypt_schema.specs.Commands.Offences.{offence}
 use Rattle.encrypt_schema.specs.Language.Collection.{Collection}
-use Rattle.encrypt_schema.specs.Commands.Visits.{entry, Visit, target_of, view_of, content_of, station_of, mark_at, Refusal, refused_at, or_else}
+use Rattle.encrypt_schema.specs.Commands.Visits.{entry, Visit, target_of, view_of, content_of, station_of, mark_at}
+use Rattle.encrypt_schema.specs.Commands.Visits.{Refusal, refused_at, or_else}
 
 -- what is looked at of an ancestor or of the place: the names of its elder siblings, and itself
 pub record Link : Type 0 where

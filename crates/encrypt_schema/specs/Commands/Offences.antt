@@ -1,6 +1,7 @@
 -- MongoDB commands insert, update, delete and find: for which reasons a place of a command is refused, read
 -- from what its parent is, from the names of its elder siblings and from itself.
-use Rattle.std.specs.Prelude.{ℕ, ◌==◌, Bool, true, false, not, ◌&&◌, ◌||◌, nat_lt, List, [], ◌∷◌, ◌++◌, codes, Option, Some, None, if◌then◌else◌}
+use Rattle.std.specs.Prelude.{ℕ, ◌==◌, Bool, true, false, not, ◌&&◌, ◌||◌, nat_lt, List, [], ◌∷◌, ◌++◌, codes, Option}
+use Rattle.std.specs.Prelude.{Some, None, if◌then◌else◌}
 use Rattle.encrypt_schema.specs.declared.command.operators.Operator.{Operator}
 use Rattle.encrypt_schema.specs.declared.command.operators.Operator.TheVariants.{Unset, Rename, Other}
 use Rattle.encrypt_schema.specs.declared.command.operators.Subject.{Subject}
@@ -9,7 +10,12 @@ use Rattle.encrypt_schema.specs.declared.path.class.Class.{Class}
 use Rattle.encrypt_schema.specs.declared.path.class.Class.TheVariants.{Protected, Below, Above, Clear}
 use Rattle.encrypt_schema.specs.declared.schema.policy.Policy.{Policy}
 use Rattle.encrypt_schema.specs.declared.command.reason.Reason.{Reason}
-use Rattle.encrypt_schema.specs.declared.command.reason.Reason.TheVariants.{NotACommand, BadField, WrongDb, View, TypeNotAllowed, AlreadyEncrypted, ArrayOnPath, BelowProtected, PositionalOnPath, RandomCompared, OperatorOnProtected, PrefixCompared, Pipeline, FieldNotAllowed, RenameMixed}
+use Rattle.encrypt_schema.specs.declared.command.reason.Reason.TheVariants.{NotACommand, BadField, WrongDb, View}
+use Rattle.encrypt_schema.specs.declared.command.reason.Reason.TheVariants.{TypeNotAllowed, AlreadyEncrypted}
+use Rattle.encrypt_schema.specs.declared.command.reason.Reason.TheVariants.{ArrayOnPath, BelowProtected}
+use Rattle.encrypt_schema.specs.declared.command.reason.Reason.TheVariants.{PositionalOnPath, RandomCompared}
+use Rattle.encrypt_schema.specs.declared.command.reason.Reason.TheVariants.{OperatorOnProtected, PrefixCompared}
+use Rattle.encrypt_schema.specs.declared.command.reason.Reason.TheVariants.{Pipeline, FieldNotAllowed, RenameMixed}
 use Rattle.encrypt_schema.specs.Commands.Reasons.{reason_code}
 use Rattle.encrypt_schema.specs.Language.Names.{named, is_among}
 pub use Rattle.encrypt_schema.specs.Language.Values.{text_of}
@@ -18,7 +24,12 @@ use Rattle.encrypt_schema.specs.Language.Collection.{Collection}
 use Rattle.encrypt_schema.specs.Language.Policies.{policy_at, is_random, has_type, is_same_policy}
 use Rattle.encrypt_schema.specs.Paths.Classes.{class}
 use Rattle.encrypt_schema.specs.Paths.Dotted.{split, is_dollar, positional}
-use Rattle.encrypt_schema.specs.Commands.Stations.{Entry, Station, Outside, Insert, Update, Delete, Find, Unknown, Inserts, Updates, Deletes, UpdateItem, DeleteItem, Filter, Cases, Projection, Test, Elements, Operators, Sets, Argument, Document, Store, Compare, Bare, is_document, is_array, is_operators, has_name, is_logical, is_equality, is_membership, is_random_field, dotted, station}
+use Rattle.encrypt_schema.specs.Commands.Stations.{Entry, Station, Outside, Insert, Update, Delete, Find, Unknown}
+use Rattle.encrypt_schema.specs.Commands.Stations.{Inserts, Updates, Deletes, UpdateItem, DeleteItem, Filter, Cases}
+use Rattle.encrypt_schema.specs.Commands.Stations.{Projection, Test, Elements, Operators, Sets, Argument, Document}
+use Rattle.encrypt_schema.specs.Commands.Stations.{Store, Compare, Bare, is_document, is_array, is_operators, has_name}
+use Rattle.encrypt_schema.specs.Commands.Stations.{is_logical, is_equality, is_membership, is_random_field, dotted}
+use Rattle.encrypt_schema.specs.Commands.Stations.{station}
 
 -- a reason where a test holds, and where it doesn't
 abbrev pub when : Bool → Reason → List Reason

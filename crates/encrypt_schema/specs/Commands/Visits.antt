@@ -1,6 +1,7 @@
 -- MongoDB commands insert, update, delete and find: the places of a command in reading order, the marks of
 -- those that are protected, and the first that is refused.
-use Rattle.std.specs.Prelude.{ℕ, ◌+◌, ◌==◌, Bool, false, ◌&&◌, List, [], ◌∷◌, ◌++◌, length, Option, Some, None, slice_index}
+use Rattle.std.specs.Prelude.{ℕ, ◌+◌, ◌==◌, Bool, false, ◌&&◌, List, [], ◌∷◌, ◌++◌, length, Option, Some, None}
+use Rattle.std.specs.Prelude.{slice_index}
 use Rattle.bson_tree.specs.Tree.{Tree, leaf, node, Items, no_items, item, tag_of, kids_of}
 use Rattle.bson_tree.specs.Spelling.{value_bytes}
 use Rattle.encrypt_schema.specs.declared.command.marks.Mark.{Mark}

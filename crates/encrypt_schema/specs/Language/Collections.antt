@@ -1,5 +1,6 @@
 -- MongoDB listCollections: collection infos, one document each, and the rules of their schemas
-use Rattle.std.specs.Prelude.{◌≡◌, ◌≤◌, ℕ, zero, suc, ◌+◌, ◌++◌, Bool, true, false, List, [], ◌∷◌, length, drop, Option, Some, None, is_some, Result, Ok, Err, codes, if◌then◌else◌}
+use Rattle.std.specs.Prelude.{◌≡◌, ◌≤◌, ℕ, zero, suc, ◌+◌, ◌++◌, Bool, true, false, List, [], ◌∷◌, length, drop, Option}
+use Rattle.std.specs.Prelude.{Some, None, is_some, Result, Ok, Err, codes, if◌then◌else◌}
 use Rattle.bson_tree.specs.Tree.{Items, kids_of}
 use Rattle.bson_codec.specs.declared.fault.BsonFault.{BsonFault}
 use Rattle.bson_codec.specs.Reading.{front_document}
@@ -127,7 +128,8 @@ abbrev pub and_others : (List Collection → List ℕ → Result (List Collectio
 and_others read before (Err fault) = Err fault
 and_others read before (Ok first) = read (before ++ first.0 ∷ []) first.1
 
--- the collections of a file, behind those before; each document takes a byte at least, so n documents suffice for n bytes
+-- the collections of a file, behind those before; each document takes a byte at least, so n documents suffice for n
+-- bytes
 abbrev pub collections_from : ℕ → List Collection → List ℕ → Result (List Collection) Faulty
 collections_from n before [] = Ok before
 collections_from zero before (byte ∷ bytes) = Ok before
@@ -145,9 +147,12 @@ Loads (Err (info_faults.Bad document kind)) read = read ≡ Err (record { docume
 Loads (Err info_faults.Memory) read = Unit {0}
 
 -- the collection read first is added behind those before
-abbrev pub Adds : List Collection → List Collection → List ℕ → Result ℕ InfoFault → Result (Collection × List ℕ) Faulty → Type 0
-Adds before now bytes (Ok n) read = (collection : Collection) × (read ≡ Ok (collection, drop n bytes)) × (now ≡ before ++ collection ∷ [])
-Adds before now bytes (Err (info_faults.Bad document kind)) read = read ≡ Err (record { document = document; kind = kind })
+abbrev pub Adds : List Collection → List Collection → List ℕ → Result ℕ InfoFault → Result (Collection × List ℕ) Faulty
+    → Type 0
+Adds before now bytes (Ok n) read = (collection : Collection) × (read ≡ Ok (collection, drop n bytes))
+    × (now ≡ before ++ collection ∷ [])
+Adds before now bytes (Err (info_faults.Bad document kind)) read =
+    read ≡ Err (record { document = document; kind = kind })
 Adds before now bytes (Err info_faults.Memory) read = Unit {0}
 
 -- in the midst of a file: so many documents suffice for what is left, and all comes to what the whole file comes to

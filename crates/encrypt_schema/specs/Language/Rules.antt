@@ -1,5 +1,6 @@
 -- MongoDB Client Side Encryption: the rules that one schema has to obey, in the order in which they are judged
-use Rattle.std.specs.Prelude.{ℕ, Bool, true, false, ◌&&◌, not, List, [], ◌∷◌, codes, is_some, option_and_then, Option, Some, None, Result, Ok, Err, ◌==◌, if◌then◌else◌}
+use Rattle.std.specs.Prelude.{ℕ, Bool, true, false, ◌&&◌, not, List, [], ◌∷◌, codes, is_some, option_and_then, Option}
+use Rattle.std.specs.Prelude.{Some, None, Result, Ok, Err, ◌==◌, if◌then◌else◌}
 use Rattle.std.specs.List.{list_any}
 use Rattle.bson_tree.specs.Tree.{Tree, Items, no_items, item, kids_of}
 use Rattle.encrypt_schema.specs.declared.schema.context.Position.{Position}
@@ -33,7 +34,8 @@ abbrev pub wanted : {A : Type 0} → Option A → SchemaFault → Result A Schem
 wanted None fault = Err fault
 wanted (Some x) fault = Ok x
 
--- where a schema stands: whether rules may stand there, the names under `properties` that lead to it, and the key and the
+-- where a schema stands: whether rules may stand there, the names under `properties` that lead to it, and the key and
+-- the
 -- algorithm in force around it
 pub record Context : Type 0 where
   pub position : Position
@@ -104,7 +106,8 @@ algorithm_named text =
 
 abbrev pub algorithm_by : Option Algorithm → Option Tree → Result (Option Algorithm) SchemaFault
 algorithm_by around None = Ok around
-algorithm_by around (Some t) = wanted (option_and_then algorithm_named (text_value t)) faults.Algorithm >>= λ algorithm. Ok (Some algorithm)
+algorithm_by around (Some t) = wanted (option_and_then algorithm_named (text_value t)) faults.Algorithm >>= λ algorithm.
+    Ok (Some algorithm)
 
 unfoldable pub algorithm_inside : Option Algorithm → Items → Result (Option Algorithm) SchemaFault
 algorithm_inside around is = algorithm_by around (stated (codes "algorithm") is)
@@ -122,9 +125,15 @@ unfoldable pub inside : Context → Items → Result Context SchemaFault
 inside context is = do
   _ ← is_formed context.position is
   algorithm ← algorithm_inside context.algorithm is
-  Ok (record { position = context.position; path = context.path; key = key_inside context.key is; algorithm = algorithm })
+  Ok (record {
+    position = context.position;
+    path = context.path;
+    key = key_inside context.key is;
+    algorithm = algorithm;
+  })
 
--- 5. where `encrypt` stands: a key and an algorithm are in force, the names of types are known, the algorithm can protect
+-- 5. where `encrypt` stands: a key and an algorithm are in force, the names of types are known, the algorithm can
+-- protect
 -- these types, and the path has plain names alone
 abbrev pub types_by : Option Tree → Option (List ℕ)
 types_by None = Some []

@@ -1,5 +1,6 @@
 -- MongoDB Client Side Encryption: the rules of a schema with all its subschemas, or the first rule that it breaks
-use Rattle.std.specs.Prelude.{◌≡◌, ℕ, ◌==◌, nat_lt, List, [], ◌∷◌, ◌++◌, length, codes, Option, Some, None, Result, Ok, Err, if◌then◌else◌}
+use Rattle.std.specs.Prelude.{◌≡◌, ℕ, ◌==◌, nat_lt, List, [], ◌∷◌, ◌++◌, length, codes, Option, Some, None, Result, Ok}
+use Rattle.std.specs.Prelude.{Err, if◌then◌else◌}
 use Rattle.bson_tree.specs.Tree.{Tree, Items, leaf, node, no_items, item, tag_of}
 use Rattle.encrypt_schema.specs.declared.schema.context.Position.{Position}
 use Rattle.encrypt_schema.specs.declared.schema.context.Position.TheVariants as positions
@@ -11,7 +12,8 @@ use Rattle.encrypt_schema.specs.Language.Keywords.{keyword_at}
 use Rattle.encrypt_schema.specs.Language.Rules.{◌>>=◌, Context, states, inside, row_of}
 use Rattle.encrypt_schema.specs.Language.Row.{Row}
 
--- what is judged in a schema and its subschemas, one thing after the other: a schema's own rules, and the row of an `encrypt`.
+-- what is judged in a schema and its subschemas, one thing after the other: a schema's own rules, and the row of an
+-- `encrypt`.
 -- (A check that follows the count of the rows would be one more `rules` behind the `row`.)
 pub data Event : Type 0 where
   rules : Result Context SchemaFault → Event
@@ -30,7 +32,8 @@ run before [] = Ok before
 run before (rules r ∷ events) = r >>= λ _. run before events
 run before (row r ∷ events) = with_row before r >>= λ rows. run rows events
 
--- what a value is to the schema around it: nothing, a schema, the schemas of `properties`, each of which has its field's name,
+-- what a value is to the schema around it: nothing, a schema, the schemas of `properties`, each of which has its
+-- field's name,
 -- or a document or array whose documents are schemas
 pub data Part : Type 0 where
   nothing : Part

@@ -1,10 +1,12 @@
 -- MongoDB, JSON schema and Client Side Encryption: the forms of the keywords' values
-use Rattle.std.specs.Prelude.{ℕ, Bool, true, false, ◌&&◌, ◌||◌, List, codes, is_some, option_and_then, Option, None, if◌then◌else◌}
+use Rattle.std.specs.Prelude.{ℕ, Bool, true, false, ◌&&◌, ◌||◌, List, codes, is_some, option_and_then, Option, None}
+use Rattle.std.specs.Prelude.{if◌then◌else◌}
 use Rattle.bson_tree.specs.Tree.{Tree, Items, no_items, item, kids_of}
 use Rattle.encrypt_schema.specs.declared.schema.keyword.Form.{Form}
 use Rattle.encrypt_schema.specs.declared.schema.keyword.Form.TheVariants as forms
 use Rattle.encrypt_schema.specs.Language.Names.{named}
-use Rattle.encrypt_schema.specs.Language.Values.{are_distinct, is_string_value, is_document_value, is_array_value, is_bool_value, all_values, is_array_of, uuid_of, single}
+use Rattle.encrypt_schema.specs.Language.Values.{are_distinct, is_string_value, is_document_value, is_array_value}
+use Rattle.encrypt_schema.specs.Language.Values.{is_bool_value, all_values, is_array_of, uuid_of, single}
 
 -- the key id in `keyId`: an array of exactly one UUID.
 -- (The text of a pointer to the field that names the key would be a second case.)
@@ -17,7 +19,8 @@ has_no_items no_items = true
 has_no_items (item name t is) = false
 
 abbrev pub is_types : Tree → Bool
-is_types t = if is_string_value t then true else (if has_no_items (kids_of t) then false else is_array_of is_string_value t)
+is_types t = if is_string_value t then true else
+    (if has_no_items (kids_of t) then false else is_array_of is_string_value t)
 
 -- a setting: `keyId`, `algorithm`, and where types may be named `bsonType`, each of its form
 unfoldable pub is_setting : Bool → List ℕ → Tree → Bool

@@ -1,5 +1,6 @@
 -- MongoDB Client Side Encryption, `bsonType`: the alias of each BSON type, and the types that an algorithm can protect
-use Rattle.std.specs.Prelude.{ℕ, ◌==◌, Bool, true, false, List, [], ◌∷◌, Option, Some, None, codes, map, option_and_then, if◌then◌else◌}
+use Rattle.std.specs.Prelude.{ℕ, ◌==◌, Bool, true, false, List, [], ◌∷◌, Option, Some, None, codes, map}
+use Rattle.std.specs.Prelude.{option_and_then, if◌then◌else◌}
 use Rattle.std.specs.List.{list_any}
 use Rattle.bson_tree.specs.Tree.{Tree, Items, no_items, item, kids_of}
 use Rattle.encrypt_schema.specs.declared.schema.policy.Algorithm.{Algorithm}
@@ -61,7 +62,8 @@ types_named t = if is_string_value t then with_type (type_named t) (Some []) els
 abbrev pub every_type : List ℕ
 every_type = map (λ row. row.1) type_names
 
--- the types that the deterministic algorithm can protect: not double, object, array, bool, javascriptWithScope and decimal
+-- the types that the deterministic algorithm can protect: not double, object, array, bool, javascriptWithScope and
+-- decimal
 abbrev pub comparable_types : List ℕ
 comparable_types = 2 ∷ 5 ∷ 7 ∷ 9 ∷ 11 ∷ 12 ∷ 13 ∷ 14 ∷ 16 ∷ 17 ∷ 18 ∷ []
 

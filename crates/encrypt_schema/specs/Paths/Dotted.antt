@@ -49,12 +49,14 @@ is_on_path rows (name ∷ names) = is_above (class rows (name ∷ names))
 
 -- a component is a position where the path before it leads to a protected field, and with it doesn't
 abbrev pub is_position_behind : List Row → List (List ℕ) → List ℕ → Bool
-is_position_behind rows path name = is_position name && is_on_path rows path && is_clear (class rows (path ++ name ∷ []))
+is_position_behind rows path name = is_position name && is_on_path rows path && is_clear
+    (class rows (path ++ name ∷ []))
 
 -- some component from here on is a position on the way to a protected field
 abbrev pub positional_behind : List Row → List (List ℕ) → List (List ℕ) → Bool
 positional_behind rows path [] = false
-positional_behind rows path (name ∷ names) = is_position_behind rows path name || positional_behind rows (path ++ name ∷ []) names
+positional_behind rows path (name ∷ names) = is_position_behind rows path name || positional_behind rows
+    (path ++ name ∷ []) names
 
 -- a path has a position in an array on the way to a protected field
 unfoldable pub positional : List Row → List (List ℕ) → Bool

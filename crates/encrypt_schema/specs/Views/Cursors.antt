@@ -7,9 +7,12 @@ use Rattle.encrypt_schema.specs.Language.Row.{Row, paths}
 use Rattle.encrypt_schema.specs.Paths.Classes.{number_of, covers, leads}
 use Rattle.encrypt_schema.specs.Views.Fronts.{fronts}
 
--- on a front of a rule's path by its number, with whether a rule's path is a prefix of it; or below a rule; or clear of all
+-- on a front of a rule's path by its number, with whether a rule's path is a prefix of it; or below a rule; or clear of
+-- all
 abbrev pub StandsAt : List Row → Reach → List (List ℕ) → Type 0
-StandsAt rows (reaches.Front number covered) path = (number_of 0 path (fronts rows) ≡ Some number) × (covers path (paths rows) ≡ covered) × (leads path (paths rows) ≡ true)
+StandsAt rows (reaches.Front number covered) path =
+    (number_of 0 path (fronts rows) ≡ Some number) × (covers path (paths rows) ≡ covered)
+    × (leads path (paths rows) ≡ true)
 StandsAt rows reaches.Below path = (covers path (paths rows) ≡ true) × (leads path (paths rows) ≡ false)
 StandsAt rows reaches.Clear path = (covers path (paths rows) ≡ false) × (leads path (paths rows) ≡ false)
 

@@ -1,5 +1,6 @@
 -- The tree of names in memory, spot by spot, and the rules that end in it
-use Rattle.std.specs.Prelude.{◌≡◌, ◌<◌, ◌≤◌, ◌+◌, ◌*◌, ℕ, List, [], ◌∷◌, ◌++◌, map, length, get_or, Option, None, Vec, bytes_eq}
+use Rattle.std.specs.Prelude.{◌≡◌, ◌<◌, ◌≤◌, ◌+◌, ◌*◌, ℕ, List, [], ◌∷◌, ◌++◌, map, length, get_or, Option, None, Vec}
+use Rattle.std.specs.Prelude.{bytes_eq}
 use Rattle.std.specs.HashMap.{HashMap, get_by}
 use Rattle.std.specs.Global.{Global}
 use Rattle.encrypt_schema.specs.declared.path.spots.Spot.{Spot}

@@ -47,7 +47,8 @@ impl Rows {
     /// The cursor of a path with one name more. It takes one look-up by the name's hash, and no memory.
     pub fn step(&self, at: Cursor, name: &[u8]) -> Cursor
         requires cursor { (path : List (List ℕ)) × Stands self.now at path }
-        ensures steps { (path : List (List ℕ)) → Stands self.now at path → Stands self.now result (path ++ name.now ∷ []) }
+        ensures steps { (path : List (List ℕ)) → Stands self.now at path
+            → Stands self.now result (path ++ name.now ∷ []) }
     {
         match at.reach {
             Reach::Front(number, covered) => Cursor {

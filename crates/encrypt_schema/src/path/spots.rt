@@ -76,10 +76,12 @@ fn copy_name(alloc: Global, name: &[u8]) -> Result<Vec<u8>, Memory>
 /// Adds a spot to which no name leads yet.
 fn push_spot(alloc: Global, spots: &mut Vec<Spot>, at: u32, name: &[u8]) -> Result<(), Memory>
     requires root { 0 < length spots.old.items }
-    ensures paths { OnOk result (spot_paths spots.new.items ≡ spot_paths spots.old.items ++ (get_or (spot_paths spots.old.items) at [] ++ name.now ∷ []) ∷ []) }
+    ensures paths { OnOk result (spot_paths spots.new.items
+        ≡ spot_paths spots.old.items ++ (get_or (spot_paths spots.old.items) at [] ++ name.now ∷ []) ∷ []) }
     ensures children { (i : ℕ) (q : List ℕ) → child_at spots.new.items i q ≡ child_at spots.old.items i q }
     ensures rules { (i : ℕ) → rule_at spots.new.items i ≡ rule_at spots.old.items i }
-    ensures count { length spots.new.items ≡ (if is_ok result then length spots.old.items + 1 else length spots.old.items) }
+    ensures count { length spots.new.items ≡ (if is_ok result then length spots.old.items + 1 else length
+        spots.old.items) }
 {
     let name = Bytes::from_slice(alloc, name)?;
     let spot = Spot {
@@ -104,7 +106,9 @@ fn note_child(
 ) -> Result<(), Memory>
     requires inside { at < length spots.old.items }
     ensures paths { OnOk result (spot_paths spots.new.items ≡ spot_paths spots.old.items) }
-    ensures children { OnOk result ((i : ℕ) (q : List ℕ) → child_at spots.new.items i q ≡ (if i == at && bytes_eq name.now q then Some n else child_at spots.old.items i q)) }
+    ensures children { OnOk result ((i : ℕ) (q : List ℕ)
+        → child_at spots.new.items i q ≡ (if i == at && bytes_eq name.now q then Some n else child_at spots.old.items i
+        q)) }
     ensures rules { OnOk result ((i : ℕ) → rule_at spots.new.items i ≡ rule_at spots.old.items i) }
     ensures count { length spots.new.items ≡ length spots.old.items }
 {
@@ -143,9 +147,13 @@ fn go_on(alloc: Global, spots: &mut Vec<Spot>, at: u32, name: &[u8]) -> Result<u
     requires stands { (path : List (List ℕ)) × (number_of 0 path (spot_paths spots.old.items) ≡ Some at) }
     requires room { length spots.old.items < 2 ^ 31 }
     ensures tree { OnOk result (IsTree (spot_paths spots.new.items) (child_at spots.new.items)) }
-    ensures paths { OnOk result ((path : List (List ℕ)) → number_of 0 path (spot_paths spots.old.items) ≡ Some at → spot_paths spots.new.items ≡ with_path (spot_paths spots.old.items) (path ++ name.now ∷ [])) }
-    ensures stands { IfOk result (λ n. (path : List (List ℕ)) → number_of 0 path (spot_paths spots.old.items) ≡ Some at → number_of 0 (path ++ name.now ∷ []) (spot_paths spots.new.items) ≡ Some n) }
-    ensures rules { OnOk result ((ruled : List (List (List ℕ))) → HasRules (spot_paths spots.old.items) (rule_at spots.old.items) ruled → HasRules (spot_paths spots.new.items) (rule_at spots.new.items) ruled) }
+    ensures paths { OnOk result ((path : List (List ℕ)) → number_of 0 path (spot_paths spots.old.items) ≡ Some at
+        → spot_paths spots.new.items ≡ with_path (spot_paths spots.old.items) (path ++ name.now ∷ [])) }
+    ensures stands { IfOk result (λ n. (path : List (List ℕ)) → number_of 0 path (spot_paths spots.old.items) ≡ Some at
+        → number_of 0 (path ++ name.now ∷ []) (spot_paths spots.new.items) ≡ Some n) }
+    ensures rules { OnOk result ((ruled : List (List (List ℕ)))
+        → HasRules (spot_paths spots.old.items) (rule_at spots.old.items) ruled
+        → HasRules (spot_paths spots.new.items) (rule_at spots.new.items) ruled) }
     ensures least { length spots.old.items ≤ length spots.new.items }
     ensures most { length spots.new.items ≤ length spots.old.items + 1 }
 {
@@ -166,9 +174,12 @@ pub(crate) fn reach(alloc: Global, spots: &mut Vec<Spot>, path: &[&[u8]]) -> Res
     requires root { number_of 0 [] (spot_paths spots.old.items) ≡ Some 0 }
     requires room { length spots.old.items + length path.now < 2 ^ 31 }
     ensures tree { OnOk result (IsTree (spot_paths spots.new.items) (child_at spots.new.items)) }
-    ensures paths { OnOk result (spot_paths spots.new.items ≡ each_once (spot_paths spots.old.items) (fronts_of (names path.now))) }
+    ensures paths { OnOk result (spot_paths spots.new.items
+        ≡ each_once (spot_paths spots.old.items) (fronts_of (names path.now))) }
     ensures stands { IfOk result (λ n. number_of 0 (names path.now) (spot_paths spots.new.items) ≡ Some n) }
-    ensures rules { OnOk result ((ruled : List (List (List ℕ))) → HasRules (spot_paths spots.old.items) (rule_at spots.old.items) ruled → HasRules (spot_paths spots.new.items) (rule_at spots.new.items) ruled) }
+    ensures rules { OnOk result ((ruled : List (List (List ℕ)))
+        → HasRules (spot_paths spots.old.items) (rule_at spots.old.items) ruled
+        → HasRules (spot_paths spots.new.items) (rule_at spots.new.items) ruled) }
     ensures least { length spots.old.items ≤ length spots.new.items }
     ensures most { length spots.new.items ≤ length spots.old.items + length path.now }
 {

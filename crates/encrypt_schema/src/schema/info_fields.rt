@@ -1,7 +1,8 @@
 //! The fields of a collection info, MongoDB's answer to `listCollections`.
 
 ghost use Rattle.std.specs.Prelude.{◌≡◌, codes, option_map, option_copied};
-ghost use Rattle.encrypt_schema.specs.Language.Collections.{some_text, name_in, is_view_text, view_in, fields_in, section, schema_in, info_fields};
+ghost use Rattle.encrypt_schema.specs.Language.Collections.{some_text, name_in, is_view_text, view_in, fields_in};
+ghost use Rattle.encrypt_schema.specs.Language.Collections.{section, schema_in, info_fields};
 ghost use Rattle.encrypt_schema.specs.Language.Names.{named};
 ghost use Rattle.encrypt_schema.specs.Views.Seen.{fields_seen, document_seen, section_seen, seen};
 ghost use Rattle.encrypt_schema.specs.Language.Standings.{standing};

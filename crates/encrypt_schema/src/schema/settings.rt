@@ -2,7 +2,8 @@
 
 ghost use Rattle.std.specs.Prelude.{◌≡◌, codes, option_map};
 ghost use Rattle.encrypt_schema.specs.Language.Names.{named};
-ghost use Rattle.encrypt_schema.specs.Language.Rules.{setting_of, stated, algorithm_named, algorithm_inside, key_inside};
+ghost use Rattle.encrypt_schema.specs.Language.Rules.{setting_of, stated, algorithm_named, algorithm_inside};
+ghost use Rattle.encrypt_schema.specs.Language.Rules.{key_inside};
 
 use crate::schema::faults::SchemaFault;
 use crate::schema::names::is_named;

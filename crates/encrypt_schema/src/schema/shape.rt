@@ -2,7 +2,8 @@
 
 ghost use Rattle.std.specs.Prelude.{◌≡◌, ◌&&◌, is_some, codes, IfOk};
 ghost use Rattle.encrypt_schema.specs.Language.Names.{named};
-ghost use Rattle.encrypt_schema.specs.Language.Shapes.{key_of, has_no_items, is_types, is_setting, all_settings, are_settings, are_schemas, fits};
+ghost use Rattle.encrypt_schema.specs.Language.Shapes.{key_of, has_no_items, is_types, is_setting, all_settings};
+ghost use Rattle.encrypt_schema.specs.Language.Shapes.{are_settings, are_schemas, fits};
 ghost use Rattle.encrypt_schema.specs.Language.Values.{is_document_value, is_array_of};
 
 use crate::schema::distinct::are_distinct;

@@ -6,7 +6,8 @@ ghost use Rattle.encrypt_schema.specs.Language.Rules.{wanted, types_stated, type
 ghost use Rattle.encrypt_schema.specs.declared.schema.faults.SchemaFault.TheVariants as faults;
 ghost use Rattle.encrypt_schema.specs.Language.Schemas.{Gives};
 ghost use Rattle.encrypt_schema.specs.Views.Seen.{types_in_table};
-ghost use Rattle.encrypt_schema.specs.Language.TypeNames.{byte_in, type_byte, with_type, type_named, types_in, types_named, is_comparable, can_protect, types_allowed};
+ghost use Rattle.encrypt_schema.specs.Language.TypeNames.{byte_in, type_byte, with_type, type_named, types_in};
+ghost use Rattle.encrypt_schema.specs.Language.TypeNames.{types_named, is_comparable, can_protect, types_allowed};
 
 use crate::schema::faults::SchemaFault;
 use crate::schema::policy::{Algorithm, TypeSet};

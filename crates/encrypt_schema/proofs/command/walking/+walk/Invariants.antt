@@ -18,9 +18,13 @@ invariant-mark_elements-loop-item g l = record {
   size : items_size l.item-iterator.tree ≤ items_size l.document.tree;
   number : l.k + count l.item-iterator.tree ≡ count l.document.tree;
   elder : drop l.k (names_of l.document.tree) ≡ names_of l.item-iterator.tree;
-  marked : l.marks ++ marks l.rows (visits l.rows (g.P.Place.station_by l.at l.rows) l.item-iterator.start (take l.k (names_of l.document.tree)) l.item-iterator.tree)
-      ≡ l.fn.marks ++ marks l.rows (visits l.rows (g.P.Place.station_by l.at l.rows) (l.document.start + 4) [] l.document.tree);
-  clean : first_refusal (ruled_of l.rows) (visits l.rows (g.P.Place.station_by l.at l.rows) l.item-iterator.start (take l.k (names_of l.document.tree)) l.item-iterator.tree)
-      ≡ first_refusal (ruled_of l.rows) (visits l.rows (g.P.Place.station_by l.at l.rows) (l.document.start + 4) [] l.document.tree);
+  marked : l.marks ++ marks l.rows (visits l.rows (g.P.Place.station_by l.at l.rows) l.item-iterator.start
+      (take l.k (names_of l.document.tree)) l.item-iterator.tree)
+      ≡ l.fn.marks ++ marks l.rows (visits l.rows (g.P.Place.station_by l.at l.rows)
+      (l.document.start + 4) [] l.document.tree);
+  clean : first_refusal (ruled_of l.rows) (visits l.rows (g.P.Place.station_by l.at l.rows) l.item-iterator.start
+      (take l.k (names_of l.document.tree)) l.item-iterator.tree)
+      ≡ first_refusal (ruled_of l.rows) (visits l.rows (g.P.Place.station_by l.at l.rows)
+      (l.document.start + 4) [] l.document.tree);
   kept : Begins l.fn.marks l.marks;
 }

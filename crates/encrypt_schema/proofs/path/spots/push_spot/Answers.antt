@@ -11,4 +11,5 @@ returns-clause-paths c =
     let pushed : c.push.new.self.items ≡ c.args.spots.now.items ++ spot ∷ [] = search rules in
     ap spot_paths pushed
     ∙ pushed_paths c.args.spots.now.items spot c.requires.root
-    ∙ ap (λ (n : List ℕ). spot_paths c.args.spots.now.items ++ (get_or (spot_paths c.args.spots.now.items) c.args.at [] ++ n ∷ []) ∷ []) c.in_ok-name.ensures.copy
+    ∙ ap (λ (n : List ℕ). spot_paths c.args.spots.now.items
+    ++ (get_or (spot_paths c.args.spots.now.items) c.args.at [] ++ n ∷ []) ∷ []) c.in_ok-name.ensures.copy
