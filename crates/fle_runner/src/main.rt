@@ -18,6 +18,8 @@ mod infos;
 #[cfg(test)]
 mod json_tests;
 mod keygen;
+#[cfg(test)]
+mod keygen_tests;
 mod keys;
 #[cfg(test)]
 mod keys_tests;

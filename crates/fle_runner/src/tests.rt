@@ -57,9 +57,9 @@ pub(crate) struct Run<'a> {
 /// What a run left.
 #[derive(Drop)]
 pub(crate) struct Seen {
-    status: Status,
-    out: Vec<u8>,
-    line: Vec<u8>,
+    pub(crate) status: Status,
+    pub(crate) out: Vec<u8>,
+    pub(crate) line: Vec<u8>,
 }
 
 /// A run over this input in which nothing fails.
@@ -77,7 +77,7 @@ pub(crate) fn plain(input: &[u8]) -> Run<'_> {
 }
 
 /// A folder with the file `infos`.
-fn folder_of(alloc: Global, infos: &[u8], failing: &[u64]) -> Result<MemFolder, Fail> {
+pub(crate) fn folder_of(alloc: Global, infos: &[u8], failing: &[u64]) -> Result<MemFolder, Fail> {
     let name = String::from_str(alloc, "infos")?;
     let bytes = Vec::from_slice(alloc, infos)?;
     let failing = Vec::from_slice(alloc, failing)?;
@@ -86,7 +86,7 @@ fn folder_of(alloc: Global, infos: &[u8], failing: &[u64]) -> Result<MemFolder, 
 }
 
 /// A sink with ample room that takes at most 100 bytes a call.
-fn sink_of(alloc: Global, failing: &[u64]) -> Result<MemSink, Fail> {
+pub(crate) fn sink_of(alloc: Global, failing: &[u64]) -> Result<MemSink, Fail> {
     let failing = Vec::from_slice(alloc, failing)?;
     match MemSink::new(alloc, 1000, 100, failing) {
         Ok(sink) => Ok(sink),
@@ -95,7 +95,7 @@ fn sink_of(alloc: Global, failing: &[u64]) -> Result<MemSink, Fail> {
 }
 
 /// The words as the program gets them.
-fn words_of(alloc: Global, words: &[&str]) -> Result<Vec<String>, Fail> {
+pub(crate) fn words_of(alloc: Global, words: &[&str]) -> Result<Vec<String>, Fail> {
     let mut all = Vec::new(alloc);
     for word in words {
         all.push(String::from_str(alloc, word)?)?;
