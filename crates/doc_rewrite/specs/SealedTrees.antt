@@ -1,5 +1,5 @@
--- MongoDB Client Side Encryption: a command whose protected values are sealed, told in one descent by the stations of its
--- places
+-- MongoDB Client Side Encryption: a command whose protected values are sealed, told in one descent by the stations
+-- of its places
 use Rattle.std.specs.Prelude.{◌≡◌, ℕ, List, Option, Some, None}
 use Rattle.bson_tree.specs.Tree.{Tree, leaf, node, Items, no_items, item, tag_of}
 use Rattle.bson_tree.specs.Spelling.{value_bytes}
@@ -42,7 +42,11 @@ abbrev mutual
   pub AreSealed : (ℕ → Tree → Tree → Type 0) → List Row → Station → Items → Items → Type 0
   AreSealed S rows s no_items js = js ≡ no_items
   AreSealed S rows s (item name t is) js =
-      (u : Tree) × (ks : Items) × (js ≡ item name u ks) × SealedIn S rows (station rows s (entry name t)) t u × AreSealed S rows s is ks
+      (u : Tree)
+      × (ks : Items)
+      × (js ≡ item name u ks)
+      × SealedIn S rows (station rows s (entry name t)) t u
+      × AreSealed S rows s is ks
 
 -- a sealed command, read by the stations of its places
 abbrev pub IsSealedByStations : Lookup → List Row → Items → Items → Type 0

@@ -20,7 +20,8 @@ HasKeys keys [] = Unit {0}
 HasKeys keys (s ∷ ss) = (is_some (keys s.key_id) ≡ true) × HasKeys keys ss
 
 -- the bytes are the document, sealed at these sites with the blocks that were drawn, one for each random value
-pub record IsSealedWhole (keys : Lookup) (ss : List Site) (d : At) (before after : EntropySeen) (bytes : List ℕ) : Type 0 where
+pub record IsSealedWhole (keys : Lookup) (ss : List Site) (d : At) (before after : EntropySeen)
+    (bytes : List ℕ) : Type 0 where
   pub drawn : List Block
   pub count : length drawn ≡ draws_of ss
   pub draws : Draws before after drawn
@@ -46,4 +47,5 @@ pub record SealsOne (keys : Lookup) (ss others : List Site) (before after : Entr
 
 -- none was, since the draw for the first of those left failed
 abbrev pub SealsNone : List Site → EntropySeen → EntropySeen → Type 0
-SealsNone ss before after = (site : Site) × (others : List Site) × (ss ≡ site ∷ others) × DrawFails site.algorithm before after
+SealsNone ss before after =
+    (site : Site) × (others : List Site) × (ss ≡ site ∷ others) × DrawFails site.algorithm before after

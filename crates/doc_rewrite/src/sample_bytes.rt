@@ -1,5 +1,5 @@
-//! Payloads that Python's hmac and OpenSSL's AES-256-CBC made under the data key of the tests, and the infos of the rules
-//! under which they were made.
+//! Payloads that Python's hmac and OpenSSL's AES-256-CBC made under the data key of the tests, and the infos of the
+//! rules under which they were made.
 
 /// The infos of `people` (`ssn` deterministic, `salary` random) and of `staff` (`a.b` deterministic).
 pub(crate) const INFOS: &[u8] = &[

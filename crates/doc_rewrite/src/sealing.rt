@@ -71,8 +71,8 @@ impl<'a, 'n, B: Block256, N: Entropy> Putter for Sealing<'a, 'n, B, N> {
 }
 
 /// Writes the document into `out`, which has the plan's length, with the values of the plan sealed: each under the key
-/// of its id, those of the random algorithm with a block each, drawn in reading order. `Failed` where a block couldn't be
-/// drawn: `out` may hold anything then. It takes no memory.
+/// of its id, those of the random algorithm with a block each, drawn in reading order. `Failed` where a block couldn't
+/// be drawn: `out` may hold anything then. It takes no memory.
 pub fn seal_through<B: Block256, N: Entropy>(
     plan: &Plan,
     document: &RawDoc<'_>,

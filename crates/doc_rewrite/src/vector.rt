@@ -10,6 +10,7 @@ use fle_outside::{Entropy, Failed};
 use payload6::det_iv;
 
 /// The vector of a value: derived of it under the deterministic algorithm, the next random block under the random one.
+#[tactic(auto, using(crate::proofs::Drawings::vector_drawn))]
 pub(crate) fn vector_of<N: Entropy>(
     site: &Site,
     key: &DataKey,

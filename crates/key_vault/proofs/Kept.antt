@@ -1,5 +1,7 @@
 -- What is kept was opened under the master key, and stands in its order.
-use Rattle.std.proofs.Common.{◌≡◌, ◌∙◌, ℕ, zero, suc, ◌-◌, ◌==◌, length, Bool, true, false, cond, List, [], ◌∷◌, map, take, Contains, Option, Some, None, Result, Ok, Err, OnOk, OnErr, refl, sym, ap, subst, inl, inr, ◌⊎◌}
+use Rattle.std.proofs.Common.{◌≡◌, ◌∙◌, ℕ, zero, suc, ◌-◌, ◌==◌, length, Bool, true, false, cond, List, [], ◌∷◌, map}
+use Rattle.std.proofs.Common.{take, Contains, Option, Some, None, Result, Ok, Err, OnOk, OnErr, refl, sym, ap, subst}
+use Rattle.std.proofs.Common.{inl, inr, ◌⊎◌}
 use Rattle.std.specs.Prelude.{bytes_eq, is_some, is_ok, IsSome, IsOk, unwrap_or, if◌then◌else◌}
 use Rattle.std.specs.Option.{option_map_or}
 use Rattle.std.specs.Cmp.Lexicographic.{bytes_decides}
@@ -14,14 +16,17 @@ use Rattle.key_vault.specs.declared.cache.Opened.{Opened}
 use Rattle.key_vault.specs.Cached.{AreOpened, Entry, capacity, entry_of, is_kept, kept_first, without, KeepsOpened}
 
 -- a look-up gives what was kept
-pub looked_up : (master : List ℕ) (test : List ℕ → Bool) (es : List (List ℕ × Opened)) (v : Opened) → AreOpened master es
+pub looked_up : (master : List ℕ) (test : List ℕ → Bool) (es : List (List ℕ × Opened)) (v : Opened)
+    → AreOpened master es
     → lookup test es ≡ Some v → Unwraps master v.material (Ok v.key)
 looked_up master test es v are e = let c = Contains-lookup test es v e in are (c.0, v) c.1
 
-pub promoted_opened : (master : List ℕ) (test : List ℕ → Bool) (es : List (List ℕ × Opened)) → AreOpened master es → AreOpened master (promoted test es)
+pub promoted_opened : (master : List ℕ) (test : List ℕ → Bool) (es : List (List ℕ × Opened)) → AreOpened master es
+    → AreOpened master (promoted test es)
 promoted_opened master test es are e c = are e (Contains-promoted test es e c)
 
-put_opened : (master : List ℕ) (eq : List ℕ → List ℕ → Bool) (s : LruCache (List ℕ) Opened) (k : List ℕ) (v : Opened) → AreOpened master s.entries
+put_opened : (master : List ℕ) (eq : List ℕ → List ℕ → Bool) (s : LruCache (List ℕ) Opened) (k : List ℕ) (v : Opened)
+    → AreOpened master s.entries
     → Unwraps master v.material (Ok v.key) → AreOpened master (put_entries eq s k v)
 put_opened master eq s k v are right e c = elim (Contains-put_entries eq s k v e c) [
   | inl there ↦ are e there
@@ -29,49 +34,61 @@ put_opened master eq s k v are right e c = elim (Contains-put_entries eq s k v e
 ]
 
 -- whether the pair was put or not
-pub after_put : {A E : Type 0} (master : List ℕ) (eq : List ℕ → List ℕ → Bool) (s n : LruCache (List ℕ) Opened) (k : List ℕ) (v : Opened) (r : Result A E) → AreOpened master s.entries
-    → Unwraps master v.material (Ok v.key) → OnOk r (n ≡ lru_cache (put_entries eq s k v) s.cap) → OnErr r (n ≡ s) → AreOpened master n.entries
-after_put master eq s n k v (Ok x) are right ok err = subst (λ (m : LruCache (List ℕ) Opened). AreOpened master m.entries) (sym ok) (put_opened master eq s k v are right)
-after_put master eq s n k v (Err x) are right ok err = subst (λ (m : LruCache (List ℕ) Opened). AreOpened master m.entries) (sym err) are
+pub after_put : {A E : Type 0} (master : List ℕ) (eq : List ℕ → List ℕ
+    → Bool) (s n : LruCache (List ℕ) Opened) (k : List ℕ) (v : Opened) (r : Result A E) → AreOpened master s.entries
+    → Unwraps master v.material (Ok v.key) → OnOk r (n ≡ lru_cache (put_entries eq s k v) s.cap) → OnErr r (n ≡ s)
+    → AreOpened master n.entries
+after_put master eq s n k v (Ok x) are right ok err =
+    subst (λ (m : LruCache (List ℕ) Opened). AreOpened master m.entries) (sym ok) (put_opened master eq s k v are right)
+after_put master eq s n k v (Err x) are right ok err =
+    subst (λ (m : LruCache (List ℕ) Opened). AreOpened master m.entries) (sym err) are
 
-pub cap_put : {A E : Type 0} (eq : List ℕ → List ℕ → Bool) (s n : LruCache (List ℕ) Opened) (k : List ℕ) (v : Opened) (r : Result A E)
+pub cap_put : {A E : Type 0} (eq : List ℕ → List ℕ
+    → Bool) (s n : LruCache (List ℕ) Opened) (k : List ℕ) (v : Opened) (r : Result A E)
     → OnOk r (n ≡ lru_cache (put_entries eq s k v) s.cap) → OnErr r (n ≡ s) → n.cap ≡ s.cap
 cap_put eq s n k v (Ok x) ok err = ap (λ (m : LruCache (List ℕ) Opened). m.cap) ok
 cap_put eq s n k v (Err x) ok err = ap (λ (m : LruCache (List ℕ) Opened). m.cap) err
 
 -- ---- the order
 
-map_if : (b : Bool) (xs ys : List (List ℕ × Opened)) → map entry_of (cond b xs ys) ≡ cond b (map entry_of xs) (map entry_of ys)
+map_if : (b : Bool) (xs ys : List (List ℕ × Opened))
+    → map entry_of (cond b xs ys) ≡ cond b (map entry_of xs) (map entry_of ys)
 map_if true xs ys = refl
 map_if false xs ys = refl
 
-removed : (id : List ℕ) (es : List (List ℕ × Opened)) → map entry_of (remove_entry (bytes_eq id) es) ≡ without id (map entry_of es)
+removed : (id : List ℕ) (es : List (List ℕ × Opened))
+    → map entry_of (remove_entry (bytes_eq id) es) ≡ without id (map entry_of es)
 removed id [] = refl
 removed id (e ∷ es) =
     map_if (bytes_eq id e.0) es (e ∷ remove_entry (bytes_eq id) es)
     ∙ ap (λ (xs : List Entry). cond (bytes_eq id e.0) (map entry_of es) (entry_of e ∷ xs)) (removed id es)
 
 -- an entry is kept where the look-up finds one
-some_if : (b : Bool) (e : List ℕ × Opened) (o : Option (List ℕ × Opened)) → cond b true (is_some o) ≡ is_some (cond b (Some e) o)
+some_if : (b : Bool) (e : List ℕ × Opened) (o : Option (List ℕ × Opened))
+    → cond b true (is_some o) ≡ is_some (cond b (Some e) o)
 some_if true e o = refl
 some_if false e o = refl
 
-kept_found : (id : List ℕ) (es : List (List ℕ × Opened)) → is_kept id (map entry_of es) ≡ is_some (lookup_entry (bytes_eq id) es)
+kept_found : (id : List ℕ) (es : List (List ℕ × Opened))
+    → is_kept id (map entry_of es) ≡ is_some (lookup_entry (bytes_eq id) es)
 kept_found id [] = refl
 kept_found id (e ∷ es) =
-    ap (λ (b : Bool). cond (bytes_eq id e.0) true b) (kept_found id es) ∙ some_if (bytes_eq id e.0) e (lookup_entry (bytes_eq id) es)
+    ap (λ (b : Bool). cond (bytes_eq id e.0) true b) (kept_found id es)
+    ∙ some_if (bytes_eq id e.0) e (lookup_entry (bytes_eq id) es)
 
 -- the entry that is found has this id, and the value that the look-up gives
 abbrev Found : List ℕ → Option (List ℕ × Opened) → Option Opened → Type 0
 Found id None value = value ≡ None
 Found id (Some e) value = (e.0 ≡ id) × (value ≡ Some e.1)
 
-found_if : (id : List ℕ) (b : Bool) (e : List ℕ × Opened) (o : Option (List ℕ × Opened)) (v : Option Opened) → bytes_eq id e.0 ≡ b → Found id o v
+found_if : (id : List ℕ) (b : Bool) (e : List ℕ × Opened) (o : Option (List ℕ × Opened)) (v : Option Opened)
+    → bytes_eq id e.0 ≡ b → Found id o v
     → Found id (cond b (Some e) o) (cond b (Some e.1) v)
 found_if id true e o v same rest = (sym ((bytes_decides id e.0).0 same), refl)
 found_if id false e o v same rest = rest
 
-found_entry : (id : List ℕ) (es : List (List ℕ × Opened)) → Found id (lookup_entry (bytes_eq id) es) (lookup (bytes_eq id) es)
+found_entry : (id : List ℕ) (es : List (List ℕ × Opened))
+    → Found id (lookup_entry (bytes_eq id) es) (lookup (bytes_eq id) es)
 found_entry id [] = refl
 found_entry id (e ∷ es) = found_if id (bytes_eq id e.0) e _ _ refl (found_entry id es)
 
@@ -83,27 +100,32 @@ abbrev promoted_to : List ℕ → List (List ℕ × Opened) → Option (List ℕ
 promoted_to id es o = option_map_or (λ e. e ∷ remove_entry (bytes_eq id) es) o es
 
 abbrev put_to : List ℕ → Opened → LruCache (List ℕ) Opened → Option (List ℕ × Opened) → List (List ℕ × Opened)
-put_to id v s o = option_map_or (λ e. (e.0, v) ∷ remove_entry (bytes_eq id) s.entries) o ((id, v) ∷ take (s.cap - 1) s.entries)
+put_to id v s o = option_map_or (λ e. (e.0, v) ∷ remove_entry (bytes_eq id) s.entries) o
+    ((id, v) ∷ take (s.cap - 1) s.entries)
 
 -- ---- found, and promoted
 some_value : (a b : Opened) → Some a ≡ Some b → a ≡ b
 some_value a b e = ap (λ (o : Option Opened). unwrap_or o a) e
 
-promoted_by : (id : List ℕ) (v : Opened) (es : List (List ℕ × Opened)) (o : Option (List ℕ × Opened)) → lookup_entry (bytes_eq id) es ≡ o
+promoted_by : (id : List ℕ) (v : Opened) (es : List (List ℕ × Opened)) (o : Option (List ℕ × Opened))
+    → lookup_entry (bytes_eq id) es ≡ o
     → Found id o (Some v) → map entry_of (promoted (bytes_eq id) es) ≡ kept_first (entry id v) (map entry_of es)
 promoted_by id v es None is found = absurd (false≢true (sym (ap is_some found)))
 promoted_by id v es (Some e) is found =
-    let first : entry_of e ≡ entry id v = ap (λ (i : List ℕ). entry i e.1) found.0 ∙ ap (entry id) (sym (some_value v e.1 found.1)) in
+    let first : entry_of e ≡ entry id v = ap (λ (i : List ℕ). entry i e.1) found.0
+    ∙ ap (entry id) (sym (some_value v e.1 found.1)) in
     let here : is_kept id (map entry_of es) ≡ true = kept_found id es ∙ ap is_some is in
     ap (λ (x : Option (List ℕ × Opened)). map entry_of (promoted_to id es x)) is
     ∙ ap (λ (x : Entry). x ∷ map entry_of (remove_entry (bytes_eq id) es)) first
     ∙ ap (λ (xs : List Entry). entry id v ∷ xs) (removed id es)
-    ∙ ap (λ (b : Bool). entry id v ∷ cond b (without id (map entry_of es)) (take (capacity - 1) (map entry_of es))) (sym here)
+    ∙ ap (λ (b : Bool). entry id v ∷ cond b (without id (map entry_of es)) (take (capacity - 1) (map entry_of es)))
+    (sym here)
 
 pub promoted_first : (id : List ℕ) (v : Opened) (es : List (List ℕ × Opened)) → lookup (bytes_eq id) es ≡ Some v
     → map entry_of (promoted (bytes_eq id) es) ≡ kept_first (entry id v) (map entry_of es)
 promoted_first id v es is =
-    promoted_by id v es (lookup_entry (bytes_eq id) es) refl (subst (λ (x : Option Opened). Found id (lookup_entry (bytes_eq id) es) x) is (found_entry id es))
+    promoted_by id v es (lookup_entry (bytes_eq id) es) refl
+    (subst (λ (x : Option Opened). Found id (lookup_entry (bytes_eq id) es) x) is (found_entry id es))
 
 -- ---- put
 map_take : (n : ℕ) (es : List (List ℕ × Opened)) → map entry_of (take n es) ≡ take n (map entry_of es)
@@ -111,39 +133,50 @@ map_take zero es = refl
 map_take (suc n) [] = refl
 map_take (suc n) (e ∷ es) = ap (λ (xs : List Entry). entry_of e ∷ xs) (map_take n es)
 
-put_by : (id : List ℕ) (v : Opened) (s : LruCache (List ℕ) Opened) (o : Option (List ℕ × Opened)) (w : Option Opened) → s.cap ≡ capacity
-    → lookup_entry (bytes_eq id) s.entries ≡ o → Found id o w → map entry_of (put_entries bytes_eq s id v) ≡ kept_first (entry id v) (map entry_of s.entries)
+put_by : (id : List ℕ) (v : Opened) (s : LruCache (List ℕ) Opened) (o : Option (List ℕ × Opened)) (w : Option Opened)
+    → s.cap ≡ capacity
+    → lookup_entry (bytes_eq id) s.entries ≡ o → Found id o w
+    → map entry_of (put_entries bytes_eq s id v) ≡ kept_first (entry id v) (map entry_of s.entries)
 put_by id v s None w full is found =
     let here : is_kept id (map entry_of s.entries) ≡ false = kept_found id s.entries ∙ ap is_some is in
     ap (λ (x : Option (List ℕ × Opened)). map entry_of (put_to id v s x)) is
     ∙ ap (λ (n : ℕ). entry id v ∷ map entry_of (take (n - 1) s.entries)) full
     ∙ ap (λ (xs : List Entry). entry id v ∷ xs) (map_take (capacity - 1) s.entries)
-    ∙ ap (λ (b : Bool). entry id v ∷ cond b (without id (map entry_of s.entries)) (take (capacity - 1) (map entry_of s.entries))) (sym here)
+    ∙ ap (λ (b : Bool). entry id v ∷ cond b (without id (map entry_of s.entries))
+    (take (capacity - 1) (map entry_of s.entries))) (sym here)
 put_by id v s (Some e) w full is found =
     let here : is_kept id (map entry_of s.entries) ≡ true = kept_found id s.entries ∙ ap is_some is in
     ap (λ (x : Option (List ℕ × Opened)). map entry_of (put_to id v s x)) is
     ∙ ap (λ (i : List ℕ). entry i v ∷ map entry_of (remove_entry (bytes_eq id) s.entries)) found.0
     ∙ ap (λ (xs : List Entry). entry id v ∷ xs) (removed id s.entries)
-    ∙ ap (λ (b : Bool). entry id v ∷ cond b (without id (map entry_of s.entries)) (take (capacity - 1) (map entry_of s.entries))) (sym here)
+    ∙ ap (λ (b : Bool). entry id v ∷ cond b (without id (map entry_of s.entries))
+    (take (capacity - 1) (map entry_of s.entries))) (sym here)
 
-none_there : (o : Option (List ℕ × Opened)) (id : List ℕ) (w : Option Opened) → Found id o w → (IsSome w → ⊥) → is_some o ≡ false
+none_there : (o : Option (List ℕ × Opened)) (id : List ℕ) (w : Option Opened) → Found id o w → (IsSome w → ⊥)
+    → is_some o ≡ false
 none_there None id w found nothing = refl
 none_there (Some e) id w found nothing = absurd (nothing (ap is_some found.1))
 
 -- whether there was memory or not
-pub kept_put : {A E : Type 0} (key : KeyDoc) (opened : List ℕ) (v : Opened) (s n : LruCache (List ℕ) Opened) (r : Result A E) → s.cap ≡ capacity
-    → v.material ≡ key.material → v.key ≡ opened → OnOk r (n ≡ lru_cache (put_entries bytes_eq s key.id v) s.cap) → OnErr r (n ≡ s)
-    → (IsSome (lookup (bytes_eq key.id) s.entries) → IsOk r) → KeepsOpened key opened (map entry_of s.entries) (map entry_of n.entries)
+pub kept_put : {A E : Type 0} (key : KeyDoc) (opened : List ℕ) (v : Opened) (s n : LruCache (List ℕ) Opened)
+    (r : Result A E) → s.cap ≡ capacity
+    → v.material ≡ key.material → v.key ≡ opened → OnOk r (n ≡ lru_cache (put_entries bytes_eq s key.id v) s.cap)
+    → OnErr r (n ≡ s)
+    → (IsSome (lookup (bytes_eq key.id) s.entries) → IsOk r)
+    → KeepsOpened key opened (map entry_of s.entries) (map entry_of n.entries)
 kept_put key opened v s n (Ok x) full m k ok err sure =
     inl
     (ap (λ (c : LruCache (List ℕ) Opened). map entry_of c.entries) ok
-    ∙ put_by key.id v s (lookup_entry (bytes_eq key.id) s.entries) (lookup (bytes_eq key.id) s.entries) full refl (found_entry key.id s.entries)
+    ∙ put_by key.id v s (lookup_entry (bytes_eq key.id) s.entries) (lookup (bytes_eq key.id) s.entries) full refl
+    (found_entry key.id s.entries)
     ∙ ap (λ (a : List ℕ). kept_first (record { id = key.id; material = a; key = v.key }) (map entry_of s.entries)) m
-    ∙ ap (λ (a : List ℕ). kept_first (record { id = key.id; material = key.material; key = a }) (map entry_of s.entries)) k)
+    ∙ ap (λ (a : List ℕ). kept_first (record { id = key.id; material = key.material; key = a })
+    (map entry_of s.entries)) k)
 kept_put key opened v s n (Err x) full m k ok err sure =
     inr (
       kept_found key.id s.entries
-          ∙ none_there (lookup_entry (bytes_eq key.id) s.entries) key.id (lookup (bytes_eq key.id) s.entries) (found_entry key.id s.entries) (λ some. absurd (false≢true (sure some))),
+          ∙ none_there (lookup_entry (bytes_eq key.id) s.entries) key.id (lookup (bytes_eq key.id) s.entries)
+          (found_entry key.id s.entries) (λ some. absurd (false≢true (sure some))),
       ap (λ (c : LruCache (List ℕ) Opened). map entry_of c.entries) err,
     )
 
@@ -155,4 +188,5 @@ some_if_true false o k e = absurd (false≢true (ap is_some e))
 pub unwrapped_long : (master material key : List ℕ) → Unwraps master material (Ok key) → length material ≡ 160
 unfolding unwrapped
 unwrapped_long master material key u =
-    eqb-true (length material) 160 (some_if_true (length material == 160) (key_of_plain (opened_message master [] material)) key u.opened)
+    eqb-true (length material) 160 (some_if_true (length material == 160)
+    (key_of_plain (opened_message master [] material)) key u.opened)

@@ -1,5 +1,7 @@
 -- The number of a key by its id and by its names, in a list that grows.
-use Rattle.std.proofs.Common.{◌≡◌, ◌∙◌, ℕ, zero, suc, ◌+◌, Bool, true, false, cond, not, ◌||◌, ◌&&◌, List, [], ◌∷◌, ◌++◌, length, Option, Some, None, Vec, Global, HashMap, bytes_eq, refl, sym, ap, subst, arith, length-append}
+use Rattle.std.proofs.Common.{◌≡◌, ◌∙◌, ℕ, zero, suc, ◌+◌, Bool, true, false, cond, not, ◌||◌, ◌&&◌, List, [], ◌∷◌}
+use Rattle.std.proofs.Common.{◌++◌, length, Option, Some, None, Vec, Global, HashMap, bytes_eq, refl, sym, ap, subst}
+use Rattle.std.proofs.Common.{arith, length-append}
 use Rattle.std.proofs.lemmas.Bool.{false≢true}
 use Rattle.std.proofs.lemmas.List.{append_assoc}
 use Rattle.std.specs.Cmp.Lexicographic.{bytes_decides, nat_list_eq_equiv}
@@ -14,35 +16,43 @@ abbrev or_new : Option ℕ → Bool → ℕ → Option ℕ
 or_new (Some n) test m = Some n
 or_new None test m = cond test (Some m) None
 
-or_new_if : (test : Bool) (n : ℕ) (o : Option ℕ) (new : Bool) (m k : ℕ) → m ≡ k → cond test (Some n) (or_new o new m) ≡ or_new (cond test (Some n) o) new k
+or_new_if : (test : Bool) (n : ℕ) (o : Option ℕ) (new : Bool) (m k : ℕ) → m ≡ k
+    → cond test (Some n) (or_new o new m) ≡ or_new (cond test (Some n) o) new k
 or_new_if true n o new m k e = refl
 or_new_if false n o new m k e = ap (or_new o new) e
 
 place_behind : (n : ℕ) (test : KeyDoc → Bool) (ks : List KeyDoc) (k : KeyDoc)
     → place_from n test (ks ++ k ∷ []) ≡ or_new (place_from n test ks) (test k) (n + length ks)
-place_behind n test [] k = let e : n ≡ n + length {A = KeyDoc} [] = omega arith in ap (λ (m : ℕ). cond (test k) (Some m) None) e
+place_behind n test [] k = let e : n ≡ n + length {A = KeyDoc} [] =
+    omega arith in ap (λ (m : ℕ). cond (test k) (Some m) None) e
 place_behind n test (d ∷ ks) k =
     let e : n + 1 + length ks ≡ n + length (d ∷ ks) = omega arith in
     ap (λ (o : Option ℕ). cond (test d) (Some n) o) (place_behind (n + 1) test ks k)
     ∙ or_new_if (test d) n (place_from (n + 1) test ks) (test k) (n + 1 + length ks) (n + length (d ∷ ks)) e
 
-none_first : (b : Bool) (d : KeyDoc) (n : ℕ) (o : Option KeyDoc) (p : Option ℕ) → is_some (cond b (Some d) o) ≡ false → (is_some o ≡ false → p ≡ None) → cond b (Some n) p ≡ None
+none_first : (b : Bool) (d : KeyDoc) (n : ℕ) (o : Option KeyDoc) (p : Option ℕ) → is_some (cond b (Some d) o) ≡ false
+    → (is_some o ≡ false → p ≡ None) → cond b (Some n) p ≡ None
 none_first true d n o p e h = absurd (false≢true (sym e))
 none_first false d n o p e h = h e
 
 -- where no key passes, none has a number
-no_place : (n : ℕ) (test : KeyDoc → Bool) (ks : List KeyDoc) → is_some (first_key test ks) ≡ false → place_from n test ks ≡ None
+no_place : (n : ℕ) (test : KeyDoc → Bool) (ks : List KeyDoc) → is_some (first_key test ks) ≡ false
+    → place_from n test ks ≡ None
 no_place n test [] e = refl
-no_place n test (d ∷ ks) e = none_first (test d) d n (first_key test ks) (place_from (n + 1) test ks) e (no_place (n + 1) test ks)
+no_place n test (d ∷ ks) e = none_first (test d) d n (first_key test ks) (place_from (n + 1) test ks) e
+    (no_place (n + 1) test ks)
 
 at_test : (b : Bool) (o : Option ℕ) (n : ℕ) → (b ≡ true → o ≡ None) → cond b (Some n) o ≡ or_new o b n
-at_test true o n h = ap (λ (x : Option ℕ). cond true (Some n) x) (h refl) ∙ sym (ap (λ (x : Option ℕ). or_new x true n) (h refl))
+at_test true o n h = ap (λ (x : Option ℕ). cond true (Some n) x) (h refl)
+    ∙ sym (ap (λ (x : Option ℕ). or_new x true n) (h refl))
 at_test false None n h = refl
 at_test false (Some m) n h = refl
 
 -- the numbers of keys that pass a test, with one more key of which it isn't told before
-added : (test : KeyDoc → Bool) (ks : List KeyDoc) (k : KeyDoc) (number : ℕ) (old : Option ℕ) → old ≡ place_from 0 test ks
-    → (test k ≡ true → place_from 0 test ks ≡ None) → number ≡ length ks → cond (test k) (Some number) old ≡ place_from 0 test (ks ++ k ∷ [])
+added : (test : KeyDoc → Bool) (ks : List KeyDoc) (k : KeyDoc) (number : ℕ) (old : Option ℕ)
+    → old ≡ place_from 0 test ks
+    → (test k ≡ true → place_from 0 test ks ≡ None) → number ≡ length ks
+    → cond (test k) (Some number) old ≡ place_from 0 test (ks ++ k ∷ [])
 added test ks k number old known free count =
     let size : number ≡ 0 + length ks = omega (arith, count) in
     ap (λ (o : Option ℕ). cond (test k) (Some number) o) known
@@ -53,11 +63,13 @@ added test ks k number old known free count =
 -- the numbers by id, with one more key of a new id
 pub id_added : {S : Type 0} (ks : List KeyDoc) (k : KeyDoc) (old new : HashMap (List ℕ) ℕ S) (number : ℕ)
     → ((id : List ℕ) → number_of_id new id ≡ cond (bytes_eq k.id id) (Some number) (number_of_id old id))
-    → ((id : List ℕ) → number_of_id old id ≡ place_from 0 (has_id id) ks) → is_id_known ks k.id ≡ false → number ≡ length ks
+    → ((id : List ℕ) → number_of_id old id ≡ place_from 0 (has_id id) ks) → is_id_known ks k.id ≡ false
+    → number ≡ length ks
     → (id : List ℕ) → number_of_id new id ≡ place_from 0 (has_id id) (ks ++ k ∷ [])
 id_added ks k old new number put known free count id =
     put id ∙ added (has_id id) ks k number (number_of_id old id) (known id)
-    (λ same. subst (λ q. place_from 0 (has_id q) ks ≡ None) ((bytes_decides k.id id).0 same) (no_place 0 (has_id k.id) ks free)) count
+    (λ same. subst (λ q. place_from 0 (has_id q) ks ≡ None) ((bytes_decides k.id id).0 same)
+    (no_place 0 (has_id k.id) ks free)) count
 
 -- names that are new are known of no key before
 not_known : (a b c : Bool) → (not (a || b) && c) ≡ true → (b ≡ false) × (c ≡ true)
@@ -65,11 +77,13 @@ not_known true b c e = absurd (false≢true e)
 not_known false true c e = absurd (false≢true e)
 not_known false false c e = (refl, e)
 
-among_first : (same : Bool) (rest : Bool) (P : Type 0) → (same || rest) ≡ true → (same ≡ true → P) → (rest ≡ true → P) → P
+among_first : (same : Bool) (rest : Bool) (P : Type 0) → (same || rest) ≡ true → (same ≡ true → P) → (rest ≡ true → P)
+    → P
 among_first true rest P e h t = h refl
 among_first false rest P e h t = t e
 
-new_unknown : (known : List ℕ → Bool) (before names : List (List ℕ)) → are_new known before names ≡ true → (name : List ℕ) → is_among name names ≡ true
+new_unknown : (known : List ℕ → Bool) (before names : List (List ℕ)) → are_new known before names ≡ true
+    → (name : List ℕ) → is_among name names ≡ true
     → known name ≡ false
 new_unknown known before [] new name there = absurd (false≢true there)
 new_unknown known before (x ∷ names) new name there =
@@ -81,31 +95,39 @@ new_unknown known before (x ∷ names) new name there =
 -- the numbers by name, with one more key of new names
 pub names_added : {S : Type 0} (ks : List KeyDoc) (k : KeyDoc) (old new : HashMap (Vec ℕ Global) ℕ S) (number : ℕ)
     → ((name : List ℕ) → number_of_name new name ≡ cond (is_among name k.names) (Some number) (number_of_name old name))
-    → ((name : List ℕ) → number_of_name old name ≡ place_from 0 (has_name name) ks) → are_new (is_name_known ks) [] k.names ≡ true → number ≡ length ks
+    → ((name : List ℕ) → number_of_name old name ≡ place_from 0 (has_name name) ks)
+    → are_new (is_name_known ks) [] k.names ≡ true → number ≡ length ks
     → (name : List ℕ) → number_of_name new name ≡ place_from 0 (has_name name) (ks ++ k ∷ [])
 names_added ks k old new number put known free count name =
     put name ∙ added (has_name name) ks k number (number_of_name old name) (known name)
     (λ there. no_place 0 (has_name name) ks (new_unknown (is_name_known ks) [] k.names free name there)) count
 
 -- one more name gets a number
-if_more : (same rest : Bool) (number : ℕ) (o : Option ℕ) → cond rest (Some number) (cond same (Some number) o) ≡ cond (same || rest) (Some number) o
+if_more : (same rest : Bool) (number : ℕ) (o : Option ℕ)
+    → cond rest (Some number) (cond same (Some number) o) ≡ cond (same || rest) (Some number) o
 if_more true true number o = refl
 if_more true false number o = refl
 if_more false true number o = refl
 if_more false false number o = refl
 
-pub put_next : {S : Type 0} (names rest all : List (List ℕ)) (name : List ℕ) (start old new : HashMap (Vec ℕ Global) ℕ S) (number : ℕ) → names ≡ name ∷ rest
-    → ((other : List ℕ) → number_of_name new other ≡ cond (bytes_eq name other) (Some number) (number_of_name old other))
-    → ((other : List ℕ) → cond (is_among other names) (Some number) (number_of_name old other) ≡ cond (is_among other all) (Some number) (number_of_name start other))
-    → (other : List ℕ) → cond (is_among other rest) (Some number) (number_of_name new other) ≡ cond (is_among other all) (Some number) (number_of_name start other)
+pub put_next : {S : Type 0} (names rest all : List (List ℕ)) (name : List ℕ)
+    (start old new : HashMap (Vec ℕ Global) ℕ S) (number : ℕ) → names ≡ name ∷ rest
+    → ((other : List ℕ) → number_of_name new other
+    ≡ cond (bytes_eq name other) (Some number) (number_of_name old other))
+    → ((other : List ℕ) → cond (is_among other names) (Some number) (number_of_name old other)
+    ≡ cond (is_among other all) (Some number) (number_of_name start other))
+    → (other : List ℕ) → cond (is_among other rest) (Some number) (number_of_name new other)
+    ≡ cond (is_among other all) (Some number) (number_of_name start other)
 put_next names rest all name start old new number step put before other =
     ap (λ (o : Option ℕ). cond (is_among other rest) (Some number) o) (put other)
-    ∙ ap (λ (b : Bool). cond (is_among other rest) (Some number) (cond b (Some number) (number_of_name old other))) (nat_list_eq_equiv.symm name other)
+    ∙ ap (λ (b : Bool). cond (is_among other rest) (Some number) (cond b (Some number) (number_of_name old other)))
+    (nat_list_eq_equiv.symm name other)
     ∙ if_more (bytes_eq other name) (is_among other rest) number (number_of_name old other)
     ∙ ap (λ (ns : List (List ℕ)). cond (is_among other ns) (Some number) (number_of_name old other)) (sym step)
     ∙ before other
 
-seam : (front : List KeyDoc) (c : KeyDoc) (cs : List KeyDoc) (n : ℕ) → n ≡ length front → slice_get (front ++ c ∷ cs) n ≡ Some c
+seam : (front : List KeyDoc) (c : KeyDoc) (cs : List KeyDoc) (n : ℕ) → n ≡ length front
+    → slice_get (front ++ c ∷ cs) n ≡ Some c
 seam [] c cs zero e = refl
 seam [] c cs (suc n) e = absurd (omega (arith, e))
 seam (d ∷ front) c cs zero e = absurd (omega (arith, e))
@@ -121,19 +143,22 @@ found_by : (b : Bool) (all : List KeyDoc) (d : KeyDoc) (n : ℕ) (first : Option
 found_by true all d n first number here others = here
 found_by false all d n first number here others = others
 
-found_behind : (front cs : List KeyDoc) (test : KeyDoc → Bool) → Found (front ++ cs) (first_key test cs) (place_from (length front) test cs)
+found_behind : (front cs : List KeyDoc) (test : KeyDoc → Bool)
+    → Found (front ++ cs) (first_key test cs) (place_from (length front) test cs)
 found_behind front [] test = refl
 found_behind front (d ∷ cs) test =
     let all : (front ++ d ∷ []) ++ cs ≡ front ++ d ∷ cs = append_assoc front (d ∷ []) cs in
     let next : length (front ++ d ∷ []) ≡ length front + 1 = omega (arith, length-append front (d ∷ [])) in
     let others : Found (front ++ d ∷ cs) (first_key test cs) (place_from (length front + 1) test cs)
     = subst (λ (ds : List KeyDoc). Found ds (first_key test cs) (place_from (length front + 1) test cs)) all
-    (subst (λ (n : ℕ). Found ((front ++ d ∷ []) ++ cs) (first_key test cs) (place_from n test cs)) next (found_behind (front ++ d ∷ []) cs test)) in
+    (subst (λ (n : ℕ). Found ((front ++ d ∷ []) ++ cs) (first_key test cs) (place_from n test cs)) next
+    (found_behind (front ++ d ∷ []) cs test)) in
     found_by (test d) (front ++ d ∷ cs) d (length front) (first_key test cs) (place_from (length front + 1) test cs)
     (seam front d cs (length front) refl) others
 
 -- the key of the number that a name has
-pub found_at : (cs : List KeyDoc) (test : KeyDoc → Bool) (n : ℕ) → place_from 0 test cs ≡ Some n → slice_get cs n ≡ first_key test cs
+pub found_at : (cs : List KeyDoc) (test : KeyDoc → Bool) (n : ℕ) → place_from 0 test cs ≡ Some n
+    → slice_get cs n ≡ first_key test cs
 found_at cs test n e = subst (Found cs (first_key test cs)) e (found_behind [] cs test)
 
 -- no key has a name without a number

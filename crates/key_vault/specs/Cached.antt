@@ -1,5 +1,6 @@
 -- Opened keys that are kept, the most recently used first.
-use Rattle.std.specs.Prelude.{◌≡◌, ℕ, ◌-◌, ◌<◌, ◌≤◌, Bool, true, false, List, [], ◌∷◌, length, take, map, Option, Some, None, Result, Ok, Err, refl, bytes_eq, Contains, if◌then◌else◌, ◌⊎◌}
+use Rattle.std.specs.Prelude.{◌≡◌, ℕ, ◌-◌, ◌<◌, ◌≤◌, Bool, true, false, List, [], ◌∷◌, length, take, map, Option, Some}
+use Rattle.std.specs.Prelude.{None, Result, Ok, Err, refl, bytes_eq, Contains, if◌then◌else◌, ◌⊎◌}
 use Rattle.std.specs.Coded.{Coded, code_by, coded×, coded_list, coded_ℕ}
 use Rattle.data_key.specs.declared.key_doc.KeyDoc.{KeyDoc}
 use Rattle.local_kms.specs.Wrapped.{Unwraps}
@@ -18,7 +19,8 @@ pub record Cached : Type 0 where
   pub entries : List Entry
 
 abbrev pub coded_entry : Coded Entry
-coded_entry = code_by (List ℕ × (List ℕ × List ℕ)) (coded× (coded_list coded_ℕ) (coded× (coded_list coded_ℕ) (coded_list coded_ℕ)))
+coded_entry = code_by (List ℕ × (List ℕ × List ℕ))
+    (coded× (coded_list coded_ℕ) (coded× (coded_list coded_ℕ) (coded_list coded_ℕ)))
     (λ e. (e.id, (e.material, e.key))) (λ p. record { id = p.0; material = p.1.0; key = p.1.1 }) (λ _. refl)
 
 abbrev pub coded_cached : Coded Cached
@@ -47,7 +49,8 @@ abbrev pub is_kept : List ℕ → List Entry → Bool
 is_kept id [] = false
 is_kept id (e ∷ es) = if bytes_eq id e.id then true else is_kept id es
 
--- the entry of a key that was opened goes first, and the others keep their order; a new one in a full list drops the last
+-- the entry of a key that was opened goes first, and the others keep their order; a new one in a full list drops the
+-- last
 abbrev pub kept_first : Entry → List Entry → List Entry
 kept_first e es = e ∷ (if is_kept e.id es then without e.id es else take (capacity - 1) es)
 

@@ -1,5 +1,6 @@
 -- MongoDB Client Side Encryption, "Key vault": the keys of a file of key documents, one after another
-use Rattle.std.specs.Prelude.{◌≡◌, ◌≤◌, ℕ, zero, suc, ◌+◌, ◌++◌, Bool, true, not, ◌||◌, ◌&&◌, nat_lt, List, [], ◌∷◌, length, drop, Option, Some, None, is_some, Result, Ok, Err, if◌then◌else◌}
+use Rattle.std.specs.Prelude.{◌≡◌, ◌≤◌, ℕ, zero, suc, ◌+◌, ◌++◌, Bool, true, not, ◌||◌, ◌&&◌, nat_lt, List, [], ◌∷◌}
+use Rattle.std.specs.Prelude.{length, drop, Option, Some, None, is_some, Result, Ok, Err, if◌then◌else◌}
 use Rattle.bson_tree.specs.Tree.{Items}
 use Rattle.bson_codec.specs.declared.fault.BsonFault.{BsonFault}
 use Rattle.bson_codec.specs.Reading.{front_document}
@@ -74,7 +75,8 @@ in_front before bytes (Ok read) = with_rest before (drop read.1 bytes) (key_behi
 abbrev pub front_key : List KeyDoc → List ℕ → Result (KeyDoc × List ℕ) Faulty
 front_key before bytes = in_front before bytes (front_document bytes)
 
-abbrev pub and_others : (List KeyDoc → List ℕ → Result (List KeyDoc) Faulty) → List KeyDoc → Result (KeyDoc × List ℕ) Faulty → Result (List KeyDoc) Faulty
+abbrev pub and_others : (List KeyDoc → List ℕ → Result (List KeyDoc) Faulty) → List KeyDoc
+    → Result (KeyDoc × List ℕ) Faulty → Result (List KeyDoc) Faulty
 and_others read before (Err fault) = Err fault
 and_others read before (Ok first) = read (before ++ first.0 ∷ []) first.1
 

@@ -98,7 +98,8 @@ impl KeyCache {
 
 /// The data key, where it is kept under the key's id with its material.
 fn found(kept: &LruCache<[u8; 16], Opened>, key: &KeyDoc) -> Option<DataKey>
-    ensures found { IfSome result (λ k. lookup (bytes_eq key.now.id) kept.now.entries ≡ Some (record { material = key.now.material; key = k })) }
+    ensures found { IfSome result (λ k. lookup (bytes_eq key.now.id) kept.now.entries
+        ≡ Some (record { material = key.now.material; key = k })) }
 {
     match kept.peek(&key.id) {
         Some(opened) => {

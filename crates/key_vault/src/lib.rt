@@ -1,4 +1,5 @@
-//! Key vaults: the keys of a file, found by id and by name, and a cache of the keys that were opened (MongoDB Client Side
+//! Key vaults: the keys of a file, found by id and by name, and a cache of the keys that were opened (MongoDB Client
+//! Side
 //! Encryption, "Key vault").
 //!
 //! ```rust

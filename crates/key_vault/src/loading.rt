@@ -2,7 +2,8 @@
 
 ghost use Rattle.std.specs.Prelude.{◌≡◌, ◌<◌, ◌≤◌, ◌+◌, ◌++◌, ◌∷◌, [], ◌^◌, false, true, length, Ok, IfOk, MatchResult};
 ghost use Rattle.key_vault.specs.declared.faults.VaultFault.TheVariants as errors;
-ghost use Rattle.key_vault.specs.Loading.{Adds, are_new, front_key, is_id_known, is_name_known, judged, key_behind, kind_of, Reads};
+ghost use Rattle.key_vault.specs.Loading.{Adds, are_new, front_key, is_id_known, is_name_known, judged, key_behind};
+ghost use Rattle.key_vault.specs.Loading.{kind_of, Reads};
 
 use crate::faults::{VaultFault, VaultKind};
 use crate::numbers::{put_id, put_names};

@@ -29,7 +29,8 @@ pub(crate) fn put_id(
     id: [u8; 16],
     number: u32,
 ) -> Result<(), Memory>
-    ensures put { OnOk result ((other : List ℕ) → number_of_id numbers.new other ≡ (if bytes_eq id other then Some number else number_of_id numbers.old other)) }
+    ensures put { OnOk result ((other : List ℕ) → number_of_id numbers.new other
+        ≡ (if bytes_eq id other then Some number else number_of_id numbers.old other)) }
 {
     match numbers.insert(id, number) {
         Ok(_) => {
@@ -48,7 +49,8 @@ fn put_name(
     name: &[u8],
     number: u32,
 ) -> Result<(), Memory>
-    ensures put { OnOk result ((other : List ℕ) → number_of_name numbers.new other ≡ (if bytes_eq name.now other then Some number else number_of_name numbers.old other)) }
+    ensures put { OnOk result ((other : List ℕ) → number_of_name numbers.new other
+        ≡ (if bytes_eq name.now other then Some number else number_of_name numbers.old other)) }
 {
     let Ok(copy) = Vec::from_slice(alloc, name) else {
         return Err(Memory);
@@ -70,7 +72,8 @@ pub(crate) fn put_names(
     names: &[Bytes],
     number: u32,
 ) -> Result<(), Memory>
-    ensures put { OnOk result ((other : List ℕ) → number_of_name numbers.new other ≡ (if is_among other names.now then Some number else number_of_name numbers.old other)) }
+    ensures put { OnOk result ((other : List ℕ) → number_of_name numbers.new other
+        ≡ (if is_among other names.now then Some number else number_of_name numbers.old other)) }
 {
     for name in names {
         put_name(alloc, numbers, name.as_slice(), number)?;

@@ -34,7 +34,8 @@ impl Model for Vault {
 }
 
 impl Vault {
-    /// Reads a file of key documents: one after another, nothing between them. `Bad` exactly where a document is faulty;
+    /// Reads a file of key documents: one after another, nothing between them. `Bad` exactly where a document is
+    /// faulty;
     /// they are judged in order.
     pub fn load(alloc: Global, bytes: &[u8]) -> Result<Vault, VaultFault>
         requires { length bytes.now ≤ 67108864 }

@@ -1,5 +1,6 @@
 -- Blocks drawn one after another, and what is made of them.
-use Rattle.std.proofs.Common.{◌≡◌, ◌∙◌, ℕ, zero, suc, ◌+◌, ◌<◌, ◌≤◌, Some, None, Option, Result, Ok, Err, List, [], ◌∷◌, ◌++◌, length, drop, refl, sym, ap, subst, arith, append_assoc, length-append}
+use Rattle.std.proofs.Common.{◌≡◌, ◌∙◌, ℕ, zero, suc, ◌+◌, ◌<◌, ◌≤◌, Some, None, Option, Result, Ok, Err, List, [], ◌∷◌}
+use Rattle.std.proofs.Common.{◌++◌, length, drop, refl, sym, ap, subst, arith, append_assoc, length-append}
 use Rattle.std.specs.Prelude.{IfOk, unwrap_or}
 use Rattle.fle_outside.proofs.Drawings.{draws_then}
 use Rattle.fle_outside.specs.Blocks.{Block, AreBlocks, IsBlock, DrawTakes, DrawCause, DrawAssured}
@@ -13,12 +14,14 @@ use Rattle.local_kms.specs.Made.{block_at, two_blocks, six_blocks, seeds, seeds_
 some_is : (a b : List Block) → Some a ≡ Some b → a ≡ b
 some_is a b e = ap (λ (o : Option (List Block)). unwrap_or o []) e
 
-taken : (before after : Option (List Block)) (block : Block) → DrawTakes before after (Ok block) → (all : List Block) → before ≡ Some all
+taken : (before after : Option (List Block)) (block : Block) → DrawTakes before after (Ok block) → (all : List Block)
+    → before ≡ Some all
     → (rest : List Block) × (all ≡ (block ∷ []) ++ rest) × (after ≡ Some rest)
 taken None after block t all is = absurd cc
 taken (Some blocks) after block t all is = (t.0, sym (some_is blocks all is) ∙ t.1, t.2)
 
-kept : (before after : Option (List Block)) (fault : Failed) → DrawTakes before after (Err fault) → (all : List Block) → before ≡ Some all → after ≡ Some all
+kept : (before after : Option (List Block)) (fault : Failed) → DrawTakes before after (Err fault) → (all : List Block)
+    → before ≡ Some all → after ≡ Some all
 kept None after fault t all is = absurd cc
 kept (Some blocks) after fault t all is = t ∙ is
 
@@ -54,7 +57,8 @@ one_made before after (Err fault) takes cause sure is = record {
 }
 
 -- a draw that fails after others
-pub short_then : {A : Type 0} (before mid after : EntropySeen) (m n k : ℕ) (make : List Block → A) (made : A) → Made before mid m make made
+pub short_then : {A : Type 0} (before mid after : EntropySeen) (m n k : ℕ) (make : List Block → A) (made : A)
+    → Made before mid m make made
     → FellShort mid after n → m + n ≤ k → FellShort before after k
 short_then before mid after m n k make made first short room = record {
   blocks = first.blocks ++ short.blocks;
@@ -65,7 +69,12 @@ short_then before mid after m n k make made first short room = record {
 
 -- fewer blocks than these are fewer than more
 pub short_more : (before after : EntropySeen) (n k : ℕ) → FellShort before after n → n ≤ k → FellShort before after k
-short_more before after n k short room = record { blocks = short.blocks; fewer = omega (arith, room, short.fewer); draws = short.draws; rose = short.rose }
+short_more before after n k short room = record {
+  blocks = short.blocks;
+  fewer = omega (arith, room, short.fewer);
+  draws = short.draws;
+  rose = short.rose;
+}
 
 one_of : (bs : List Block) → length bs ≡ 1 → bs ≡ block_at 0 bs ∷ []
 one_of [] e = absurd (omega (arith, e))
@@ -77,10 +86,12 @@ two_of [] e = absurd (omega (arith, e))
 two_of (x ∷ bs) e = ap (λ (ys : List Block). x ∷ ys) (one_of bs (omega (arith, e)))
 
 two_at : (xs ys : List Block) → length xs ≡ 1 → length ys ≡ 1 → block_at 0 xs ++ block_at 0 ys ≡ two_blocks 0 (xs ++ ys)
-two_at xs ys e f = subst (λ (zs : List Block). block_at 0 xs ++ block_at 0 ys ≡ two_blocks 0 (zs ++ ys)) (sym (one_of xs e)) refl
+two_at xs ys e f = subst (λ (zs : List Block). block_at 0 xs ++ block_at 0 ys ≡ two_blocks 0 (zs ++ ys))
+    (sym (one_of xs e)) refl
 
 -- two blocks
-pub two_made : (a b c : EntropySeen) (x y : Block) (part : List ℕ) → Made a b 1 (block_at 0) x → Made b c 1 (block_at 0) y
+pub two_made : (a b c : EntropySeen) (x y : Block) (part : List ℕ) → Made a b 1 (block_at 0) x
+    → Made b c 1 (block_at 0) y
     → part ≡ x ++ y → Made a c 2 (two_blocks 0) part
 two_made a b c x y part first second is = record {
   blocks = first.blocks ++ second.blocks;
@@ -94,18 +105,28 @@ two_made a b c x y part first second is = record {
 six_at : (xs ys zs : List Block) → length xs ≡ 2 → length ys ≡ 2
     → two_blocks 0 xs ++ (two_blocks 0 ys ++ two_blocks 0 zs) ≡ six_blocks 0 (xs ++ (ys ++ zs))
 six_at xs ys zs e f =
-    subst (λ (us : List Block). two_blocks 0 xs ++ (two_blocks 0 ys ++ two_blocks 0 zs) ≡ six_blocks 0 (us ++ (ys ++ zs))) (sym (two_of xs e))
-    (subst (λ (us : List Block). two_blocks 0 xs ++ (two_blocks 0 ys ++ two_blocks 0 zs) ≡ six_blocks 0 (block_at 0 xs ∷ (block_at 1 xs ∷ (us ++ zs)))) (sym (two_of ys f)) refl)
+    subst (λ (us : List Block). two_blocks 0 xs ++ (two_blocks 0 ys ++ two_blocks 0 zs)
+    ≡ six_blocks 0 (us ++ (ys ++ zs))) (sym (two_of xs e))
+    (subst (λ (us : List Block). two_blocks 0 xs ++ (two_blocks 0 ys ++ two_blocks 0 zs)
+    ≡ six_blocks 0 (block_at 0 xs ∷ (block_at 1 xs ∷ (us ++ zs)))) (sym (two_of ys f)) refl)
 
 -- six blocks
 pub six_made : (a b c d : EntropySeen) (p q r key : List ℕ) → Made a b 2 (two_blocks 0) p → Made b c 2 (two_blocks 0) q
     → Made c d 2 (two_blocks 0) r → key ≡ p ++ (q ++ r) → Made a d 6 (six_blocks 0) key
 six_made a b c d p q r key first second third is = record {
   blocks = first.blocks ++ (second.blocks ++ third.blocks);
-  number = omega (arith, first.number, second.number, third.number, length-append first.blocks (second.blocks ++ third.blocks), length-append second.blocks third.blocks);
+  number = omega (
+    arith,
+    first.number,
+    second.number,
+    third.number,
+    length-append first.blocks (second.blocks ++ third.blocks),
+    length-append second.blocks third.blocks,
+  );
   draws = draws_then first.draws (draws_then second.draws third.draws);
   is =
-      is ∙ ap (λ (z : List ℕ). z ++ (q ++ r)) first.is ∙ ap (λ (z : List ℕ). two_blocks 0 first.blocks ++ (z ++ r)) second.is
+      is ∙ ap (λ (z : List ℕ). z ++ (q ++ r)) first.is
+      ∙ ap (λ (z : List ℕ). two_blocks 0 first.blocks ++ (z ++ r)) second.is
       ∙ ap (λ (z : List ℕ). two_blocks 0 first.blocks ++ (two_blocks 0 second.blocks ++ z)) third.is
       ∙ six_at first.blocks second.blocks third.blocks first.number second.number;
 }
@@ -122,18 +143,29 @@ six_of (a ∷ (b ∷ (c ∷ (d ∷ bs)))) e =
 eight_at : (xs ys zs : List Block) → length xs ≡ 1 → length ys ≡ 6
     → seeds_of (block_at 0 xs) (six_blocks 0 ys) (block_at 0 zs) ≡ seeds (xs ++ (ys ++ zs))
 eight_at xs ys zs e f =
-    subst (λ (us : List Block). seeds_of (block_at 0 xs) (six_blocks 0 ys) (block_at 0 zs) ≡ seeds (us ++ (ys ++ zs))) (sym (one_of xs e))
-    (subst (λ (us : List Block). seeds_of (block_at 0 xs) (six_blocks 0 ys) (block_at 0 zs) ≡ seeds (block_at 0 xs ∷ (us ++ zs))) (sym (six_of ys f)) refl)
+    subst (λ (us : List Block). seeds_of (block_at 0 xs) (six_blocks 0 ys) (block_at 0 zs) ≡ seeds (us ++ (ys ++ zs)))
+    (sym (one_of xs e))
+    (subst (λ (us : List Block). seeds_of (block_at 0 xs) (six_blocks 0 ys) (block_at 0 zs)
+    ≡ seeds (block_at 0 xs ∷ (us ++ zs))) (sym (six_of ys f)) refl)
 
 -- eight blocks, the first and the last by themselves
-pub eight_made : (a b c d : EntropySeen) (x : Block) (key : List ℕ) (y : Block) → Made a b 1 (block_at 0) x → Made b c 6 (six_blocks 0) key
+pub eight_made : (a b c d : EntropySeen) (x : Block) (key : List ℕ) (y : Block) → Made a b 1 (block_at 0) x
+    → Made b c 6 (six_blocks 0) key
     → Made c d 1 (block_at 0) y → Made a d 8 seeds (record { id = x; key = key; iv = y })
 eight_made a b c d x key y first middle last = record {
   blocks = first.blocks ++ (middle.blocks ++ last.blocks);
-  number = omega (arith, first.number, middle.number, last.number, length-append first.blocks (middle.blocks ++ last.blocks), length-append middle.blocks last.blocks);
+  number = omega (
+    arith,
+    first.number,
+    middle.number,
+    last.number,
+    length-append first.blocks (middle.blocks ++ last.blocks),
+    length-append middle.blocks last.blocks,
+  );
   draws = draws_then first.draws (draws_then middle.draws last.draws);
   is =
-      ap (λ (z : List ℕ). seeds_of z key y) first.is ∙ ap (λ (z : List ℕ). seeds_of (block_at 0 first.blocks) z y) middle.is
+      ap (λ (z : List ℕ). seeds_of z key y) first.is
+      ∙ ap (λ (z : List ℕ). seeds_of (block_at 0 first.blocks) z y) middle.is
       ∙ ap (λ (z : List ℕ). seeds_of (block_at 0 first.blocks) (six_blocks 0 middle.blocks) z) last.is
       ∙ eight_at first.blocks middle.blocks last.blocks first.number middle.number;
 }

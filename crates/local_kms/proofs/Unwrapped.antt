@@ -1,5 +1,6 @@
 -- What opening says of material of 160 bytes.
-use Rattle.std.proofs.Common.{◌≡◌, ◌≢◌, ◌∙◌, ◌↔◌, ℕ, ◌<◌, ◌≤◌, ◌==◌, Bool, true, false, cond, Some, None, Option, Result, Ok, Err, List, [], ◌∷◌, length, take, refl, sym, ap, subst, arith, inl, inr}
+use Rattle.std.proofs.Common.{◌≡◌, ◌≢◌, ◌∙◌, ◌↔◌, ℕ, ◌<◌, ◌≤◌, ◌==◌, Bool, true, false, cond, Some, None, Option}
+use Rattle.std.proofs.Common.{Result, Ok, Err, List, [], ◌∷◌, length, take, refl, sym, ap, subst, arith, inl, inr}
 use Rattle.std.specs.Prelude.{is_ok, is_some, unwrap_or}
 use Rattle.std.proofs.lemmas.Bool.{false≢true, ne_eqb}
 use Rattle.fle_aead.specs.Sealed.{IsSealedLength, IsWronglyTagged, IsWronglyPadded, opened_message}
@@ -13,7 +14,8 @@ use Rattle.local_kms.specs.Wrapped.{Unwraps, unwrapped, key_of_plain, IsWronglyL
 -- what opening answered
 pub record Opened (master material : List ℕ) (r : Result ℕ OpenFault) : Type 0 where
   pub short : (r ≡ Err opening.Short) ↔ (IsSealedLength (length material) → ⊥)
-  pub tag : (computed found : List ℕ) → (r ≡ Err (opening.Tag computed found)) ↔ IsWronglyTagged master [] material computed found
+  pub tag : (computed found : List ℕ) → (r ≡ Err (opening.Tag computed found))
+      ↔ IsWronglyTagged master [] material computed found
   pub padding : (r ≡ Err opening.Padding) ↔ IsWronglyPadded master [] material
 
 abbrev unfault : Result (List ℕ) UnwrapFault → Result ℕ OpenFault
@@ -35,18 +37,22 @@ none_some : (o : Option (List ℕ)) (p : List ℕ) → o ≡ None → o ≡ Some
 none_some o p e f = false≢true (ap is_some (sym e ∙ f))
 
 -- material of 160 bytes opens to what its message is
-unwrapped_is : (master material : List ℕ) → length material ≡ 160 → unwrapped master material ≡ key_of_plain (opened_message master [] material)
+unwrapped_is : (master material : List ℕ) → length material ≡ 160
+    → unwrapped master material ≡ key_of_plain (opened_message master [] material)
 unfolding unwrapped
-unwrapped_is master material long = ap (λ (n : ℕ). cond (n == 160) (key_of_plain (opened_message master [] material)) None) long
+unwrapped_is master material long = ap (λ (n : ℕ). cond (n == 160)
+    (key_of_plain (opened_message master [] material)) None) long
 
 pub wrong_length : (master material : List ℕ) → length material ≢ 160 → unwrapped master material ≡ None
 unfolding unwrapped
-wrong_length master material ne = ap (λ (b : Bool). cond b (key_of_plain (opened_message master [] material)) None) (ne_eqb (length material) 160 ne)
+wrong_length master material ne = ap (λ (b : Bool). cond b (key_of_plain (opened_message master [] material)) None)
+    (ne_eqb (length material) 160 ne)
 
 sealed_length : (n : ℕ) → n ≡ 160 → IsSealedLength n
 sealed_length n e = (7, omega arith, e)
 
-pub told_err : (master material : List ℕ) (fault : OpenFault) → length material ≡ 160 → Opened master material (Err fault)
+pub told_err : (master material : List ℕ) (fault : OpenFault) → length material ≡ 160
+    → Opened master material (Err fault)
     → opened_message master [] material ≡ None → Unwraps master material (Err (fault_seen fault))
 told_err master material fault long o none = record {
   opened = unwrapped_is master material long ∙ ap key_of_plain none;
@@ -77,7 +83,8 @@ ok_is a b e = ap length_told e
 ok_err : {A E : Type 0} (x : A) (e : E) → Ok x ≡ Err e → ⊥
 ok_err x e h = false≢true (sym (ap is_ok h))
 
-same_plain : (master material p q : List ℕ) → opened_message master [] material ≡ Some p → opened_message master [] material ≡ Some q → length p ≡ length q
+same_plain : (master material p q : List ℕ) → opened_message master [] material ≡ Some p
+    → opened_message master [] material ≡ Some q → length p ≡ length q
 same_plain master material p q e f = ap (λ (o : Option (List ℕ)). length (unwrap_or o [])) (sym e ∙ f)
 
 abbrev is_length : Result (List ℕ) UnwrapFault → Bool
@@ -86,11 +93,14 @@ is_length (Err faults.Length) = true
 is_length (Err (faults.Tag computed found)) = false
 is_length (Err faults.Padding) = false
 
-pub told_ok : (master material plain : List ℕ) (n : ℕ) (r : Result (List ℕ) UnwrapFault) → length material ≡ 160 → Opened master material (Ok n)
-    → opened_message master [] material ≡ Some (take n plain) → n ≡ length (take n plain) → IsKeyOf n plain r → Unwraps master material r
+pub told_ok : (master material plain : List ℕ) (n : ℕ) (r : Result (List ℕ) UnwrapFault) → length material ≡ 160
+    → Opened master material (Ok n)
+    → opened_message master [] material ≡ Some (take n plain) → n ≡ length (take n plain) → IsKeyOf n plain r
+    → Unwraps master material r
 told_ok master material plain n (Ok key) long o message size is =
     let whole : length (take n plain) ≡ 96 = sym size ∙ is.0 in
-    let same : Some (take n plain) ≡ Some key = ap (λ (m : ℕ). Some (take m plain)) is.0 ∙ ap (λ (k : List ℕ). Some k) (sym is.1) in
+    let same : Some (take n plain) ≡ Some key = ap (λ (m : ℕ). Some (take m plain)) is.0
+    ∙ ap (λ (k : List ℕ). Some k) (sym is.1) in
     record {
       opened =
           unwrapped_is master material long ∙ ap key_of_plain message

@@ -41,7 +41,12 @@ material_of master iv key = body master iv key ++ tag master [] (body master iv 
 
 -- the key made of these
 abbrev pub key_of : List ℕ → List (List ℕ) → Seeds → KeyDoc
-key_of master names s = record { id = id_of s.id; names = names; material = material_of master s.iv s.key; provider = providers.Local }
+key_of master names s = record {
+  id = id_of s.id;
+  names = names;
+  material = material_of master s.iv s.key;
+  provider = providers.Local;
+}
 
 -- the key made of eight blocks
 abbrev pub key_of_blocks : List ℕ → List (List ℕ) → List Block → KeyDoc

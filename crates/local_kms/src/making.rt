@@ -2,7 +2,8 @@
 
 ghost use Rattle.std.specs.Prelude.{◌≡◌, ◌≢◌, ◌<◌, ◌≤◌, ◌++◌, length, Err, IsOk, IfOk};
 ghost use Rattle.local_kms.specs.Drawn.{Makes};
-ghost use Rattle.local_kms.specs.Made.{block_at, id_of, key_of_blocks, MakesKey, material_of, seeds, six_blocks, two_blocks};
+ghost use Rattle.local_kms.specs.Made.{block_at, id_of, key_of_blocks, MakesKey, material_of, seeds, six_blocks};
+ghost use Rattle.local_kms.specs.Made.{two_blocks};
 
 use crate::master::MasterKey;
 use crate::wrapping::wrap_key;

@@ -22,7 +22,8 @@ const MASTER: [u8; 96] = [
 
 /// Its base64 text, as Python's base64 has it.
 const TEXT: &[u8; 128] =
-    b"AAECAwQFBgcICQoLDA0ODxAREhMUFRYXGBkaGxwdHh8gISIjJCUmJygpKissLS4vMDEyMzQ1Njc4OTo7PD0+P0BBQkNERUZHSElKS0xNTk9QUVJTVFVWV1hZWltcXV5f";
+    b"AAECAwQFBgcICQoLDA0ODxAREhMUFRYXGBkaGxwdHh8gISIjJCUmJygpKissLS4vMDEyMzQ1Njc4OTo7PD0+P0BBQkNERU\
+     ZHSElKS0xNTk9QUVJTVFVWV1hZWltcXV5f";
 
 /// Its id, the UUID 00112233-4455-4677-8899-aabbccddeeff: bytes 6 and 8 of the first block made those of version 4.
 const ID: [u8; 16] = [

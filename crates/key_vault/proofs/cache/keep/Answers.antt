@@ -6,16 +6,24 @@ use Rattle.key_vault.proofs.cache.keep.Goals as goal
 
 pub array_of-material-requires : goal.array_of-material-requires
 array_of-material-requires c =
-    ap length c.as_slice.ensures.same ∙ unwrapped_long c.args.master.now c.args.key.now.material c.args.opened.now c.requires.right
+    ap length c.as_slice.ensures.same ∙ unwrapped_long c.args.master.now c.args.key.now.material c.args.opened.now
+    c.requires.right
 
 pub returns-clause-opened : goal.returns-clause-opened
 returns-clause-opened c =
     let right =
-    subst (λ m. Unwraps c.args.master.now m (Ok c.again.result)) (sym (c.array_of-material.ensures ∙ c.as_slice.ensures.same))
-    (subst (λ k. Unwraps c.args.master.now c.args.key.now.material (Ok k)) (sym c.again.ensures.same) c.requires.right) in
-    after_put c.args.master.now bytes_eq c.args.kept.now c.put.new.self c.args.key.now.id _ c.put.result c.requires.opened right c.put.ensures.entries c.put.ensures.err
+    subst (λ m. Unwraps c.args.master.now m (Ok c.again.result))
+    (sym (c.array_of-material.ensures ∙ c.as_slice.ensures.same))
+    (subst (λ k. Unwraps c.args.master.now c.args.key.now.material (Ok k)) (sym c.again.ensures.same) c.requires.right)
+    in
+    after_put c.args.master.now bytes_eq c.args.kept.now c.put.new.self c.args.key.now.id _ c.put.result
+    c.requires.opened right c.put.ensures.entries c.put.ensures.err
 
 pub returns-clause-kept : goal.returns-clause-kept
 returns-clause-kept c =
-    kept_put c.args.key.now c.args.opened.now (record { material = c.array_of-material.result; key = c.again.result }) c.args.kept.now c.put.new.self c.put.result
-    c.requires.full (c.array_of-material.ensures ∙ c.as_slice.ensures.same) c.again.ensures.same c.put.ensures.entries c.put.ensures.err c.put.ensures.succeeds
+    kept_put c.args.key.now c.args.opened.now (record {
+      material = c.array_of-material.result;
+      key = c.again.result;
+    }) c.args.kept.now c.put.new.self c.put.result
+    c.requires.full (c.array_of-material.ensures ∙ c.as_slice.ensures.same) c.again.ensures.same c.put.ensures.entries
+    c.put.ensures.err c.put.ensures.succeeds

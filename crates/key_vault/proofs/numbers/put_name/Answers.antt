@@ -8,6 +8,8 @@ returns-in-Ok-insert c =
     let named : c.in-Ok.copy.items ≡ c.args.name.now = search rules in
     record {
       put = subst
-          (λ (bs : List ℕ). (other : List ℕ) → number_of_name c.insert.new.self other ≡ cond (bytes_eq bs other) (Some c.args.number) (number_of_name c.args.numbers.now other))
-          named (updates_names c.in-Ok.copy.items c.args.numbers.now c.insert.new.self (Some c.args.number) c.in-Ok-insert.ensures.updates);
+          (λ (bs : List ℕ). (other : List ℕ) → number_of_name c.insert.new.self other
+          ≡ cond (bytes_eq bs other) (Some c.args.number) (number_of_name c.args.numbers.now other))
+          named (updates_names c.in-Ok.copy.items c.args.numbers.now c.insert.new.self
+          (Some c.args.number) c.in-Ok-insert.ensures.updates);
     }

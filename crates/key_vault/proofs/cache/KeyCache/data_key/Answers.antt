@@ -12,9 +12,11 @@ invariant_of-self g c = (
 
 pub returns-in-Some-clause-answer : goal.returns-in-Some-clause-answer
 returns-in-Some-clause-answer g c =
-    rw (sym c.self.view_is) (looked_up c.self.inside.master _ c.self.inside.kept.entries _ c.self.invariant.0 c.in-Some.ensures.found)
+    rw (sym c.self.view_is) (looked_up c.self.inside.master _ c.self.inside.kept.entries _ c.self.invariant.0
+    c.in-Some.ensures.found)
 
 pub returns-in-Some-clause-kept : goal.returns-in-Some-clause-kept
 returns-in-Some-clause-kept g c =
     rw (sym c.self.view_is)
-    (inl (ap (λ s. map entry_of s.entries) c.promote.ensures.entries ∙ promoted_first c.args.key.now.id _ c.self.inside.kept.entries c.in-Some.ensures.found))
+    (inl (ap (λ s. map entry_of s.entries) c.promote.ensures.entries
+    ∙ promoted_first c.args.key.now.id _ c.self.inside.kept.entries c.in-Some.ensures.found))

@@ -6,11 +6,13 @@ use Rattle.key_vault.proofs.vault.Vault.by_name.Goals as goal
 pub returns-in-Some : goal.returns-in-Some
 returns-in-Some c =
     rw (sym c.self.view_is) record {
-      found = c.key_at.ensures ∙ found_at c.self.inside.keys.items (has_name c.args.name.now) c.in-Some.number (sym (c.self.invariant.1 c.args.name.now) ∙ sym c.in-Some.ensures.number);
+      found = c.key_at.ensures ∙ found_at c.self.inside.keys.items (has_name c.args.name.now) c.in-Some.number
+          (sym (c.self.invariant.1 c.args.name.now) ∙ sym c.in-Some.ensures.number);
     }
 
 pub returns-in-None : goal.returns-in-None
 returns-in-None c =
     rw (sym c.self.view_is) record {
-      found = sym (found_none c.self.inside.keys.items (has_name c.args.name.now) (sym (c.self.invariant.1 c.args.name.now) ∙ sym c.in-None.ensures.number));
+      found = sym (found_none c.self.inside.keys.items (has_name c.args.name.now)
+          (sym (c.self.invariant.1 c.args.name.now) ∙ sym c.in-None.ensures.number));
     }
