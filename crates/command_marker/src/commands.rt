@@ -23,7 +23,9 @@ pub(crate) fn judge_command(
     k: usize,
     item: &RawItem<'_>,
 ) -> Result<Next<CommandPlace>, Reason>
-    ensures judged { (rows : List Row) → Judges rows (name_station command) (take k (names_of document.now.tree)) (entry item.now.name item.now.tree) result }
+    ensures judged { (rows : List Row) →
+        Judges rows (name_station command) (take k (names_of document.now.tree))
+        (entry item.now.name item.now.tree) result }
 {
     match command {
         CommandName::Insert => judge_insert(document, k, item),
@@ -39,7 +41,8 @@ fn judge_insert(
     k: usize,
     item: &RawItem<'_>,
 ) -> Result<Next<CommandPlace>, Reason>
-    ensures judged { (rows : List Row) → Judges rows Insert (take k (names_of document.now.tree)) (entry item.now.name item.now.tree) result }
+    ensures judged { (rows : List Row) →
+        Judges rows Insert (take k (names_of document.now.tree)) (entry item.now.name item.now.tree) result }
 {
     let name = item.name();
     if is_documents(name) {
@@ -54,7 +57,8 @@ fn judge_update(
     k: usize,
     item: &RawItem<'_>,
 ) -> Result<Next<CommandPlace>, Reason>
-    ensures judged { (rows : List Row) → Judges rows Update (take k (names_of document.now.tree)) (entry item.now.name item.now.tree) result }
+    ensures judged { (rows : List Row) →
+        Judges rows Update (take k (names_of document.now.tree)) (entry item.now.name item.now.tree) result }
 {
     let name = item.name();
     if is_updates(name) {
@@ -72,7 +76,8 @@ fn judge_delete(
     k: usize,
     item: &RawItem<'_>,
 ) -> Result<Next<CommandPlace>, Reason>
-    ensures judged { (rows : List Row) → Judges rows Delete (take k (names_of document.now.tree)) (entry item.now.name item.now.tree) result }
+    ensures judged { (rows : List Row) →
+        Judges rows Delete (take k (names_of document.now.tree)) (entry item.now.name item.now.tree) result }
 {
     let name = item.name();
     if is_deletes(name) {
@@ -86,7 +91,8 @@ fn judge_delete(
 
 /// Whether a find can't use the field of this name.
 fn is_unusable(name: &[u8]) -> bool
-    ensures { result ≡ (named name.now (codes "min") || (named name.now (codes "max") || named name.now (codes "let"))) }
+    ensures { result
+        ≡ (named name.now (codes "min") || (named name.now (codes "max") || named name.now (codes "let"))) }
 {
     is_min(name) || is_max(name) || is_let(name)
 }
@@ -97,7 +103,8 @@ fn judge_find(
     k: usize,
     item: &RawItem<'_>,
 ) -> Result<Next<CommandPlace>, Reason>
-    ensures judged { (rows : List Row) → Judges rows Find (take k (names_of document.now.tree)) (entry item.now.name item.now.tree) result }
+    ensures judged { (rows : List Row) →
+        Judges rows Find (take k (names_of document.now.tree)) (entry item.now.name item.now.tree) result }
 {
     let name = item.name();
     if is_filter(name) {

@@ -83,7 +83,8 @@ pub(crate) fn mark_contents(
     command: &RawDoc<'_>,
 ) -> Result<(), MarkFault>
     requires marked { is_marked_command command.now.tree ≡ true }
-    ensures marked { MarksPlaces rows.now (command_visits rows.now command.now.start command.now.tree) marks.old marks.new result }
+    ensures marked { MarksPlaces rows.now (command_visits rows.now command.now.start command.now.tree)
+        marks.old marks.new result }
 {
     let name = command_name(command);
     if lacks_required(name, command) {

@@ -25,7 +25,9 @@ pub(crate) fn read_array(
     k: usize,
     item: &RawItem<'_>,
 ) -> Result<Next<CommandPlace>, Reason>
-    ensures read { result ≡ read_as ((tag_of item.now.tree == 4) && not (is_among item.now.name (take k (names_of document.now.tree)))) place }
+    ensures read { result
+        ≡ read_as ((tag_of item.now.tree == 4)
+        && not (is_among item.now.name (take k (names_of document.now.tree)))) place }
 {
     if item.tag() == types::ARRAY && !stands_again(document, k, item) {
         Ok(Next::Inside(place))
@@ -41,7 +43,9 @@ pub(crate) fn read_document(
     k: usize,
     item: &RawItem<'_>,
 ) -> Result<Next<CommandPlace>, Reason>
-    ensures read { result ≡ read_as ((tag_of item.now.tree == 3) && not (is_among item.now.name (take k (names_of document.now.tree)))) place }
+    ensures read { result
+        ≡ read_as ((tag_of item.now.tree == 3)
+        && not (is_among item.now.name (take k (names_of document.now.tree)))) place }
 {
     if item.tag() == types::DOCUMENT && !stands_again(document, k, item) {
         Ok(Next::Inside(place))

@@ -5,7 +5,8 @@ ghost use Rattle.bson_tree.specs.Tree.{kids_of, tag_of};
 ghost use Rattle.encrypt_schema.specs.Language.Names.{is_among, named};
 ghost use Rattle.encrypt_schema.specs.Language.Row.{Row};
 ghost use Rattle.encrypt_schema.specs.Commands.Offences.{is_slice_or_meta};
-ghost use Rattle.encrypt_schema.specs.Commands.Stations.{Inserts, Updates, Deletes, UpdateItem, DeleteItem, Projection, update_of};
+ghost use Rattle.encrypt_schema.specs.Commands.Stations.{Inserts, Updates, Deletes, UpdateItem, DeleteItem};
+ghost use Rattle.encrypt_schema.specs.Commands.Stations.{Projection, update_of};
 ghost use Rattle.encrypt_schema.specs.Commands.Visits.{entry, names_of};
 ghost use Rattle.command_marker.specs.Places.{Judges};
 ghost use Rattle.update_rules.specs.UpdatePlaces.{UpdateStands, update_station};
@@ -25,7 +26,8 @@ use update_rules::{UpdatePlace, update_place};
 /// Judges an element of `documents`.
 #[tactic(auto, unfolding(encrypt_schema::specs::Commands::Offences::ruled_offence))]
 pub(crate) fn judge_inserts(rows: &Rows, item: &RawItem<'_>) -> Result<Next<CommandPlace>, Reason>
-    ensures judged { (elder : List (List ℕ)) → Judges rows.now Inserts elder (entry item.now.name item.now.tree) result }
+    ensures judged { (elder : List (List ℕ)) →
+        Judges rows.now Inserts elder (entry item.now.name item.now.tree) result }
 {
     if item.tag() == types::DOCUMENT {
         let document = UpdatePlace::Document(rows.root());
@@ -37,14 +39,17 @@ pub(crate) fn judge_inserts(rows: &Rows, item: &RawItem<'_>) -> Result<Next<Comm
 
 /// Whether a value is an item of `updates`: a document that states `q` and `u`.
 fn is_update_item(item: &RawItem<'_>) -> bool
-    ensures { result ≡ ((tag_of item.now.tree == 3) && (is_among (codes "q") (names_of (kids_of item.now.tree)) && is_among (codes "u") (names_of (kids_of item.now.tree)))) }
+    ensures { result
+        ≡ ((tag_of item.now.tree == 3) && (is_among (codes "q") (names_of (kids_of item.now.tree))
+        && is_among (codes "u") (names_of (kids_of item.now.tree)))) }
 {
     item.tag() == types::DOCUMENT && states_query(item) && states_change(item)
 }
 
 /// Judges an element of `updates`.
 pub(crate) fn judge_updates(item: &RawItem<'_>) -> Result<Next<CommandPlace>, Reason>
-    ensures judged { (rows : List Row) (elder : List (List ℕ)) → Judges rows Updates elder (entry item.now.name item.now.tree) result }
+    ensures judged { (rows : List Row) (elder : List (List ℕ)) →
+        Judges rows Updates elder (entry item.now.name item.now.tree) result }
 {
     if is_update_item(item) {
         Ok(Next::Inside(CommandPlace::UpdateItem))
@@ -62,7 +67,8 @@ fn is_delete_item(item: &RawItem<'_>) -> bool
 
 /// Judges an element of `deletes`.
 pub(crate) fn judge_deletes(item: &RawItem<'_>) -> Result<Next<CommandPlace>, Reason>
-    ensures judged { (rows : List Row) (elder : List (List ℕ)) → Judges rows Deletes elder (entry item.now.name item.now.tree) result }
+    ensures judged { (rows : List Row) (elder : List (List ℕ)) →
+        Judges rows Deletes elder (entry item.now.name item.now.tree) result }
 {
     if is_delete_item(item) {
         Ok(Next::Inside(CommandPlace::DeleteItem))
@@ -77,7 +83,8 @@ pub(crate) fn judge_delete_item(
     k: usize,
     item: &RawItem<'_>,
 ) -> Result<Next<CommandPlace>, Reason>
-    ensures judged { (rows : List Row) → Judges rows DeleteItem (take k (names_of document.now.tree)) (entry item.now.name item.now.tree) result }
+    ensures judged { (rows : List Row) →
+        Judges rows DeleteItem (take k (names_of document.now.tree)) (entry item.now.name item.now.tree) result }
 {
     let name = item.name();
     if is_query(name) {
@@ -177,7 +184,9 @@ fn holds_slice_or_meta(item: &RawItem<'_>) -> bool
 
 /// Whether an element of a projection can't be used: an array, or a document without `$slice` or `$meta` alone.
 fn is_refused_projection(item: &RawItem<'_>) -> bool
-    ensures { result ≡ ((tag_of item.now.tree == 4) || ((tag_of item.now.tree == 3) && not (is_slice_or_meta (names_of (kids_of item.now.tree))))) }
+    ensures { result
+        ≡ ((tag_of item.now.tree == 4) || ((tag_of item.now.tree == 3)
+        && not (is_slice_or_meta (names_of (kids_of item.now.tree))))) }
 {
     item.tag() == types::ARRAY || (item.tag() == types::DOCUMENT && !holds_slice_or_meta(item))
 }
@@ -185,7 +194,8 @@ fn is_refused_projection(item: &RawItem<'_>) -> bool
 /// Judges an element of a projection.
 #[tactic(auto, unfolding(encrypt_schema::specs::Commands::Offences::ruled_offence))]
 pub(crate) fn judge_projection(item: &RawItem<'_>) -> Result<Next<CommandPlace>, Reason>
-    ensures judged { (rows : List Row) (elder : List (List ℕ)) → Judges rows Projection elder (entry item.now.name item.now.tree) result }
+    ensures judged { (rows : List Row) (elder : List (List ℕ)) →
+        Judges rows Projection elder (entry item.now.name item.now.tree) result }
 {
     if is_refused_projection(item) {
         Err(Reason::FieldNotAllowed)

@@ -84,7 +84,8 @@ impl Place for CommandPlace {
 
 /// What an element of a filter is in its command.
 fn next_in_filter(next: Next<FilterPlace>) -> Next<CommandPlace>
-    ensures station { (rows : List Row) → station_next command_station rows result ≡ station_next filter_station rows next }
+    ensures station { (rows : List Row) →
+        station_next command_station rows result ≡ station_next filter_station rows next }
     ensures stands { (rows : List Row) → StandsNext CommandStands rows result }
 {
     match next {
@@ -104,7 +105,8 @@ fn judge_in_filter(
     k: usize,
     item: &RawItem<'_>,
 ) -> Result<Next<CommandPlace>, Reason>
-    ensures judged { Judges rows.now (filter_station at rows.now) (take k (names_of document.now.tree)) (entry item.now.name item.now.tree) result }
+    ensures judged { Judges rows.now (filter_station at rows.now) (take k (names_of document.now.tree))
+        (entry item.now.name item.now.tree) result }
 {
     match at.judge(rows, document, k, item) {
         Ok(next) => Ok(next_in_filter(next)),
@@ -114,7 +116,8 @@ fn judge_in_filter(
 
 /// What an element of an update, or of a stored document, is in its command.
 fn next_in_update(next: Next<UpdatePlace>) -> Next<CommandPlace>
-    ensures station { (rows : List Row) → station_next command_station rows result ≡ station_next update_station rows next }
+    ensures station { (rows : List Row) →
+        station_next command_station rows result ≡ station_next update_station rows next }
     ensures stands { (rows : List Row) → StandsNext UpdateStands rows next → StandsNext CommandStands rows result }
 {
     match next {
@@ -135,7 +138,8 @@ fn judge_in_update(
     item: &RawItem<'_>,
 ) -> Result<Next<CommandPlace>, Reason>
     requires stands { UpdateStands at rows.now }
-    ensures judged { Judges rows.now (update_station at rows.now) (take k (names_of document.now.tree)) (entry item.now.name item.now.tree) result }
+    ensures judged { Judges rows.now (update_station at rows.now) (take k (names_of document.now.tree))
+        (entry item.now.name item.now.tree) result }
 {
     match at.judge(rows, document, k, item) {
         Ok(next) => Ok(next_in_update(next)),

@@ -1,7 +1,6 @@
 pub mod Ways
 pub mod Descent
 pub mod Spots
-pub mod Reasons
 pub mod Verdicts
 pub mod Marks
 pub mod Shows

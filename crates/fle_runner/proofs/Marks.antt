@@ -4,11 +4,11 @@ use Rattle.std.proofs.lemmas.Bool.Decides.{nat_tests}
 use Rattle.bson_tree.specs.Tree.{Items}
 use Rattle.command_marker.specs.Reply.{reply_limit, reply_to}
 use Rattle.encrypt_schema.specs.Language.Collection.{Collection}
-use Rattle.encrypt_schema.specs.Commands.Targets.{rows_of}
+use Rattle.encrypt_schema.specs.Commands.Targets.{rows_of, verdict}
 use Rattle.encrypt_schema.specs.Commands.Visits.{Refusal}
 use Rattle.fle_outside.specs.Seen.{EntropySeen, SinkSeen}
 use Rattle.fle_outside.proofs.Drawings.{draws_none}
-use Rattle.fle_runner.specs.Mark.{infos_task, infos_why, mark_refusal, mark_verdict, plain_plan, sized, verdict_by}
+use Rattle.fle_runner.specs.Mark.{infos_task, infos_why, mark_verdict, plain_plan, sized, verdict_by}
 use Rattle.fle_runner.specs.Infos.{ReadsAs}
 use Rattle.fle_runner.specs.declared.infos.InfosFault.{InfosFault}
 use Rattle.fle_runner.specs.declared.infos.InfosFault.TheVariants as faults
@@ -44,7 +44,7 @@ verdict_draws c reply None = sized_draws (nat_lt reply_limit (length reply)) rep
 
 pub mark_draws : (infos : List Collection) (db : List ℕ) → DrawsNone (mark_verdict infos db)
 unfolding mark_verdict
-mark_draws infos db = λ c. verdict_draws c (reply_to (rows_of infos c) c) (mark_refusal infos db c)
+mark_draws infos db = λ c. verdict_draws c (reply_to (rows_of infos c) c) (verdict db infos 0 c)
 
 -- the reply is written, or above its limit
 by_size : (b : Bool) (bytes : List ℕ) (e : EntropySeen) → b ≡ true → JudgeIs (cond b too_long (writes (plain_plan bytes))) e e judgements.TooLong

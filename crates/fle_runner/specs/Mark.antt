@@ -1,14 +1,13 @@
 -- `mark DB SCHEMAS`: the marking reply to each command.
-use Rattle.std.specs.Prelude.{◌≡◌, ℕ, Bool, true, false, nat_lt, Option, Some, None, option_map, Result, Ok, Err, List, length, if◌then◌else◌}
-use Rattle.bson_tree.specs.Tree.{Items}
+use Rattle.std.specs.Prelude.{◌≡◌, ℕ, ◌+◌, nat_lt, Option, Some, None, Result, Ok, Err, List, length, if◌then◌else◌}
+use Rattle.bson_tree.specs.Tree.{Items, no_items, item}
 use Rattle.encrypt_schema.specs.Language.Collection.{Collection}
 use Rattle.encrypt_schema.specs.Language.Row.{Row}
 use Rattle.encrypt_schema.specs.Commands.Offences.{is_view}
 use Rattle.encrypt_schema.specs.Commands.Targets.{rows_in, rows_of, verdict}
-use Rattle.encrypt_schema.specs.Commands.Visits.{Refusal, or_else, content_verdict}
+use Rattle.encrypt_schema.specs.Commands.Visits.{Refusal, content_verdict}
 use Rattle.encrypt_schema.specs.declared.command.marks.MarkFault.{MarkFault}
 use Rattle.encrypt_schema.specs.declared.command.marks.MarkFault.TheVariants as mark_faults
-use Rattle.command_marker.specs.Commands.{unbuilt}
 use Rattle.command_marker.specs.Reply.{reply_limit, reply_to}
 use Rattle.fle_stream.specs.Plan.{Plan, Verdict, writes, refused, too_long}
 use Rattle.fle_stream.specs.Task.{Task, fails, each, with_file}
@@ -30,20 +29,6 @@ use Rattle.fle_stream.specs.declared.why.SetupFault.TheVariants as setups
 abbrev pub plain_plan : List ℕ → Plan
 plain_plan bytes = record { draws = 0; size = length bytes; bytes = λ (_ : List Block). bytes }
 
--- the reason is that the collection is a view
-abbrev pub is_view_reason : Reason → Bool
-is_view_reason reasons.View = true
-is_view_reason _ = false
-
--- a view isn't marked yet: it is told as such, at the command itself
-abbrev pub as_built : Refusal → Refusal
-as_built r = if is_view_reason r.reason then record { reason = reasons.NotBuilt; at = 0 } else r
-
--- why a command of this database isn't marked under these infos: it is of a form that isn't built yet, else the
--- verdict; a document of the stream begins at 0
-unfoldable pub mark_refusal : List Collection → List ℕ → Items → Option Refusal
-mark_refusal infos db c = or_else (unbuilt c) (option_map as_built (verdict db infos 0 c))
-
 -- a reply of at most 48,000,000 bytes is written
 abbrev pub sized : List ℕ → Verdict
 sized bytes = if nat_lt reply_limit (length bytes) then too_long else writes (plain_plan bytes)
@@ -57,17 +42,22 @@ abbrev pub verdict_by : Items → List ℕ → Option Refusal → Verdict
 verdict_by c reply (Some r) = refuses r.reason (place_of r.at c)
 verdict_by c reply None = sized reply
 
--- what a command of this database comes to under these infos
+-- what a command of this database comes to under these infos; a document of the stream begins at 0
 unfoldable pub mark_verdict : List Collection → List ℕ → Items → Verdict
-mark_verdict infos db c = verdict_by c (reply_to (rows_of infos c) c) (mark_refusal infos db c)
+mark_verdict infos db c = verdict_by c (reply_to (rows_of infos c) c) (verdict db infos 0 c)
 
 -- what a command comes to, whose fields aren't refused, by its contents under these rules
 abbrev pub verdict_under : List Row → Items → Verdict
 verdict_under rows c = verdict_by c (reply_to rows c) (content_verdict rows 0 c)
 
--- what an insert into this collection comes to, whose fields aren't refused; a view isn't marked yet
+-- the offset at which the value of a command's first field begins
+abbrev pub first_start : Items → ℕ
+first_start no_items = 0
+first_start (item name t is) = 4 + (2 + length name)
+
+-- what a marked command of this collection comes to, whose fields aren't refused: a view is refused at the first
 abbrev pub verdict_into : Option Collection → Items → Verdict
-verdict_into info c = if is_view info then refuses reasons.NotBuilt (place_of 0 c) else verdict_under (rows_in info) c
+verdict_into info c = if is_view info then refuses reasons.View (place_of (first_start c) c) else verdict_under (rows_in info) c
 
 -- a fault of marking says that a command comes to this; want of memory may come at any time
 abbrev pub Tells : MarkFault → Items → Verdict → Type 0

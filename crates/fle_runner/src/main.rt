@@ -12,6 +12,8 @@
 #![tactic(auto)]
 
 mod act;
+#[cfg(test)]
+mod filter_tests;
 mod gathered;
 mod help;
 mod infos;
@@ -37,6 +39,8 @@ mod show;
 mod show_tests;
 #[cfg(test)]
 mod tests;
+#[cfg(test)]
+mod update_tests;
 #[cfg(test)]
 mod verdict_tests;
 mod words;

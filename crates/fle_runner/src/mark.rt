@@ -1,13 +1,13 @@
 //! `mark DB SCHEMAS`: the marking reply to each command.
 
-ghost use Rattle.std.specs.Prelude.{true, ⊤, ◌≡◌, ◌<◌, ◌≤◌, List, ℕ, Some, codes, option_copied};
+ghost use Rattle.std.specs.Prelude.{true, ⊤, ◌≡◌, ◌<◌, ◌≤◌, List, ℕ, Some, option_copied};
 ghost use Rattle.bson_tree.specs.Places.{place_of};
-ghost use Rattle.command_marker.specs.Commands.{is_command};
+ghost use Rattle.command_marker.specs.Commands.{is_marked_command};
 ghost use Rattle.command_marker.specs.Reply.{RepliesAs};
 ghost use Rattle.fle_outside.specs.Counts.{Rose};
 ghost use Rattle.fle_outside.specs.Files.{Files, file_of};
 ghost use Rattle.fle_outside.specs.Seen.{EntropySeen};
-ghost use Rattle.fle_runner.specs.Mark.{Tells, infos_why, mark_task, mark_verdict, refuses, sized, verdict_into, verdict_under};
+ghost use Rattle.fle_runner.specs.Mark.{Tells, first_start, infos_why, mark_task, mark_verdict, refuses, sized, verdict_into, verdict_under};
 ghost use Rattle.fle_stream.specs.Codes.{status_of};
 ghost use Rattle.fle_stream.specs.Did.{Did};
 ghost use Rattle.fle_stream.specs.Ended.{EndsAs, IsUnread};
@@ -51,34 +51,48 @@ impl Judge for Marker<'_> {
     }
 }
 
-/// Judges a command of a database: its fields by themselves, then its contents.
+/// Judges a command of a database: its fields by themselves, then its collection and its contents.
 fn judge_command(alloc: Global, infos: &Infos, db: &[u8], command: &RawDoc<'_>) -> Judged
     requires whole { command.now.start ≡ 0 }
     ensures judged { (e : EntropySeen) → JudgeIs (mark_verdict infos.now db.now command.now.tree) e e result }
 {
     match target(db, command) {
-        Ok(Target::Collection(name)) => judge_insert(alloc, infos.info_of(name), command),
+        Ok(Target::Collection(name)) => judge_marked(alloc, infos.info_of(name), command),
         Ok(Target::Pass) => judge_reply(reply_clear(alloc, command)),
         Err(refusal) => judge_fault(alloc, command, refusal),
     }
 }
 
-/// Judges an insert into a collection, whose fields aren't refused by themselves: a view isn't marked yet.
-fn judge_insert(alloc: Global, info: Option<&Info>, command: &RawDoc<'_>) -> Judged
-    requires insert { is_command (codes "insert") command.now.tree ≡ true }
+/// Judges a command whose values are protected, of this collection, whose fields aren't refused by themselves.
+fn judge_marked(alloc: Global, info: Option<&Info>, command: &RawDoc<'_>) -> Judged
+    requires marked { is_marked_command command.now.tree ≡ true }
     requires whole { command.now.start ≡ 0 }
     ensures judged { (e : EntropySeen) → JudgeIs (verdict_into (option_copied info.entry) command.now.tree) e e result }
 {
     match info {
         None => judge_reply(reply_clear(alloc, command)),
-        Some(info) if info.is_view() => refuse(alloc, command, Reason::NotBuilt, 0),
+        Some(info) if info.is_view() => refuse(alloc, command, Reason::View, first_start(command)),
         Some(info) => judge_contents(alloc, info.rows(), command),
     }
 }
 
-/// Judges an insert by its contents under the rules of its collection.
+/// The offset at which the value of a command's first field begins; 0 where there is no field.
+fn first_start(command: &RawDoc<'_>) -> u32
+    requires whole { command.now.start ≡ 0 }
+    ensures start { result ≡ first_start command.now.tree }
+{
+    match command.items().next() {
+        Some(first) => {
+            let _ = first.value();
+            first.start() as u32
+        }
+        None => 0,
+    }
+}
+
+/// Judges a command by its contents under the rules of its collection.
 fn judge_contents(alloc: Global, rows: &Rows, command: &RawDoc<'_>) -> Judged
-    requires insert { is_command (codes "insert") command.now.tree ≡ true }
+    requires marked { is_marked_command command.now.tree ≡ true }
     requires whole { command.now.start ≡ 0 }
     ensures judged { (e : EntropySeen) → JudgeIs (verdict_under rows.now command.now.tree) e e result }
 {

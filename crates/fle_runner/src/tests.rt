@@ -30,9 +30,8 @@ const NOTES: &[u8] =
 const NOTES_REPLY: &[u8] =
     b"\x92\x00\x00\x00\x08hasEncryptionPlaceholders\x00\x00\x08schemaRequiresEncryption\x00\x00\x03result\x00B\x00\x00\x00\x02insert\x00\x06\x00\x00\x00notes\x00\x04documents\x00\x14\x00\x00\x00\x030\x00\x0c\x00\x00\x00\x10p\x00\x01\x00\x00\x00\x00\x00\x02$db\x00\x03\x00\x00\x00hr\x00\x00\x01ok\x00\x00\x00\x00\x00\x00\x00\xf0?\x00";
 
-/// `{ping: int 1, $db: "admin"}`.
-const PING: &[u8] =
-    b"\x1e\x00\x00\x00\x10ping\x00\x01\x00\x00\x00\x02$db\x00\x06\x00\x00\x00admin\x00\x00";
+/// `{aggregate: int 1}`.
+const UNKNOWN: &[u8] = b"\x14\x00\x00\x00\x10aggregate\x00\x01\x00\x00\x00\x00";
 
 /// The words of each run, unless it says otherwise: its file is `infos`.
 const WORDS: [&str; 3] = ["mark", "hr", "infos"];
@@ -151,7 +150,7 @@ fn each_input_has_its_end(rt: HostRuntime) -> Result<(), Fail> {
         (nothing, Status::Done, nothing, ""),
         (INSERT, Status::Done, REPLY, ""),
         (NOTES, Status::Done, NOTES_REPLY, ""),
-        (PING, Status::Refused, nothing, "fle: 1 1 24 -\n"),
+        (UNKNOWN, Status::Refused, nothing, "fle: 1 1 1 0\n"),
         (
             b"\x58\x00\x00\x00\x02in",
             Status::Malformed,
@@ -188,7 +187,7 @@ fn each_input_has_its_end(rt: HostRuntime) -> Result<(), Fail> {
 fn a_stream_may_come_in_any_pieces(rt: HostRuntime) -> Result<(), Fail> {
     let alloc = rt.alloc();
     let two = joined(alloc, INSERT, NOTES)?;
-    let three = joined(alloc, &two, PING)?;
+    let three = joined(alloc, &two, UNKNOWN)?;
     let replies = joined(alloc, REPLY, NOTES_REPLY)?;
     for step in 1..=three.len() {
         let run = Run {
@@ -200,7 +199,7 @@ fn a_stream_may_come_in_any_pieces(rt: HostRuntime) -> Result<(), Fail> {
             &look(alloc, run)?,
             Status::Refused,
             &replies,
-            "fle: 1 3 24 -\n",
+            "fle: 1 3 1 0\n",
         );
     }
     Ok(())
@@ -314,7 +313,7 @@ fn a_write_that_fails_ends_the_run_there(rt: HostRuntime) -> Result<(), Fail> {
     );
     let run = Run {
         diag: &[0],
-        ..plain(PING)
+        ..plain(UNKNOWN)
     };
     expect(&rt, &look(alloc, run)?, Status::Refused, b"", "");
     Ok(())
@@ -360,15 +359,15 @@ fn each_call_of_folder_and_sinks_fails_in_turn(rt: HostRuntime) -> Result<(), Fa
         (3, "fle: 1 "),
         (4, "fle: 1 1"),
         (5, "fle: 1 1 "),
-        (6, "fle: 1 1 24"),
-        (7, "fle: 1 1 24 "),
-        (8, "fle: 1 1 24 -"),
-        (9, "fle: 1 1 24 -\n"),
+        (6, "fle: 1 1 1"),
+        (7, "fle: 1 1 1 "),
+        (8, "fle: 1 1 1 0"),
+        (9, "fle: 1 1 1 0\n"),
     ];
     for (call, line) in lines {
         let run = Run {
             diag: &[call],
-            ..plain(PING)
+            ..plain(UNKNOWN)
         };
         expect(&rt, &look(alloc, run)?, Status::Refused, b"", line);
     }
