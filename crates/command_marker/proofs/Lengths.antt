@@ -32,7 +32,8 @@ fields_size policy t =
     )
 
 -- the contents of a marking's binary
-pub contents_size : (policy : Policy) (t : Tree) → length (marking policy t) + 5 ≡ length (value_bytes t) + growth policy
+pub contents_size : (policy : Policy) (t : Tree)
+    → length (marking policy t) + 5 ≡ length (value_bytes t) + growth policy
 contents_size policy t = omega (arith, fields_size policy t, framed_size (items_bytes (marking_fields policy t)))
 
 -- a marking, as it stands in a command, has more bytes than its value

@@ -1,5 +1,6 @@
 -- A marked command by places: at each place with a role stands the marking of its value.
-use Rattle.std.proofs.Common.{◌≡◌, ℕ, zero, suc, ◌+◌, Bool, true, false, cond, List, [], ◌∷◌, ◌++◌, length, Option, Some, None, unwrap_or, option_map, option_and_then, refl, sym, ap, ap₂, ◌∙◌, subst, arith}
+use Rattle.std.proofs.Common.{◌≡◌, ℕ, zero, suc, ◌+◌, Bool, true, false, cond, List, [], ◌∷◌, ◌++◌, length, Option}
+use Rattle.std.proofs.Common.{Some, None, unwrap_or, option_map, option_and_then, refl, sym, ap, ap₂, ◌∙◌, subst, arith}
 use Rattle.std.proofs.lemmas.Bool.{eq-eqb}
 use Rattle.std.proofs.lemmas.List.{append-nil}
 use Rattle.std.specs.Prelude.{◌==◌}
@@ -8,7 +9,8 @@ use Rattle.bson_tree.specs.Places.{tree_at, value_at}
 use Rattle.bson_tree.specs.Spelling.{framed, value_bytes, items_bytes}
 use Rattle.bson_tree.specs.Filled.{fill_tree, fill_items, filled_in, filled_from, filled}
 use Rattle.encrypt_schema.specs.declared.command.marks.Mark.{Mark}
-use Rattle.encrypt_schema.specs.Commands.Chains.{Chain, onward, Link, link, chain_in, chain_from, parent_along, last_of, station_along}
+use Rattle.encrypt_schema.specs.Commands.Chains.{Chain, onward, Link, link, chain_in, chain_from, parent_along, last_of}
+use Rattle.encrypt_schema.specs.Commands.Chains.{station_along}
 use Rattle.encrypt_schema.specs.Language.Policies.{policy_at}
 use Rattle.encrypt_schema.specs.Language.Row.{Row}
 use Rattle.encrypt_schema.specs.Commands.Stations.{Station, Outside, Store, Compare, station, has_role}
@@ -34,7 +36,8 @@ marking_under rows t rule = option_map (λ i. marked_value (policy_at i rows) t)
 abbrev mutual
   covered_in : List Row → Station → Tree → Tree
   covered_in rows s (leaf tag bytes) = unwrap_or (marking_under rows (leaf tag bytes) (rule_of s)) (leaf tag bytes)
-  covered_in rows s (node tag is) = unwrap_or (marking_under rows (node tag is) (rule_of s)) (node tag (covered rows s is))
+  covered_in rows s (node tag is) = unwrap_or (marking_under rows (node tag is) (rule_of s))
+      (node tag (covered rows s is))
 
   -- elements whose parent has this station
   covered : List Row → Station → Items → Items
@@ -56,25 +59,31 @@ along_onward : (rows : List Row) (s : Station) (l : Link) (links : Option Chain)
 along_onward rows s l None value = refl
 along_onward rows s l (Some links) value = refl
 
-own_marking : (rows : List Row) (t : Tree) (rule : Option ℕ) → option_and_then (λ i. option_map (marked_value (policy_at i rows)) (Some t)) rule ≡ marking_under rows t rule
+own_marking : (rows : List Row) (t : Tree) (rule : Option ℕ)
+    → option_and_then (λ i. option_map (marked_value (policy_at i rows)) (Some t)) rule ≡ marking_under rows t rule
 own_marking rows t None = refl
 own_marking rows t (Some i) = refl
 
 mutual
-  placed_in : (rows : List Row) (s : Station) (elder : List (List ℕ)) (name : List ℕ) (t : Tree) (f : List ℕ → Option Tree)
+  placed_in : (rows : List Row) (s : Station) (elder : List (List ℕ)) (name : List ℕ) (t : Tree) (f : List ℕ
+      → Option Tree)
       → ((place : List ℕ) → f place ≡ marking_along rows s (chain_in elder name place t) (tree_at place t))
       → filled_in f t ≡ covered_in rows (station rows s (entry name t)) t
   placed_in rows s elder name (leaf tag bytes) f h =
-      ap (λ (o : Option Tree). unwrap_or o (leaf tag bytes)) (h [] ∙ own_marking rows (leaf tag bytes) (rule_of (station rows s (entry name (leaf tag bytes)))))
+      ap (λ (o : Option Tree). unwrap_or o (leaf tag bytes))
+      (h [] ∙ own_marking rows (leaf tag bytes) (rule_of (station rows s (entry name (leaf tag bytes)))))
   placed_in rows s elder name (node tag is) f h =
       let u = station rows s (entry name (node tag is)) in
-      ap (λ (o : Option Tree). unwrap_or o (node tag (filled_from f 0 is))) (h [] ∙ own_marking rows (node tag is) (rule_of u))
+      ap (λ (o : Option Tree). unwrap_or o (node tag (filled_from f 0 is)))
+      (h [] ∙ own_marking rows (node tag is) (rule_of u))
       ∙ ap (λ (js : Items). unwrap_or (marking_under rows (node tag is) (rule_of u)) (node tag js))
       (placed_from rows u [] 0 is f
-      (λ j k place e. ap (λ (n : ℕ). f (n ∷ place)) (omega (arith, e)) ∙ h (k ∷ place) ∙ along_onward rows s (link elder name (node tag is)) (chain_from [] k place is) (value_at (k ∷ place) is)))
+      (λ j k place e. ap (λ (n : ℕ). f (n ∷ place)) (omega (arith, e)) ∙ h (k ∷ place)
+      ∙ along_onward rows s (link elder name (node tag is)) (chain_from [] k place is) (value_at (k ∷ place) is)))
 
   placed_from : (rows : List Row) (s : Station) (elder : List (List ℕ)) (i : ℕ) (is : Items) (f : List ℕ → Option Tree)
-      → ((j k : ℕ) (place : List ℕ) → j ≡ i + k → f (j ∷ place) ≡ marking_along rows s (chain_from elder k place is) (value_at (k ∷ place) is))
+      → ((j k : ℕ) (place : List ℕ) → j ≡ i + k → f (j ∷ place)
+      ≡ marking_along rows s (chain_from elder k place is) (value_at (k ∷ place) is))
       → filled_from f i is ≡ covered rows s is
   placed_from rows s elder i no_items f h = refl
   placed_from rows s elder i (item name t is) f h =
@@ -93,7 +102,8 @@ at_links : (rows : List Row) (l : Link) (value : Option Tree) (links : Option Ch
 at_links rows l value None = refl
 at_links rows l value (Some links) = refl
 
-covered_filled : (rows : List Row) (c : Items) → filled (marking_of rows c) c ≡ covered rows (station rows Outside (command_entry c)) c
+covered_filled : (rows : List Row) (c : Items)
+    → filled (marking_of rows c) c ≡ covered rows (station rows Outside (command_entry c)) c
 covered_filled rows c =
     placed_from rows (station rows Outside (command_entry c)) [] 0 c (marking_of rows c)
     (λ j k place e. ap (λ (n : ℕ). marking_of rows c (n ∷ place)) (omega (arith, e))
@@ -102,26 +112,36 @@ covered_filled rows c =
 -- ---- and so it is by offsets
 
 -- the marking at an offset is what the first mark there puts in
-pub put_marking : (rows : List Row) (ms : List Mark) (q : ℕ) (u : Tree) → put_at (marked_by rows) ms q u ≡ marking_at rows ms q u
+pub put_marking : (rows : List Row) (ms : List Mark) (q : ℕ) (u : Tree)
+    → put_at (marked_by rows) ms q u ≡ marking_at rows ms q u
 put_marking rows [] q u = refl
-put_marking rows (m ∷ ms) q u = ap (λ (o : Option Tree). cond (m.start == q) (Some (marked_by rows m u)) o) (put_marking rows ms q u)
+put_marking rows (m ∷ ms) q u = ap (λ (o : Option Tree). cond (m.start == q) (Some (marked_by rows m u)) o)
+    (put_marking rows ms q u)
 
 filled_leaf : (rows : List Row) (u : Station) (v : Visit) (tag : ℕ) (bytes : List ℕ) (inside rest : List Mark)
     → (has_role u ≡ false → AreBehind v.start (inside ++ rest))
-    → fill_tree (put_at (marked_by rows) ((mark_at u v ++ inside) ++ rest)) v.start (leaf tag bytes) ≡ covered_in rows u (leaf tag bytes)
-filled_leaf rows (Store i) v tag bytes inside rest p = let on : (v.start == v.start) ≡ true = eq-eqb v.start v.start refl in rw on refl
-filled_leaf rows (Compare i) v tag bytes inside rest p = let on : (v.start == v.start) ≡ true = eq-eqb v.start v.start refl in rw on refl
+    → fill_tree (put_at (marked_by rows) ((mark_at u v ++ inside) ++ rest)) v.start (leaf tag bytes)
+    ≡ covered_in rows u (leaf tag bytes)
+filled_leaf rows (Store i) v tag bytes inside rest p = let on : (v.start == v.start) ≡ true =
+    eq-eqb v.start v.start refl in rw on refl
+filled_leaf rows (Compare i) v tag bytes inside rest p = let on : (v.start == v.start) ≡ true =
+    eq-eqb v.start v.start refl in rw on refl
 filled_leaf rows _ v tag bytes inside rest p =
-    ap (λ (o : Option Tree). unwrap_or o (leaf tag bytes)) (none_put (marked_by rows) (inside ++ rest) v.start (leaf tag bytes) (p refl))
+    ap (λ (o : Option Tree). unwrap_or o (leaf tag bytes))
+    (none_put (marked_by rows) (inside ++ rest) v.start (leaf tag bytes) (p refl))
 
 filled_node : (rows : List Row) (u : Station) (v : Visit) (tag : ℕ) (is : Items) (inside rest : List Mark)
     → (has_role u ≡ false → AreBehind v.start (inside ++ rest))
     → (has_role u ≡ false → fill_items (put_at (marked_by rows) (inside ++ rest)) (v.start + 4) is ≡ covered rows u is)
-    → fill_tree (put_at (marked_by rows) ((mark_at u v ++ inside) ++ rest)) v.start (node tag is) ≡ covered_in rows u (node tag is)
-filled_node rows (Store i) v tag is inside rest p q = let on : (v.start == v.start) ≡ true = eq-eqb v.start v.start refl in rw on refl
-filled_node rows (Compare i) v tag is inside rest p q = let on : (v.start == v.start) ≡ true = eq-eqb v.start v.start refl in rw on refl
+    → fill_tree (put_at (marked_by rows) ((mark_at u v ++ inside) ++ rest)) v.start (node tag is)
+    ≡ covered_in rows u (node tag is)
+filled_node rows (Store i) v tag is inside rest p q = let on : (v.start == v.start) ≡ true =
+    eq-eqb v.start v.start refl in rw on refl
+filled_node rows (Compare i) v tag is inside rest p q = let on : (v.start == v.start) ≡ true =
+    eq-eqb v.start v.start refl in rw on refl
 filled_node rows _ v tag is inside rest p q =
-    ap (λ (o : Option Tree). unwrap_or o (node tag (fill_items (put_at (marked_by rows) (inside ++ rest)) (v.start + 4) is)))
+    ap (λ (o : Option Tree). unwrap_or o (node tag
+    (fill_items (put_at (marked_by rows) (inside ++ rest)) (v.start + 4) is)))
     (none_put (marked_by rows) (inside ++ rest) v.start (node tag is) (p refl))
     ∙ ap (node tag) (q refl)
 
@@ -131,22 +151,28 @@ shown_node : (rows : List Row) (u : Station) (at tag : ℕ) (is : Items) → has
 shown_node rows u at tag is h = ap (λ (b : Bool). marks rows (cond b [] (shown rows u (at + 4) [] is))) h
 
 mutual
-  offsets_in : (rows : List Row) (s : Station) (at : ℕ) (elder : List (List ℕ)) (name : List ℕ) (t : Tree) (rest : List Mark)
+  offsets_in : (rows : List Row) (s : Station) (at : ℕ) (elder : List (List ℕ)) (name : List ℕ) (t : Tree)
+      (rest : List Mark)
       → AreBehind (at + (2 + length name) + length (value_bytes t)) rest
       → fill_tree (put_at (marked_by rows) (own_marks rows s elder at name t ++ rest)) (at + (2 + length name)) t
       ≡ covered_in rows (station rows s (entry name t)) t
   offsets_in rows s at elder name (leaf tag bytes) rest b =
-      filled_leaf rows (station rows s (entry name (leaf tag bytes))) (visit s elder at name (leaf tag bytes)) tag bytes [] rest
+      filled_leaf rows (station rows s (entry name (leaf tag bytes)))
+      (visit s elder at name (leaf tag bytes)) tag bytes [] rest
       (λ h. earlier (at + (2 + length name)) (at + (2 + length name) + length bytes) rest (omega arith) b)
   offsets_in rows s at elder name (node tag is) rest b =
       let u = station rows s (entry name (node tag is)) in
       let p = at + (2 + length name) in
       let low : AreBehind (p + 4 + length (items_bytes is)) rest =
-      earlier (p + 4 + length (items_bytes is)) (p + length (framed (items_bytes is))) rest (omega (arith, framed_size (items_bytes is))) b in
-      filled_node rows u (visit s elder at name (node tag is)) tag is (marks rows (shown_in rows u p (node tag is))) rest
+      earlier (p + 4 + length (items_bytes is)) (p + length (framed (items_bytes is))) rest
+      (omega (arith, framed_size (items_bytes is))) b in
+      filled_node rows u (visit s elder at name (node tag is)) tag is
+      (marks rows (shown_in rows u p (node tag is))) rest
       (λ h. subst (λ (ms : List Mark). AreBehind p (ms ++ rest)) (sym (shown_node rows u p tag is h))
-      (earlier p (p + 4) (marks rows (shown rows u (p + 4) [] is) ++ rest) (omega arith) (behind (takes_among rows u (p + 4) [] is rest) low)))
-      (λ h. subst (λ (ms : List Mark). fill_items (put_at (marked_by rows) (ms ++ rest)) (p + 4) is ≡ covered rows u is) (sym (shown_node rows u p tag is h))
+      (earlier p (p + 4) (marks rows (shown rows u (p + 4) [] is) ++ rest) (omega arith)
+      (behind (takes_among rows u (p + 4) [] is rest) low)))
+      (λ h. subst (λ (ms : List Mark). fill_items (put_at (marked_by rows) (ms ++ rest)) (p + 4) is ≡ covered rows u is)
+      (sym (shown_node rows u p tag is h))
       (offsets_among rows u (p + 4) [] is rest low))
 
   offsets_among : (rows : List Row) (s : Station) (at : ℕ) (elder : List (List ℕ)) (is : Items) (rest : List Mark)
@@ -159,28 +185,35 @@ mutual
       let mid = marks rows (shown rows s q (elder ++ name ∷ []) is) ++ rest in
       let all = own_marks rows s elder at name t ++ mid in
       let low : AreBehind (q + length (items_bytes is)) rest =
-      earlier (q + length (items_bytes is)) (at + length (items_bytes (item name t is))) rest (omega (arith, items_length name t is)) b in
+      earlier (q + length (items_bytes is)) (at + length (items_bytes (item name t is))) rest
+      (omega (arith, items_length name t is)) b in
       let first : fill_tree (put_at (marked_by rows) all) p t ≡ covered_in rows (station rows s (entry name t)) t =
       offsets_in rows s at elder name t mid (behind (takes_among rows s q (elder ++ name ∷ []) is rest) low) in
       let others : fill_items (put_at (marked_by rows) all) q is ≡ covered rows s is =
-      alike (put_at (marked_by rows) all) (put_at (marked_by rows) mid) q (λ k v h. passed_in (marked_by rows) (takes_value rows s at elder name t mid) k v h) q is (omega arith)
+      alike (put_at (marked_by rows) all) (put_at (marked_by rows) mid) q
+      (λ k v h. passed_in (marked_by rows) (takes_value rows s at elder name t mid) k v h) q is (omega arith)
       ∙ offsets_among rows s q (elder ++ name ∷ []) is rest low in
-      ap (λ (ms : List Mark). fill_items (put_at (marked_by rows) ms) at (item name t is)) (marks_item rows s at elder name t is rest)
+      ap (λ (ms : List Mark). fill_items (put_at (marked_by rows) ms) at (item name t is))
+      (marks_item rows s at elder name t is rest)
       ∙ ap₂ (λ (v : Tree) (js : Items). item name v js) first others
 
 -- a command filled with the markings of its marks, wherever it begins
 covered_roles : (rows : List Row) (at : ℕ) (c : Items)
-    → fill_items (marking_at rows (roles rows at c)) (at + 4) c ≡ covered rows (station rows Outside (command_entry c)) c
+    → fill_items (marking_at rows (roles rows at c)) (at + 4) c
+    ≡ covered rows (station rows Outside (command_entry c)) c
 covered_roles rows at c =
     let s = station rows Outside (command_entry c) in
     let p = at + 4 in
-    ap (λ (ms : List Mark). fill_items (marking_at rows ms) p c) (roles_shown rows at c ∙ sym (append-nil (marks rows (shown rows s p [] c))))
-    ∙ sym (alike (put_at (marked_by rows) (marks rows (shown rows s p [] c) ++ [])) (marking_at rows (marks rows (shown rows s p [] c) ++ [])) p
+    ap (λ (ms : List Mark). fill_items (marking_at rows ms) p c)
+    (roles_shown rows at c ∙ sym (append-nil (marks rows (shown rows s p [] c))))
+    ∙ sym (alike (put_at (marked_by rows) (marks rows (shown rows s p [] c) ++ []))
+    (marking_at rows (marks rows (shown rows s p [] c) ++ [])) p
     (λ q u h. put_marking rows (marks rows (shown rows s p [] c) ++ []) q u) p c (omega arith))
     ∙ offsets_among rows s p [] c [] tt
 
 -- the marked command is the command filled with the markings of its marks, wherever it begins
-pub marked_roles : (rows : List Row) (at : ℕ) (c : Items) → marked rows c ≡ fill_items (marking_at rows (roles rows at c)) (at + 4) c
+pub marked_roles : (rows : List Row) (at : ℕ) (c : Items)
+    → marked rows c ≡ fill_items (marking_at rows (roles rows at c)) (at + 4) c
 unfolding marked
 marked_roles rows at c = covered_roles rows 0 c ∙ sym (covered_roles rows at c)
 

@@ -20,7 +20,8 @@ binary_parts : (out name contents : List ℕ) (n : ℕ) (a b c whole : List ℕ)
 binary_parts out name contents n a b c whole is ea eb ec ew = rw (ew, ec, eb, ea, is) (simp (append_assoc, append-nil))
 
 -- an element with a marking for its value
-pub put_parts : (policy : Policy) (t : Tree) (n : ℕ) (out name a b c whole : List ℕ) → n + 5 ≡ length (value_bytes t) + growth policy
+pub put_parts : (policy : Policy) (t : Tree) (n : ℕ) (out name a b c whole : List ℕ)
+    → n + 5 ≡ length (value_bytes t) + growth policy
     → a ≡ out ++ (5 ∷ (name ++ 0 ∷ []))
     → b ≡ a ++ to_le_bytes w32 n
     → c ≡ b ++ 6 ∷ []

@@ -1,5 +1,6 @@
 -- The marks of a command are a plan by which it is marked.
-use Rattle.std.proofs.Common.{◌≡◌, ◌∙◌, ℕ, ◌+◌, ◌≤◌, Bool, List, [], ◌∷◌, ◌++◌, length, drop, arith, ap, sym, subst, Err}
+use Rattle.std.proofs.Common.{◌≡◌, ◌∙◌, ℕ, ◌+◌, ◌≤◌, Bool, List, [], ◌∷◌, ◌++◌, length, drop, arith, ap, sym, subst}
+use Rattle.std.proofs.Common.{Err}
 use Rattle.std.proofs.lemmas.List.{drop-drop}
 use Rattle.encrypt_schema.specs.declared.schema.policy.Policy.{Policy}
 use Rattle.command_marker.specs.declared.stop.ReplyFault.{ReplyFault}
@@ -34,8 +35,10 @@ planned_by : (rows : List Row) (at : ℕ) (c : Items) (ms : List Mark) → Takes
     → (spliced (marked_by rows) at ms c ≡ fill_items (marking_at rows ms) at c)
     × (length (items_bytes (spliced (marked_by rows) at ms c)) ≡ length (items_bytes c) + added (growth_by rows) ms)
 planned_by rows at c ms taken =
-    let s = spliced_items (marked_by rows) (growth_by rows) (λ m t. marking_size (policy_at m.policy rows) t) taken tt in (
-      s.made ∙ alike (put_at (marked_by rows) ms) (marking_at rows ms) at (λ q u h. put_marking rows ms q u) at c (omega arith),
+    let s = spliced_items (marked_by rows) (growth_by rows)
+    (λ m t. marking_size (policy_at m.policy rows) t) taken tt in (
+      s.made ∙ alike (put_at (marked_by rows) ms) (marking_at rows ms) at (λ q u h. put_marking rows ms q u) at c
+          (omega arith),
       omega (arith, s.size),
     )
 
@@ -51,10 +54,12 @@ planned_roles rows c =
       size = both.1;
     }
 
-pub planned : (rows others : List Row) (c d : At) (ms : List Mark) → rows ≡ others → c ≡ d → ms ≡ roles others d.start d.tree → IsPlan rows c ms
+pub planned : (rows others : List Row) (c d : At) (ms : List Mark) → rows ≡ others → c ≡ d
+    → ms ≡ roles others d.start d.tree → IsPlan rows c ms
 planned rows others c d ms p q e =
     subst (λ (rs : List Row). IsPlan rs c ms) (sym p)
-    (subst (λ (x : At). IsPlan others x ms) (sym q) (subst (λ (ns : List Mark). IsPlan others d ns) (sym e) (planned_roles others d)))
+    (subst (λ (x : At). IsPlan others x ms) (sym q)
+    (subst (λ (ns : List Mark). IsPlan others d ns) (sym e) (planned_roles others d)))
 
 -- how long the marked command is
 marked_size : (rows : List Row) (c : At) (ms : List Mark) → IsPlan rows c ms
@@ -64,8 +69,10 @@ marked_size rows c ms plan =
     omega (arith, same, plan.size, framed_size (items_bytes c.tree), framed_size (items_bytes (marked rows c.tree)))
 
 -- what was written is the reply to the marked command
-pub marked_replied : (rows : List Row) (c : At) (ms : List Mark) (some ruled : Bool) (size : ℕ) (out : List ℕ) → IsPlan rows c ms
-    → (size ≡ length (doc_bytes c.tree) + added (growth_by rows) ms + 80) × (length (doc_bytes c.tree) + added (growth_by rows) ms + 80 ≤ reply_limit)
+pub marked_replied : (rows : List Row) (c : At) (ms : List Mark) (some ruled : Bool) (size : ℕ) (out : List ℕ)
+    → IsPlan rows c ms
+    → (size ≡ length (doc_bytes c.tree) + added (growth_by rows) ms + 80)
+    × (length (doc_bytes c.tree) + added (growth_by rows) ms + 80 ≤ reply_limit)
     → out ≡ (reply_head size some ruled ++ doc_bytes (marked rows c.tree)) ++ reply_end
     → (out ≡ reply some ruled (marked rows c.tree)) × (length (reply some ruled (marked rows c.tree)) ≤ reply_limit)
 marked_replied rows c ms some ruled size out plan fits written =
@@ -73,16 +80,20 @@ marked_replied rows c ms some ruled size out plan fits written =
     replied some ruled (marked rows c.tree) size out (omega (arith, long, fits.0), omega (arith, long, fits.1)) written
 
 -- or it is too long
-pub marked_refused : (rows : List Row) (c : At) (ms : List Mark) (some ruled : Bool) (fault : ReplyFault) → IsPlan rows c ms
+pub marked_refused : (rows : List Row) (c : At) (ms : List Mark) (some ruled : Bool) (fault : ReplyFault)
+    → IsPlan rows c ms
     → SizesAs (length (doc_bytes c.tree) + added (growth_by rows) ms + 80) (Err fault)
     → RepliesAs (reply some ruled (marked rows c.tree)) (Err fault)
 marked_refused rows c ms some ruled fault plan told =
-    let long : length (reply some ruled (marked rows c.tree)) ≡ length (doc_bytes c.tree) + added (growth_by rows) ms + 80
+    let long : length (reply some ruled (marked rows c.tree))
+    ≡ length (doc_bytes c.tree) + added (growth_by rows) ms + 80
     = omega (arith, reply_size some ruled (marked rows c.tree), marked_size rows c ms plan) in
-    refused (reply some ruled (marked rows c.tree)) (length (doc_bytes c.tree) + added (growth_by rows) ms + 80) fault long told
+    refused (reply some ruled (marked rows c.tree))
+    (length (doc_bytes c.tree) + added (growth_by rows) ms + 80) fault long told
 
 -- the growth at a number is what the mark there adds
-pub added_at : (rows : List Row) (ms : List Mark) (i : ℕ) (m : Mark) (n : ℕ) (policy : Policy) → drop i ms ≡ m ∷ drop (i + 1) ms → n ≡ growth policy → policy ≡ policy_at m.policy rows
+pub added_at : (rows : List Row) (ms : List Mark) (i : ℕ) (m : Mark) (n : ℕ) (policy : Policy)
+    → drop i ms ≡ m ∷ drop (i + 1) ms → n ≡ growth policy → policy ≡ policy_at m.policy rows
     → added (growth_by rows) (drop i ms) ≡ n + added (growth_by rows) (drop (i + 1) ms)
 added_at rows ms i m n policy first grows is =
     ap (added (growth_by rows)) first

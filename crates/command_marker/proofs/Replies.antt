@@ -1,5 +1,6 @@
 -- A reply, part by part.
-use Rattle.std.proofs.Common.{◌≡◌, ◌∙◌, ℕ, ◌+◌, ◌≤◌, ◌<◌, List, [], ◌∷◌, ◌++◌, length, arith, ap, sym, subst, append_assoc, refl, Result, Err, ◌&&◌, not, true, false}
+use Rattle.std.proofs.Common.{◌≡◌, ◌∙◌, ℕ, ◌+◌, ◌≤◌, ◌<◌, List, [], ◌∷◌, ◌++◌, length, arith, ap, sym, subst}
+use Rattle.std.proofs.Common.{append_assoc, refl, Result, Err, ◌&&◌, not, true, false}
 use Rattle.std.specs.Prelude.{Bool, false, codes, nat_lt, Vec}
 use Rattle.std.specs.Global.{Global}
 use Rattle.std.proofs.lemmas.List.{length-map}
@@ -16,13 +17,15 @@ use Rattle.command_marker.specs.declared.stop.ReplyFault.{ReplyFault}
 use Rattle.command_marker.specs.declared.stop.ReplyFault.TheVariants as faults
 use Rattle.command_marker.specs.Marked.{marked}
 use Rattle.command_marker.specs.Commands.{passes}
-use Rattle.command_marker.specs.Reply.{is_ruled, flag, one, reply_fields, reply, reply_to, reply_clear_to, reply_limit, RepliesAs}
+use Rattle.command_marker.specs.Reply.{is_ruled, flag, one, reply_fields, reply, reply_to, reply_clear_to, reply_limit}
+use Rattle.command_marker.specs.Reply.{RepliesAs}
 use Rattle.command_marker.specs.Written.{SizesAs, reply_end, reply_head}
 use Rattle.command_marker.proofs.Frames.{one_item}
 use Rattle.bson_tree.proofs.Sizes.{framed_size, element_size}
 
 -- a reply has 80 bytes more than its command
-pub reply_size : (marked ruled : Bool) (command : Items) → length (reply marked ruled command) ≡ length (doc_bytes command) + 80
+pub reply_size : (marked ruled : Bool) (command : Items)
+    → length (reply marked ruled command) ≡ length (doc_bytes command) + 80
 unfolding reply_fields
 reply_size marked ruled command =
     let last = item (codes "ok") one no_items in
@@ -54,7 +57,8 @@ fields_parts marked ruled command =
     ∙ ap (λ (bytes : List ℕ). first ++ bytes) (one_item (codes "schemaRequiresEncryption") (flag ruled) third)
 
 joined : (l a b n d o : List ℕ) (t : ℕ)
-    → ((l ++ (a ++ (b ++ (t ∷ (n ++ 0 ∷ []))))) ++ d) ++ (o ++ 0 ∷ []) ≡ l ++ ((a ++ (b ++ (t ∷ (n ++ (0 ∷ (d ++ o)))))) ++ 0 ∷ [])
+    → ((l ++ (a ++ (b ++ (t ∷ (n ++ 0 ∷ []))))) ++ d) ++ (o ++ 0 ∷ [])
+    ≡ l ++ ((a ++ (b ++ (t ∷ (n ++ (0 ∷ (d ++ o)))))) ++ 0 ∷ [])
 joined l a b n d o t = simp append_assoc refl
 
 framed_by : ℕ → List ℕ → List ℕ
@@ -74,15 +78,19 @@ reply_parts marked ruled command size is =
     ∙ ap (λ (n : ℕ). framed_by n elements) long
 
 -- what was written is the reply
-pub replied : (marked ruled : Bool) (command : Items) (size : ℕ) (out : List ℕ) → (size ≡ length (doc_bytes command) + 80) × (length (doc_bytes command) + 80 ≤ reply_limit)
+pub replied : (marked ruled : Bool) (command : Items) (size : ℕ) (out : List ℕ)
+    → (size ≡ length (doc_bytes command) + 80) × (length (doc_bytes command) + 80 ≤ reply_limit)
     → out ≡ (reply_head size marked ruled ++ doc_bytes command) ++ reply_end
     → (out ≡ reply marked ruled command) × (length (reply marked ruled command) ≤ reply_limit)
 replied marked ruled command size out fits written =
-    let long = reply_size marked ruled command in
-    (written ∙ reply_parts marked ruled command size (fits.0 ∙ sym long), subst (λ (n : ℕ). n ≤ reply_limit) (sym long) fits.1)
+    let long = reply_size marked ruled command in (
+      written ∙ reply_parts marked ruled command size (fits.0 ∙ sym long),
+      subst (λ (n : ℕ). n ≤ reply_limit) (sym long) fits.1,
+    )
 
 -- or it is too long
-pub refused : (bytes : List ℕ) (size : ℕ) (fault : ReplyFault) → length bytes ≡ size → SizesAs size (Err fault) → RepliesAs bytes (Err fault)
+pub refused : (bytes : List ℕ) (size : ℕ) (fault : ReplyFault) → length bytes ≡ size → SizesAs size (Err fault)
+    → RepliesAs bytes (Err fault)
 refused bytes size faults.TooLong is long = subst (λ (n : ℕ). reply_limit < n) (sym is) long
 refused bytes size faults.Memory is long = absurd long
 
@@ -107,11 +115,17 @@ ruled_is : (rows : List Row) (c : Items) → passes c ≡ false → nat_lt 0 (le
 ruled_is rows c h = sym (ap (λ (b : Bool). nat_lt 0 (length rows) && not b) h ∙ and_true (nat_lt 0 (length rows)))
 
 -- the reply to a command with its marks
-pub marked_is : (rows others : List Row) (c d : At) (ms : List Mark) (result : Result (Vec ℕ Global) ReplyFault) → rows ≡ others → c ≡ d → ms ≡ roles others d.start d.tree → passes d.tree ≡ false
-    → RepliesAs (reply (nat_lt 0 (length ms)) (nat_lt 0 (length rows)) (marked rows c.tree)) result → RepliesAs (reply_to others d.tree) result
+pub marked_is : (rows others : List Row) (c d : At) (ms : List Mark) (result : Result (Vec ℕ Global) ReplyFault)
+    → rows ≡ others → c ≡ d → ms ≡ roles others d.start d.tree → passes d.tree ≡ false
+    → RepliesAs (reply (nat_lt 0 (length ms)) (nat_lt 0 (length rows)) (marked rows c.tree)) result
+    → RepliesAs (reply_to others d.tree) result
 unfolding reply_to
 marked_is rows others c d ms result p q e h told =
-    subst (λ (b : Bool). RepliesAs (reply (nat_lt 0 (length (roles others 0 d.tree))) b (marked others d.tree)) result) (ruled_is others d.tree h)
-    (subst (λ (n : ℕ). RepliesAs (reply (nat_lt 0 n) (nat_lt 0 (length others)) (marked others d.tree)) result) (ap length e ∙ as_many others d.start d.tree)
-    (subst (λ (x : At). RepliesAs (reply (nat_lt 0 (length ms)) (nat_lt 0 (length others)) (marked others x.tree)) result) q
-    (subst (λ (rs : List Row). RepliesAs (reply (nat_lt 0 (length ms)) (nat_lt 0 (length rs)) (marked rs c.tree)) result) p told)))
+    subst (λ (b : Bool). RepliesAs (reply (nat_lt 0 (length (roles others 0 d.tree))) b (marked others d.tree)) result)
+    (ruled_is others d.tree h)
+    (subst (λ (n : ℕ). RepliesAs (reply (nat_lt 0 n) (nat_lt 0 (length others)) (marked others d.tree)) result)
+    (ap length e ∙ as_many others d.start d.tree)
+    (subst (λ (x : At). RepliesAs (reply (nat_lt 0 (length ms)) (nat_lt 0 (length others)) (marked others x.tree))
+    result) q
+    (subst (λ (rs : List Row). RepliesAs (reply (nat_lt 0 (length ms)) (nat_lt 0 (length rs)) (marked rs c.tree))
+    result) p told)))

@@ -1,5 +1,6 @@
 -- What marks put into a document, in reading order, is what they put in by the offsets of values.
-use Rattle.std.proofs.Common.{◌≡◌, ℕ, ◌+◌, ◌<◌, ◌≤◌, Bool, true, false, List, [], ◌∷◌, length, Option, None, unwrap_or, refl, sym, ap, ◌∙◌, subst, arith}
+use Rattle.std.proofs.Common.{◌≡◌, ℕ, ◌+◌, ◌<◌, ◌≤◌, Bool, true, false, List, [], ◌∷◌, length, Option, None, unwrap_or}
+use Rattle.std.proofs.Common.{refl, sym, ap, ◌∙◌, subst, arith}
 use Rattle.std.proofs.lemmas.Bool.{eq-eqb, ne_eqb, ltb-false}
 use Rattle.std.specs.Prelude.{◌==◌}
 use Rattle.bson_tree.specs.Tree.{Tree, leaf, node, Items, no_items, item}
@@ -9,7 +10,8 @@ use Rattle.encrypt_schema.specs.declared.command.marks.Mark.{Mark}
 use Rattle.encrypt_schema.proofs.Commands.Widths.{items_length}
 use Rattle.bson_tree.proofs.Sizes.{framed_size}
 use Rattle.command_marker.specs.Splices.{begins, is_before, left_in, left, spliced_in, spliced, added, put_at}
-use Rattle.encrypt_schema.proofs.Commands.Plans.{TakesIn, own, raw, inside, Takes, done, next, AreBehind, IsNextBehind, earlier, behind, untouched}
+use Rattle.encrypt_schema.proofs.Commands.Plans.{TakesIn, own, raw, inside, Takes, done, next, AreBehind, IsNextBehind}
+use Rattle.encrypt_schema.proofs.Commands.Plans.{earlier, behind, untouched}
 
 -- ---- maps from offsets that are alike
 
@@ -17,7 +19,8 @@ use Rattle.encrypt_schema.proofs.Commands.Plans.{TakesIn, own, raw, inside, Take
 module _ (f g : ℕ → Tree → Option Tree) (from : ℕ) (agree : (q : ℕ) (u : Tree) → from < q → f q u ≡ g q u) where
   mutual
     alike_in : (at : ℕ) (t : Tree) → from < at → fill_tree f at t ≡ fill_tree g at t
-    alike_in at (leaf tag bytes) h = ap (λ (o : Option Tree). unwrap_or o (leaf tag bytes)) (agree at (leaf tag bytes) h)
+    alike_in at (leaf tag bytes) h = ap (λ (o : Option Tree). unwrap_or o (leaf tag bytes))
+        (agree at (leaf tag bytes) h)
     alike_in at (node tag is) h =
         ap (λ (o : Option Tree). unwrap_or o (node tag (fill_items f (at + 4) is))) (agree at (node tag is) h)
         ∙ ap (λ (js : Items). unwrap_or (g at (node tag is)) (node tag js)) (alike (at + 4) is (omega (arith, h)))
@@ -33,9 +36,11 @@ module _ (f g : ℕ → Tree → Option Tree) (from : ℕ) (agree : (q : ℕ) (u
 module _ (f : ℕ → Tree → Option Tree) (to : ℕ) (empty : (q : ℕ) (u : Tree) → q ≤ to → f q u ≡ None) where
   mutual
     same_in : (at : ℕ) (t : Tree) → at + length (value_bytes t) ≤ to → fill_tree f at t ≡ t
-    same_in at (leaf tag bytes) h = ap (λ (o : Option Tree). unwrap_or o (leaf tag bytes)) (empty at (leaf tag bytes) (omega (arith, h)))
+    same_in at (leaf tag bytes) h = ap (λ (o : Option Tree). unwrap_or o (leaf tag bytes))
+        (empty at (leaf tag bytes) (omega (arith, h)))
     same_in at (node tag is) h =
-        ap (λ (o : Option Tree). unwrap_or o (node tag (fill_items f (at + 4) is))) (empty at (node tag is) (omega (arith, h)))
+        ap (λ (o : Option Tree). unwrap_or o (node tag (fill_items f (at + 4) is)))
+        (empty at (node tag is) (omega (arith, h)))
         ∙ ap (node tag) (same (at + 4) is (omega (arith, h, framed_size (items_bytes is))))
 
     pub same : (at : ℕ) (is : Items) → at + length (items_bytes is) ≤ to → fill_items f at is ≡ is
@@ -69,16 +74,19 @@ module _ (put : Mark → Tree → Tree) where
         → at + length (items_bytes is) < q → put_at put ms q u ≡ put_at put rest q u
     passed (done at ms) q u h = refl
     passed (next at name t is ms mid rest d ds) q u h =
-        passed_in d q u (omega (arith, h, items_length name t is)) ∙ passed ds q u (omega (arith, h, items_length name t is))
+        passed_in d q u (omega (arith, h, items_length name t is))
+        ∙ passed ds q u (omega (arith, h, items_length name t is))
 
   -- ---- the splice
 
-  module _ (more : Mark → ℕ) (grows : (m : Mark) (t : Tree) → length (value_bytes (put m t)) ≡ length (value_bytes t) + more m) where
+  module _ (more : Mark → ℕ) (grows : (m : Mark) (t : Tree)
+      → length (value_bytes (put m t)) ≡ length (value_bytes t) + more m) where
     -- a splice puts in what its marks put in by offsets, leaves the marks behind, and is longer by what its marks add
     record SplicedIn (at : ℕ) (t : Tree) (ms rest : List Mark) : Type 0 where
       pub made : spliced_in put at ms t ≡ fill_tree (put_at put ms) at t
       pub rests : left_in at ms t ≡ rest
-      pub size : length (value_bytes (spliced_in put at ms t)) + added more rest ≡ length (value_bytes t) + added more ms
+      pub size : length (value_bytes (spliced_in put at ms t)) + added more rest
+          ≡ length (value_bytes t) + added more ms
 
     pub record Spliced (at : ℕ) (is : Items) (ms rest : List Mark) : Type 0 where
       pub made : spliced put at ms is ≡ fill_items (put_at put ms) at is
@@ -110,39 +118,52 @@ module _ (put : Mark → Tree → Tree) where
         record { made = rw (off, absent) refl; rests = rw off refl; size = rw off refl }
 
     -- a value inside which the next mark stands
-    of_open : (at tag : ℕ) (is : Items) (ms rest : List Mark) → begins at ms ≡ false → is_before (at + length (framed (items_bytes is))) ms ≡ true
+    of_open : (at tag : ℕ) (is : Items) (ms rest : List Mark) → begins at ms ≡ false
+        → is_before (at + length (framed (items_bytes is))) ms ≡ true
         → put_at put ms at (node tag is) ≡ None → Spliced (at + 4) is ms rest → SplicedIn at (node tag is) ms rest
     of_open at tag is ms rest off on absent s =
         record {
           made = rw (off, on, absent) (ap (node tag) s.made);
           rests = rw (off, on) s.rests;
-          size = rw (off, on) (omega (arith, s.size, framed_size (items_bytes is), framed_size (items_bytes (spliced put (at + 4) ms is))));
+          size = rw (off, on) (omega (
+            arith,
+            s.size,
+            framed_size (items_bytes is),
+            framed_size (items_bytes (spliced put (at + 4) ms is)),
+          ));
         }
 
     -- a value behind which the next mark stands
-    of_shut : (at tag : ℕ) (is : Items) (ms rest : List Mark) → begins at ms ≡ false → is_before (at + length (framed (items_bytes is))) ms ≡ false
+    of_shut : (at tag : ℕ) (is : Items) (ms rest : List Mark) → begins at ms ≡ false
+        → is_before (at + length (framed (items_bytes is))) ms ≡ false
         → ms ≡ rest → AreBehind (at + 4 + length (items_bytes is)) ms → SplicedIn at (node tag is) ms rest
     of_shut at tag is ms rest off shut e b =
         let absent = none_put ms at (node tag is) (earlier at (at + 4 + length (items_bytes is)) ms (omega arith) b) in
         let kept : fill_items (put_at put ms) (at + 4) is ≡ is =
-        same (put_at put ms) (at + 4 + length (items_bytes is)) (λ q u h. none_put ms q u (earlier q (at + 4 + length (items_bytes is)) ms h b)) (at + 4) is (omega arith) in
+        same (put_at put ms) (at + 4 + length (items_bytes is))
+        (λ q u h. none_put ms q u (earlier q (at + 4 + length (items_bytes is)) ms h b)) (at + 4) is
+        (omega arith) in
         record {
           made = rw (off, shut, absent) (ap (node tag) (sym kept));
           rests = rw (off, shut) e;
           size = rw (off, shut) (ap (λ (ns : List Mark). length (framed (items_bytes is)) + added more ns) (sym e));
         }
 
-    of_node : (at tag : ℕ) (is : Items) (ms rest : List Mark) (b : Bool) → is_before (at + length (framed (items_bytes is))) ms ≡ b
+    of_node : (at tag : ℕ) (is : Items) (ms rest : List Mark) (b : Bool)
+        → is_before (at + length (framed (items_bytes is))) ms ≡ b
         → Takes (at + 4) is ms rest → AreBehind (at + length (framed (items_bytes is))) rest → AreBehind at ms
         → Spliced (at + 4) is ms rest → SplicedIn at (node tag is) ms rest
     of_node at tag is ms rest true e d b c s =
         of_open at tag is ms rest (not_begun at ms c) e (none_put ms at (node tag is) c) s
     of_node at tag is ms rest false e d b c s =
-        let end : at + length (framed (items_bytes is)) ≡ at + 4 + length (items_bytes is) + 1 = omega (arith, framed_size (items_bytes is)) in
-        let first = not_before (at + 4 + length (items_bytes is)) ms (subst (λ (n : ℕ). is_before n ms ≡ false) end e) in
+        let end : at + length (framed (items_bytes is)) ≡ at + 4 + length (items_bytes is) + 1 =
+        omega (arith, framed_size (items_bytes is)) in
+        let first = not_before (at + 4 + length (items_bytes is)) ms
+        (subst (λ (n : ℕ). is_before n ms ≡ false) end e) in
         let all : ms ≡ rest = untouched d first in
         of_shut at tag is ms rest (not_begun at ms c) e all
-        (earlier (at + 4 + length (items_bytes is)) (at + length (framed (items_bytes is))) ms (omega (arith, end)) (subst (AreBehind (at + length (framed (items_bytes is)))) (sym all) b))
+        (earlier (at + 4 + length (items_bytes is)) (at + length (framed (items_bytes is))) ms (omega (arith, end))
+        (subst (AreBehind (at + length (framed (items_bytes is)))) (sym all) b))
 
     of_next : (at : ℕ) (name : List ℕ) (t : Tree) (is : Items) (ms mid rest : List Mark)
         → TakesIn (at + (2 + length name)) t ms mid
@@ -153,15 +174,25 @@ module _ (put : Mark → Tree → Tree) where
         let p = at + (2 + length name) in
         let q = p + length (value_bytes t) in
         let u = spliced_in put p ms t in
-        let on : spliced put q (left_in p ms t) is ≡ spliced put q mid is = ap (λ (ns : List Mark). spliced put q ns is) first.rests in
+        let on : spliced put q (left_in p ms t) is ≡ spliced put q mid is =
+        ap (λ (ns : List Mark). spliced put q ns is) first.rests in
         let behind : spliced put q mid is ≡ fill_items (put_at put ms) q is =
         others.made ∙ sym (alike (put_at put ms) (put_at put mid) q (λ k v h. passed_in d k v h) q is (omega arith)) in
-        let size : length (items_bytes (spliced put q (left_in p ms t) is)) ≡ length (items_bytes (spliced put q mid is)) = ap (λ (js : Items). length (items_bytes js)) on in
+        let size : length (items_bytes (spliced put q (left_in p ms t) is))
+        ≡ length (items_bytes (spliced put q mid is)) = ap (λ (js : Items). length (items_bytes js)) on in
         let a = first.made in
         record {
-          made = ap (λ (v : Tree). item name v (spliced put q (left_in p ms t) is)) a ∙ ap (item name (fill_tree (put_at put ms) p t)) (on ∙ behind);
+          made = ap (λ (v : Tree). item name v (spliced put q (left_in p ms t) is)) a
+              ∙ ap (item name (fill_tree (put_at put ms) p t)) (on ∙ behind);
           rests = ap (λ (ns : List Mark). left q ns is) first.rests ∙ others.rests;
-          size = omega (arith, first.size, others.size, size, items_length name t is, items_length name u (spliced put q (left_in p ms t) is));
+          size = omega (
+            arith,
+            first.size,
+            others.size,
+            size,
+            items_length name t is,
+            items_length name u (spliced put q (left_in p ms t) is),
+          );
         }
 
     mutual
@@ -171,7 +202,8 @@ module _ (put : Mark → Tree → Tree) where
       spliced_value (raw at tag bytes ms) b = of_raw at tag bytes ms (earlier at (at + length bytes) ms (omega arith) b)
       spliced_value (inside at tag is ms rest d) b =
           let low : AreBehind (at + 4 + length (items_bytes is)) rest =
-          earlier (at + 4 + length (items_bytes is)) (at + length (framed (items_bytes is))) rest (omega (arith, framed_size (items_bytes is))) b in
+          earlier (at + 4 + length (items_bytes is)) (at + length (framed (items_bytes is))) rest
+          (omega (arith, framed_size (items_bytes is))) b in
           of_node at tag is ms rest (is_before (at + length (framed (items_bytes is))) ms) refl d b
           (earlier at (at + 4) ms (omega arith) (behind d low))
           (spliced_items d low)
@@ -182,5 +214,6 @@ module _ (put : Mark → Tree → Tree) where
       spliced_items (done at ms) b = record { made = refl; rests = refl; size = refl }
       spliced_items (next at name t is ms mid rest d ds) b =
           let low : AreBehind (at + (2 + length name) + length (value_bytes t) + length (items_bytes is)) rest =
-          earlier (at + (2 + length name) + length (value_bytes t) + length (items_bytes is)) (at + length (items_bytes (item name t is))) rest (omega (arith, items_length name t is)) b in
+          earlier (at + (2 + length name) + length (value_bytes t) + length (items_bytes is))
+          (at + length (items_bytes (item name t is))) rest (omega (arith, items_length name t is)) b in
           of_next at name t is ms mid rest d (spliced_value d (behind ds low)) (spliced_items ds low)

@@ -1,5 +1,6 @@
 -- Refusals of a command's fields.
-use Rattle.std.proofs.Common.{◌≡◌, ◌==◌, ℕ, ◌+◌, Bool, true, false, cond, ◌||◌, ◌&&◌, not, codes, List, [], ◌∷◌, ◌++◌, length, Option, Some, None, Ok, Err, refl, sym, ap, ap₂, ◌∙◌}
+use Rattle.std.proofs.Common.{◌≡◌, ◌==◌, ℕ, ◌+◌, Bool, true, false, cond, ◌||◌, ◌&&◌, not, codes, List, [], ◌∷◌, ◌++◌}
+use Rattle.std.proofs.Common.{length, Option, Some, None, Ok, Err, refl, sym, ap, ap₂, ◌∙◌}
 use Rattle.std.proofs.lemmas.Bool.{false≢true}
 use Rattle.std.proofs.lemmas.Slice.Eq.{bytes_eq-Decides}
 use Rattle.bson_tree.specs.Tree.{Tree, Items, leaf, no_items, item, tag_of}
@@ -9,9 +10,12 @@ use Rattle.bson_codec.specs.Elements.{TakesElement}
 use Rattle.encrypt_schema.specs.declared.command.reason.Reason.{Reason}
 use Rattle.encrypt_schema.specs.declared.command.reason.Reason.TheVariants.{NotACommand, BadField, WrongDb}
 use Rattle.encrypt_schema.specs.Language.Names.{named, is_among}
-use Rattle.encrypt_schema.specs.Commands.Stations.{Entry, Station, Insert, Update, Delete, Find, Passed, Unknown, is_passed, command_of}
-use Rattle.encrypt_schema.specs.Commands.Offences.{when, least, text_of, is_db, is_empty, is_marked, is_string, of_field, target_offence}
-use Rattle.encrypt_schema.specs.Commands.Visits.{names_of, entry, raw_of, command_visit, command_visits, first_refusal, target_of, target_verdict, Refusal, refused_at, or_else}
+use Rattle.encrypt_schema.specs.Commands.Stations.{Entry, Station, Insert, Update, Delete, Find, Passed, Unknown}
+use Rattle.encrypt_schema.specs.Commands.Stations.{is_passed, command_of}
+use Rattle.encrypt_schema.specs.Commands.Offences.{when, least, text_of, is_db, is_empty, is_marked, is_string}
+use Rattle.encrypt_schema.specs.Commands.Offences.{of_field, target_offence}
+use Rattle.encrypt_schema.specs.Commands.Visits.{names_of, entry, raw_of, command_visit, command_visits, first_refusal}
+use Rattle.encrypt_schema.specs.Commands.Visits.{target_of, target_verdict, Refusal, refused_at, or_else}
 use Rattle.bson_codec.specs.Layout.{string_bytes}
 use Rattle.encrypt_schema.proofs.Language.Texts.{text_is}
 use Rattle.encrypt_schema.proofs.Commands.Fields.{fields_refusal, command_alone, target_anyhow, target_shallow}
@@ -26,7 +30,8 @@ use Rattle.encrypt_schema.specs.declared.command.marks.MarkFault.TheVariants as 
 
 -- what is wrong with a later field
 pub least_later : (name form other : Bool)
-    → least (when name BadField ++ when form BadField ++ when other WrongDb) ≡ cond (name || form) (Some BadField) (cond other (Some WrongDb) None)
+    → least (when name BadField ++ when form BadField ++ when other WrongDb)
+    ≡ cond (name || form) (Some BadField) (cond other (Some WrongDb) None)
 least_later true true true = refl
 least_later true true false = refl
 least_later true false true = refl
@@ -51,7 +56,8 @@ pub other_found : (t : Tree) (text word : List ℕ) → t ≡ leaf 2 (string_byt
     → not (named text word) ≡ ((tag_of t == 2) && not (named (text_of (raw_of t)) word))
 other_found t text word e = rw e (ap (λ (x : List ℕ). not (named x word)) (sym (text_is text)))
 
-pub other_none : (t : Tree) (word : List ℕ) → (tag_of t == 2) ≡ false → false ≡ ((tag_of t == 2) && not (named (text_of (raw_of t)) word))
+pub other_none : (t : Tree) (word : List ℕ) → (tag_of t == 2) ≡ false
+    → false ≡ ((tag_of t == 2) && not (named (text_of (raw_of t)) word))
 other_none t word e = ap (λ (b : Bool). b && not (named (text_of (raw_of t)) word)) (sym e)
 
 -- the station of a command by the tests of its name
@@ -68,9 +74,11 @@ marked_by false false false false false = refl
 
 -- which commands are marked
 pub marked_name : (name : List ℕ)
-    → is_marked_name name ≡ (named name (codes "insert") || (named name (codes "update") || (named name (codes "delete") || named name (codes "find"))))
+    → is_marked_name name ≡ (named name (codes "insert") ||
+    (named name (codes "update") || (named name (codes "delete") || named name (codes "find"))))
 marked_name name =
-    marked_by (named name (codes "insert")) (named name (codes "update")) (named name (codes "delete")) (named name (codes "find")) (is_passed name)
+    marked_by (named name (codes "insert")) (named name (codes "update")) (named name (codes "delete"))
+    (named name (codes "find")) (is_passed name)
 
 -- the names of elder siblings
 
@@ -132,8 +140,10 @@ later_reason db command others e =
     (again_db e.name others (not (is_string e)))
 
 -- later fields behind these
-later_fields : (db : List ℕ) (s : Station) (at : ℕ) (command : List ℕ) (others : List (List ℕ)) (is : Items) → is_marked s ≡ true
-    → fields_refusal (target_of db) s at (command ∷ others) is ≡ later_refusal db command (is_among (codes "$db") others) at is
+later_fields : (db : List ℕ) (s : Station) (at : ℕ) (command : List ℕ) (others : List (List ℕ)) (is : Items)
+    → is_marked s ≡ true
+    → fields_refusal (target_of db) s at (command ∷ others) is
+    ≡ later_refusal db command (is_among (codes "$db") others) at is
 later_fields db s at command others no_items h = refl
 later_fields db s at command others (item name t is) h =
     let behind = at + (2 + length name) + length (value_bytes t) in
@@ -143,12 +153,14 @@ later_fields db s at command others (item name t is) h =
     ∙ ap (λ (seen : Bool). later_refusal db command seen behind is) (seen_more others name))
 
 by_command : (db name : List ℕ) (t : Tree) (is : Items) (n m : ℕ) (i u d f p : Bool) → p ≡ false
-    → or_else (refused_at n (target_offence db (station_by i u d f p) [] (entry name t))) (fields_refusal (target_of db) (station_by i u d f p) m (name ∷ []) is)
+    → or_else (refused_at n (target_offence db (station_by i u d f p) [] (entry name t)))
+    (fields_refusal (target_of db) (station_by i u d f p) m (name ∷ []) is)
     ≡ or_else
     (refused_at n
     (least
     (when (not (is_marked (station_by i u d f p))) NotACommand
-    ++ when (is_marked (station_by i u d f p) && (not (is_string (entry name t)) || is_empty (text_of (entry name t).raw))) BadField)))
+    ++ when (is_marked (station_by i u d f p) && (not (is_string (entry name t)) || is_empty
+    (text_of (entry name t).raw))) BadField)))
     (later_refusal db name false m is)
 unfolding target_offence
 by_command db name t is n m true u d f p h = ap (or_else _) (later_fields db Insert m name [] is refl)
@@ -173,10 +185,12 @@ fields_told db at name t is h =
     command_alone (target_of db) [] at c (target_shallow db)
     ∙ ap (λ (r : Option Reason). or_else (refused_at 0 r) fields) (root_free db name t is)
     ∙ by_command db name t is (at + 4 + (2 + length name)) (at + 4 + (2 + length name) + length (value_bytes t))
-    (named name (codes "insert")) (named name (codes "update")) (named name (codes "delete")) (named name (codes "find")) (is_passed name) h
+    (named name (codes "insert")) (named name (codes "update")) (named name (codes "delete"))
+    (named name (codes "find")) (is_passed name) h
 
 -- the document without a field is no command
-pub target_none : (db : List ℕ) (at : ℕ) (c : Items) → c ≡ no_items → target_verdict db at c ≡ Some (record { reason = NotACommand; at = 0 })
+pub target_none : (db : List ℕ) (at : ℕ) (c : Items) → c ≡ no_items
+    → target_verdict db at c ≡ Some (record { reason = NotACommand; at = 0 })
 unfolding target_offence
 target_none db at c e = ap (target_verdict db at) e
 
@@ -190,26 +204,32 @@ passed_target db at c h =
     ∙ first_none (first_refusal (target_of db) (command_visits (rows_of [] c) at c)) _ (passing_verdict db [] at c h)
 
 -- a command that passes is told as one, and nothing of it is refused
-pub target_passes : (db : List ℕ) (c : At) (left rest : At) (e : Elem) → TakesElement left (Some e) rest → c.tree ≡ left.tree → is_passed e.name ≡ true
+pub target_passes : (db : List ℕ) (c : At) (left rest : At) (e : Elem) → TakesElement left (Some e) rest
+    → c.tree ≡ left.tree → is_passed e.name ≡ true
     → AimsAt db c (Ok targets.Pass)
 target_passes db c left rest e taken is h =
     let passed : passes c.tree ≡ true = ap passes (is ∙ taken.0) ∙ h in
     (passed_target db c.start c.tree passed, passed)
 
 -- the others by their fields
-pub target_read : (db : List ℕ) (at : ℕ) (c : Items) (left rest : At) (e : Elem) → TakesElement left (Some e) rest → c ≡ left.tree → left.start ≡ at + 4 → is_passed e.name ≡ false
+pub target_read : (db : List ℕ) (at : ℕ) (c : Items) (left rest : At) (e : Elem) → TakesElement left (Some e) rest
+    → c ≡ left.tree → left.start ≡ at + 4 → is_passed e.name ≡ false
     → target_verdict db at c
-    ≡ or_else (refused_at e.start (least (first_reasons (entry e.name e.tree)))) (later_refusal db e.name false rest.start rest.tree)
+    ≡ or_else (refused_at e.start (least (first_reasons (entry e.name e.tree))))
+    (later_refusal db e.name false rest.start rest.tree)
 target_read db at c left rest e taken is begun h =
     let first = least (first_reasons (entry e.name e.tree)) in
-    let start : at + 4 + (2 + length e.name) ≡ e.start = ap (λ (n : ℕ). n + (2 + length e.name)) (sym begun) ∙ sym taken.1 in
-    let behind : at + 4 + (2 + length e.name) + length (value_bytes e.tree) ≡ rest.start = ap (λ (n : ℕ). n + length (value_bytes e.tree)) start ∙ sym taken.2 in
+    let start : at + 4 + (2 + length e.name) ≡ e.start =
+    ap (λ (n : ℕ). n + (2 + length e.name)) (sym begun) ∙ sym taken.1 in
+    let behind : at + 4 + (2 + length e.name) + length (value_bytes e.tree) ≡ rest.start =
+    ap (λ (n : ℕ). n + length (value_bytes e.tree)) start ∙ sym taken.2 in
     ap (target_verdict db at) (is ∙ taken.0)
     ∙ fields_told db at e.name e.tree rest.tree h
     ∙ ap₂ (λ (n m : ℕ). or_else (refused_at n first) (later_refusal db e.name false m rest.tree)) start behind
 
 -- a command whose first field isn't refused is marked
-pub marked_left : (marked form : Bool) → None ≡ least (when (not marked) NotACommand ++ when form BadField) → marked ≡ true
+pub marked_left : (marked form : Bool) → None ≡ least (when (not marked) NotACommand ++ when form BadField)
+    → marked ≡ true
 marked_left true form p = refl
 marked_left false true p = absurd cc
 marked_left false false p = absurd cc
@@ -221,7 +241,8 @@ string_left marked true empty p = refl
 string_left true false empty p = absurd cc
 string_left false false empty p = absurd cc
 
-marked_name_read : (name : List ℕ) (names : List (List ℕ)) (b : Bool) → is_passed name ≡ b → is_marked (command_of (name ∷ names)) ≡ true → b ≡ false
+marked_name_read : (name : List ℕ) (names : List (List ℕ)) (b : Bool) → is_passed name ≡ b
+    → is_marked (command_of (name ∷ names)) ≡ true → b ≡ false
 marked_name_read name names true p m = absurd (false≢true (ap is_marked (sym (passed_command name names p)) ∙ m))
 marked_name_read name names false p m = refl
 
@@ -231,6 +252,7 @@ marked_read no_items m = absurd (false≢true m)
 marked_read (item name t is) m = marked_name_read name (names_of is) (is_passed name) refl m
 
 -- a refusal of the later fields is the command's
-pub aims_err : (db : List ℕ) (c : At) (refusal : Option Refusal) (fault : MarkFault) → target_verdict db c.start c.tree ≡ refusal → Refuses refusal (Err fault) → AimsAt db c (Err fault)
+pub aims_err : (db : List ℕ) (c : At) (refusal : Option Refusal) (fault : MarkFault)
+    → target_verdict db c.start c.tree ≡ refusal → Refuses refusal (Err fault) → AimsAt db c (Err fault)
 aims_err db c refusal (faults.Refused reason at) is told = is ∙ told
 aims_err db c refusal faults.Memory is told = told

@@ -1,29 +1,34 @@
 -- A refusal is told at the place that is refused.
-use Rattle.std.proofs.Common.{◌≡◌, ℕ, zero, suc, ◌+◌, List, [], ◌∷◌, ◌++◌, length, map, Option, Some, None, option_map, option_and_then, unwrap_or, refl, sym, ap, ap₂, ◌∙◌}
+use Rattle.std.proofs.Common.{◌≡◌, ℕ, zero, suc, ◌+◌, List, [], ◌∷◌, ◌++◌, length, map, Option, Some, None, option_map}
+use Rattle.std.proofs.Common.{option_and_then, unwrap_or, refl, sym, ap, ap₂, ◌∙◌}
 use Rattle.bson_tree.specs.Tree.{Tree, leaf, node, Items, no_items, item}
 use Rattle.bson_tree.specs.Spelling.{value_bytes}
 use Rattle.bson_tree.specs.Places.{start_in, start_from, start_of, places, place_of}
 use Rattle.bson_codec.proofs.Spots.{place_begun, place_of_head}
 use Rattle.encrypt_schema.specs.declared.command.reason.Reason.{Reason}
-use Rattle.encrypt_schema.specs.Commands.Chains.{Chain, onward, link, chain, chain_in, chain_from, visit_along, width_at, offence_at, refusal_at, first_of, first_refusal_at}
+use Rattle.encrypt_schema.specs.Commands.Chains.{Chain, onward, link, chain, chain_in, chain_from, visit_along}
+use Rattle.encrypt_schema.specs.Commands.Chains.{width_at, offence_at, refusal_at, first_of, first_refusal_at}
 use Rattle.encrypt_schema.specs.Language.Collection.{Collection}
 use Rattle.encrypt_schema.specs.Language.Row.{Row}
 use Rattle.encrypt_schema.specs.Commands.Skeletons.{skeleton}
 use Rattle.encrypt_schema.specs.Commands.Stations.{Outside}
-use Rattle.encrypt_schema.specs.Commands.Visits.{Visit, Refusal, refused_at, or_else, target_of, view_of, content_of, command_visits, verdict_on}
+use Rattle.encrypt_schema.specs.Commands.Visits.{Visit, Refusal, refused_at, or_else, target_of, view_of, content_of}
+use Rattle.encrypt_schema.specs.Commands.Visits.{command_visits, verdict_on}
 use Rattle.encrypt_schema.proofs.Commands.ByPlace.{refusal, verdict_by_place}
 use Rattle.encrypt_schema.proofs.Commands.Refused.{refused, refused_shown, equal_refusal_at}
 use Rattle.command_marker.specs.ToldPlaces.{told, told_first, told_else, first_refused_by, first_refused}
 
 -- a place at which no value begins has no chain
 mutual
-  no_chain_in : (elder : List (List ℕ)) (name place : List ℕ) (at : ℕ) (t : Tree) → start_in place at t ≡ None → chain_in elder name place t ≡ None
+  no_chain_in : (elder : List (List ℕ)) (name place : List ℕ) (at : ℕ) (t : Tree) → start_in place at t ≡ None
+      → chain_in elder name place t ≡ None
   no_chain_in elder name [] at t e = cc
   no_chain_in elder name (i ∷ place) at (leaf tag bytes) e = refl
   no_chain_in elder name (i ∷ place) at (node tag is) e =
       ap (option_map (onward (link elder name (node tag is)))) (no_chain_from [] i place (at + 4) is e)
 
-  no_chain_from : (elder : List (List ℕ)) (i : ℕ) (place : List ℕ) (at : ℕ) (is : Items) → start_from i place at is ≡ None → chain_from elder i place is ≡ None
+  no_chain_from : (elder : List (List ℕ)) (i : ℕ) (place : List ℕ) (at : ℕ) (is : Items)
+      → start_from i place at is ≡ None → chain_from elder i place is ≡ None
   no_chain_from elder i place at no_items e = refl
   no_chain_from elder zero place at (item name t is) e = no_chain_in elder name place (at + (2 + length name)) t e
   no_chain_from elder (suc i) place at (item name t is) e =
@@ -38,27 +43,34 @@ refused_there at (Some reason) r e = ap (λ (o : Option Refusal). unwrap_or (opt
 refused_where : (pass : Visit → Option Reason) (rows : List Row) (start width : ℕ) (o : Option Chain) (r : Refusal)
     → option_and_then (refusal pass) (option_map (visit_along rows Outside start width) o) ≡ Some r → r.at ≡ start
 refused_where pass rows start width None r e = absurd cc
-refused_where pass rows start width (Some links) r e = refused_there start (pass (visit_along rows Outside start width links)) r e
+refused_where pass rows start width (Some links) r e =
+    refused_there start (pass (visit_along rows Outside start width links)) r e
 
 -- what has no chain isn't refused
 unrefused : (pass : Visit → Option Reason) (rows : List Row) (start width : ℕ) (o : Option Chain) (r : Refusal)
     → o ≡ None → option_and_then (refusal pass) (option_map (visit_along rows Outside start width) o) ≡ Some r → ⊥
 unrefused pass rows start width o r none e =
-    let gone = sym (ap (λ (x : Option Chain). option_and_then (refusal pass) (option_map (visit_along rows Outside start width) x)) none) ∙ e in
+    let gone = sym (ap (λ (x : Option Chain). option_and_then (refusal pass)
+    (option_map (visit_along rows Outside start width) x)) none) ∙ e in
     cc
 
 -- by where the value begins
-told_by : (pass : Visit → Option Reason) (rows : List Row) (c : Items) (i : ℕ) (place : List ℕ) (r : Refusal) (o : Option ℕ) → start_of (i ∷ place) c ≡ o
+told_by : (pass : Visit → Option Reason) (rows : List Row) (c : Items) (i : ℕ) (place : List ℕ) (r : Refusal)
+    (o : Option ℕ) → start_of (i ∷ place) c ≡ o
     → refusal_at pass rows 0 c (i ∷ place) ≡ Some r → place_of r.at c ≡ i ∷ place
 told_by pass rows c i place r None none e =
-    absurd (unrefused pass rows (unwrap_or (start_of (i ∷ place) c) 0) (width_at (i ∷ place) (node 3 c)) (chain (i ∷ place) c) r
+    absurd (unrefused pass rows (unwrap_or (start_of (i ∷ place) c) 0) (width_at (i ∷ place) (node 3 c))
+    (chain (i ∷ place) c) r
     (no_chain_in [] [] (i ∷ place) 0 (node 3 c) none) e)
 told_by pass rows c i place r (Some start) begins e =
-    let at = refused_where pass rows (unwrap_or (start_of (i ∷ place) c) 0) (width_at (i ∷ place) (node 3 c)) (chain (i ∷ place) c) r e in
-    ap (λ (n : ℕ). place_of n c) (at ∙ ap (λ (x : Option ℕ). unwrap_or x 0) begins) ∙ place_begun start c (i ∷ place) begins
+    let at = refused_where pass rows (unwrap_or (start_of (i ∷ place) c) 0) (width_at (i ∷ place) (node 3 c))
+    (chain (i ∷ place) c) r e in
+    ap (λ (n : ℕ). place_of n c) (at ∙ ap (λ (x : Option ℕ). unwrap_or x 0) begins)
+    ∙ place_begun start c (i ∷ place) begins
 
 -- a refusal is told at the place that a pass refuses
-pub told_there : (pass : Visit → Option Reason) (rows : List Row) (c : Items) (place : List ℕ) (r : Refusal) → refusal_at pass rows 0 c place ≡ Some r
+pub told_there : (pass : Visit → Option Reason) (rows : List Row) (c : Items) (place : List ℕ) (r : Refusal)
+    → refusal_at pass rows 0 c place ≡ Some r
     → place_of r.at c ≡ place
 told_there pass rows c [] r e =
     let at = refused_where pass rows 0 (width_at [] (node 3 c)) (chain [] c) r e in
@@ -66,20 +78,24 @@ told_there pass rows c [] r e =
 told_there pass rows c (i ∷ place) r e = told_by pass rows c i place r (start_of (i ∷ place) c) refl e
 
 -- one place more
-told_next : (pass : Visit → Option Reason) (rows : List Row) (c : Items) (place : List ℕ) (o later : Option Refusal) (told_later : Option (List ℕ × Reason))
+told_next : (pass : Visit → Option Reason) (rows : List Row) (c : Items) (place : List ℕ) (o later : Option Refusal)
+    (told_later : Option (List ℕ × Reason))
     → refusal_at pass rows 0 c place ≡ o → option_map (told c) later ≡ told_later
     → option_map (told c) (or_else o later) ≡ told_first place o told_later
 told_next pass rows c place None later told_later e behind = behind
-told_next pass rows c place (Some r) later told_later e behind = ap (λ (p : List ℕ). Some (p, r.reason)) (told_there pass rows c place r e)
+told_next pass rows c place (Some r) later told_later e behind =
+    ap (λ (p : List ℕ). Some (p, r.reason)) (told_there pass rows c place r e)
 
 told_among : (pass : Visit → Option Reason) (rows : List Row) (c : Items) (ps : List (List ℕ))
     → option_map (told c) (first_of (map (refusal_at pass rows 0 c) ps)) ≡ first_refused_by pass rows c ps
 told_among pass rows c [] = refl
 told_among pass rows c (place ∷ ps) =
-    told_next pass rows c place (refusal_at pass rows 0 c place) (first_of (map (refusal_at pass rows 0 c) ps)) (first_refused_by pass rows c ps) refl (told_among pass rows c ps)
+    told_next pass rows c place (refusal_at pass rows 0 c place) (first_of (map (refusal_at pass rows 0 c) ps))
+    (first_refused_by pass rows c ps) refl (told_among pass rows c ps)
 
 -- one pass, else others
-told_either : (c : Items) (o later : Option Refusal) → option_map (told c) (or_else o later) ≡ told_else (option_map (told c) o) (option_map (told c) later)
+told_either : (c : Items) (o later : Option Refusal)
+    → option_map (told c) (or_else o later) ≡ told_else (option_map (told c) o) (option_map (told c) later)
 told_either c None later = refl
 told_either c (Some r) later = refl
 
@@ -105,7 +121,8 @@ offence_told db info rows c r e =
     ap (offence_at db info rows c) (told_there at.pass rows c at.place r at.is) ∙ at.offence
 
 -- of two commands with equal skeletons it is told at one place
-pub equal_told : (db : List ℕ) (info : Option Collection) (rows : List Row) (c d : Items) (r : Refusal) → skeleton rows c ≡ skeleton rows d
+pub equal_told : (db : List ℕ) (info : Option Collection) (rows : List Row) (c d : Items) (r : Refusal)
+    → skeleton rows c ≡ skeleton rows d
     → verdict_on db info rows (command_visits rows 0 c) ≡ Some r
     → place_of r.at c ≡ place_of r.at d
 equal_told db info rows c d r e h =

@@ -1,5 +1,6 @@
 -- Commands without a value that is marked stand in their replies as they are.
-use Rattle.std.proofs.Common.{◌≡◌, ℕ, ◌+◌, Bool, true, false, not, ◌&&◌, List, [], length, nat_lt, Option, None, unwrap_or, refl, ap, ap₂, ◌∙◌}
+use Rattle.std.proofs.Common.{◌≡◌, ℕ, ◌+◌, Bool, true, false, not, ◌&&◌, List, [], length, nat_lt, Option, None}
+use Rattle.std.proofs.Common.{unwrap_or, refl, ap, ap₂, ◌∙◌}
 use Rattle.std.proofs.lemmas.Bool.{false≢true}
 use Rattle.bson_tree.specs.Tree.{Tree, leaf, node, Items, no_items, item}
 use Rattle.bson_tree.specs.Filled.{fill_tree, fill_items}
@@ -16,13 +17,15 @@ use Rattle.command_marker.specs.Reply.{reply, reply_clear_to, reply_to}
 
 -- values put in nowhere change nothing
 mutual
-  same_tree : (f : ℕ → Tree → Option Tree) (h : (at : ℕ) (t : Tree) → f at t ≡ None) (at : ℕ) (t : Tree) → fill_tree f at t ≡ t
+  same_tree : (f : ℕ → Tree → Option Tree) (h : (at : ℕ) (t : Tree) → f at t ≡ None) (at : ℕ) (t : Tree)
+      → fill_tree f at t ≡ t
   same_tree f h at (leaf tag bytes) = ap (λ (o : Option Tree). unwrap_or o (leaf tag bytes)) (h at (leaf tag bytes))
   same_tree f h at (node tag is) =
       ap (λ (o : Option Tree). unwrap_or o (node tag (fill_items f (at + 4) is))) (h at (node tag is))
       ∙ ap (λ (js : Items). node tag js) (same_items f h (at + 4) is)
 
-  same_items : (f : ℕ → Tree → Option Tree) (h : (at : ℕ) (t : Tree) → f at t ≡ None) (at : ℕ) (is : Items) → fill_items f at is ≡ is
+  same_items : (f : ℕ → Tree → Option Tree) (h : (at : ℕ) (t : Tree) → f at t ≡ None) (at : ℕ) (is : Items)
+      → fill_items f at is ≡ is
   same_items f h at no_items = refl
   same_items f h at (item name t is) =
       let behind = at + (2 + length name) + length (value_bytes t) in
@@ -36,13 +39,15 @@ no_marking rows at t = refl
 marked_none : (rows : List Row) (c : Items) → roles rows 0 c ≡ [] → marked rows c ≡ c
 unfolding marked
 marked_none rows c h =
-    ap (λ (ms : List Mark). fill_items (marking_at rows ms) 4 c) h ∙ same_items (marking_at rows []) (no_marking rows) 4 c
+    ap (λ (ms : List Mark). fill_items (marking_at rows ms) 4 c) h
+    ∙ same_items (marking_at rows []) (no_marking rows) 4 c
 
 -- without rules the reply has both flags false and the command as it is
 pub reply_without_rules : (c : Items) → reply_to [] c ≡ reply_clear_to c
 unfolding reply_to reply_clear_to
 reply_without_rules c =
-    ap₂ (λ (ms : List Mark) (is : Items). reply (nat_lt 0 (length ms)) false is) (no_rows_no_roles 0 c) (marked_none [] c (no_rows_no_roles 0 c))
+    ap₂ (λ (ms : List Mark) (is : Items). reply (nat_lt 0 (length ms)) false is) (no_rows_no_roles 0 c)
+    (marked_none [] c (no_rows_no_roles 0 c))
 
 both_false : (b : Bool) → (b && false) ≡ false
 both_false true = refl
@@ -54,7 +59,8 @@ passing_roles rows at no_items h = absurd (false≢true h)
 passing_roles rows at (item name t is) h = passed_no_roles rows at name t is h
 
 -- and nothing is refused
-pub passing_verdict : (db : List ℕ) (collections : List Collection) (at : ℕ) (c : Items) → passes c ≡ true → verdict db collections at c ≡ None
+pub passing_verdict : (db : List ℕ) (collections : List Collection) (at : ℕ) (c : Items) → passes c ≡ true
+    → verdict db collections at c ≡ None
 passing_verdict db collections at no_items h = absurd (false≢true h)
 passing_verdict db collections at (item name t is) h =
     passed_no_refusal db (info_of collections (item name t is)) (rows_of collections (item name t is)) at name t is h
@@ -64,5 +70,7 @@ pub passing_reply : (rows : List Row) (c : Items) → passes c ≡ true → repl
 unfolding reply_to reply_clear_to
 passing_reply rows c h =
     ap (λ (b : Bool). reply (nat_lt 0 (length (roles rows 0 c))) (nat_lt 0 (length rows) && not b) (marked rows c)) h
-    ∙ ap (λ (b : Bool). reply (nat_lt 0 (length (roles rows 0 c))) b (marked rows c)) (both_false (nat_lt 0 (length rows)))
-    ∙ ap₂ (λ (ms : List Mark) (is : Items). reply (nat_lt 0 (length ms)) false is) (passing_roles rows 0 c h) (marked_none rows c (passing_roles rows 0 c h))
+    ∙ ap (λ (b : Bool). reply (nat_lt 0 (length (roles rows 0 c))) b (marked rows c))
+    (both_false (nat_lt 0 (length rows)))
+    ∙ ap₂ (λ (ms : List Mark) (is : Items). reply (nat_lt 0 (length ms)) false is) (passing_roles rows 0 c h)
+    (marked_none rows c (passing_roles rows 0 c h))

@@ -4,7 +4,8 @@ use Rattle.encrypt_schema.specs.declared.command.reason.Reason.{Reason}
 use Rattle.encrypt_schema.specs.declared.command.reason.Reason.TheVariants.{BadField, FieldNotAllowed}
 use Rattle.encrypt_schema.specs.Language.Row.{Row}
 use Rattle.encrypt_schema.specs.Commands.Offences.{ruled_offence}
-use Rattle.encrypt_schema.specs.Commands.Stations.{Entry, Station, Insert, Update, Delete, Find, Inserts, Updates, Deletes, UpdateItem, DeleteItem, Projection, station, has_role}
+use Rattle.encrypt_schema.specs.Commands.Stations.{Entry, Station, Insert, Update, Delete, Find, Inserts, Updates}
+use Rattle.encrypt_schema.specs.Commands.Stations.{Deletes, UpdateItem, DeleteItem, Projection, station, has_role}
 use Rattle.encrypt_schema.specs.Views.Walking.{station_next, StandsNext}
 use Rattle.encrypt_schema.specs.declared.command.walking.Next.{Next}
 use Rattle.encrypt_schema.specs.declared.command.walking.Next.TheVariants as nexts

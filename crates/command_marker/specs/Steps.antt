@@ -23,5 +23,6 @@ StepsAs rows ms next e (steps.Put m) =
 StepsAs rows ms next e (steps.Open document) =
     (e.tree ≡ node (tag_of e.tree) document.tree)
     × (e.start ≡ document.start)
-    × (spliced_in (marked_by rows) e.start (drop next ms) e.tree ≡ node (tag_of e.tree) (spliced (marked_by rows) (document.start + 4) (drop next ms) document.tree))
+    × (spliced_in (marked_by rows) e.start (drop next ms) e.tree
+    ≡ node (tag_of e.tree) (spliced (marked_by rows) (document.start + 4) (drop next ms) document.tree))
     × (left_in e.start (drop next ms) e.tree ≡ left (document.start + 4) (drop next ms) document.tree)

@@ -46,7 +46,8 @@ abbrev pub reply_head : ℕ → Bool → Bool → List ℕ
 reply_head size marked ruled =
     to_le_bytes w32 size
     ++ (items_bytes (item (codes "hasEncryptionPlaceholders") (flag marked) no_items)
-    ++ (items_bytes (item (codes "schemaRequiresEncryption") (flag ruled) no_items) ++ (3 ∷ (codes "result" ++ 0 ∷ []))))
+    ++ (items_bytes (item (codes "schemaRequiresEncryption") (flag ruled) no_items)
+    ++ (3 ∷ (codes "result" ++ 0 ∷ []))))
 
 -- the reply behind its command
 abbrev pub reply_end : List ℕ

@@ -108,7 +108,8 @@ pub(crate) fn judge_update_item(
     k: usize,
     item: &RawItem<'_>,
 ) -> Result<Next<CommandPlace>, Reason>
-    ensures judged { Judges rows.now UpdateItem (take k (names_of document.now.tree)) (entry item.now.name item.now.tree) result }
+    ensures judged { Judges rows.now UpdateItem (take k (names_of document.now.tree))
+        (entry item.now.name item.now.tree) result }
 {
     let name = item.name();
     if is_query(name) {
@@ -132,7 +133,8 @@ fn judge_change(
     item: &RawItem<'_>,
 ) -> Result<Next<CommandPlace>, Reason>
     requires change { named item.now.name (codes "u") ≡ true }
-    ensures judged { Judges rows.now UpdateItem (take k (names_of document.now.tree)) (entry item.now.name item.now.tree) result }
+    ensures judged { Judges rows.now UpdateItem (take k (names_of document.now.tree))
+        (entry item.now.name item.now.tree) result }
 {
     if stands_again(document, k, item) {
         return Err(Reason::BadField);

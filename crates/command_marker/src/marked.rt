@@ -31,11 +31,13 @@ impl<'a> Model for Marked<'a> {
     ghost use Rattle.encrypt_schema.specs.Language.Row.{Row};
     ghost use Rattle.encrypt_schema.specs.contracts.path.rows.Rows as rules;
 
-    ghost coded = { code_by (List Row × At) (coded× rules.the_row.coded coded_at) (λ m. (m.rows, m.command)) (λ p. record { rows = p.0; command = p.1 }) (λ _. refl) };
+    ghost coded = { code_by (List Row × At) (coded× rules.the_row.coded coded_at) (λ m. (m.rows, m.command))
+        (λ p. record { rows = p.0; command = p.1 }) (λ _. refl) };
 
     ghost view = { λ m. record { rows = m.rows.now; command = m.command } };
 
-    ghost invariant = { λ m. (m.marks ≡ roles m.rows.now m.command.start m.command.tree) × (content_verdict m.rows.now m.command.start m.command.tree ≡ None) × (passes m.command.tree ≡ false) };
+    ghost invariant = { λ m. (m.marks ≡ roles m.rows.now m.command.start m.command.tree)
+        × (content_verdict m.rows.now m.command.start m.command.tree ≡ None) × (passes m.command.tree ≡ false) };
 }
 
 impl<'a> Marked<'a> {

@@ -1,6 +1,7 @@
 //! The reply of a marking service: two flags, the command with its markings, and `ok`.
 
-ghost use Rattle.std.specs.Prelude.{◌≡◌, ◌<◌, ◌^◌, ◌∷◌, [], ◌++◌, codes, false, if◌then◌else◌, nat_lt, length, IfOk, OnOk};
+ghost use Rattle.std.specs.Prelude.{◌≡◌, ◌<◌, ◌^◌, ◌∷◌, [], ◌++◌, codes, false, if◌then◌else◌, nat_lt, length, IfOk};
+ghost use Rattle.std.specs.Prelude.{OnOk};
 ghost use Rattle.bson_tree.specs.Spelling.{doc_bytes, items_bytes};
 ghost use Rattle.bson_tree.specs.Tree.{item, no_items};
 ghost use Rattle.command_marker.specs.Marked.{marked as marked_command};
@@ -49,7 +50,8 @@ fn reply_by(
     command: &RawDoc<'_>,
 ) -> Result<Vec<u8>, ReplyFault>
     requires plan { IsPlan rows.now command.now marks.now }
-    ensures replies { RepliesAs (reply_bytes (nat_lt 0 (length marks.now)) (nat_lt 0 (length rows.now)) (marked_command rows.now command.now.tree)) result }
+    ensures replies { RepliesAs (reply_bytes (nat_lt 0 (length marks.now)) (nat_lt 0 (length rows.now))
+        (marked_command rows.now command.now.tree)) result }
 {
     match marked_size(rows, marks, command) {
         Ok(size) => {
@@ -70,7 +72,9 @@ fn write_marked(
 ) -> Result<Vec<u8>, Memory>
     requires plan { IsPlan rows.now command.now marks.now }
     requires few { length (doc_bytes (marked_command rows.now command.now.tree)) < 2 ^ 30 }
-    ensures parts { IfOk result (λ out. out.items ≡ (reply_head size (nat_lt 0 (length marks.now)) (nat_lt 0 (length rows.now)) ++ doc_bytes (marked_command rows.now command.now.tree)) ++ reply_end) }
+    ensures parts { IfOk result (λ out. out.items
+        ≡ (reply_head size (nat_lt 0 (length marks.now)) (nat_lt 0 (length rows.now))
+        ++ doc_bytes (marked_command rows.now command.now.tree)) ++ reply_end) }
 {
     let flags = Flags {
         marked: marks.len() > 0,
@@ -100,7 +104,8 @@ pub fn reply_clear(alloc: Global, command: &RawDoc<'_>) -> Result<Vec<u8>, Reply
 
 /// The reply of so many bytes in which a command stands as it is.
 fn write_clear(alloc: Global, size: u32, command: &RawDoc<'_>) -> Result<Vec<u8>, Memory>
-    ensures parts { IfOk result (λ out. out.items ≡ (reply_head size false false ++ doc_bytes command.now.tree) ++ reply_end) }
+    ensures parts { IfOk result (λ out. out.items
+        ≡ (reply_head size false false ++ doc_bytes command.now.tree) ++ reply_end) }
 {
     let flags = Flags {
         marked: false,
@@ -153,14 +158,16 @@ fn put_flag(out: &mut Vec<u8>, name: &[u8], set: bool) -> Result<(), Memory>
 
 /// Appends the flag that says whether a value is marked.
 fn put_marked_flag(out: &mut Vec<u8>, set: bool) -> Result<(), Memory>
-    ensures flag { OnOk result (out.new.items ≡ out.old.items ++ items_bytes (item (codes "hasEncryptionPlaceholders") (flag set) no_items)) }
+    ensures flag { OnOk result (out.new.items ≡ out.old.items
+        ++ items_bytes (item (codes "hasEncryptionPlaceholders") (flag set) no_items)) }
 {
     put_flag(out, b"hasEncryptionPlaceholders", set)
 }
 
 /// Appends the flag that says whether the schema has rules.
 fn put_ruled_flag(out: &mut Vec<u8>, set: bool) -> Result<(), Memory>
-    ensures flag { OnOk result (out.new.items ≡ out.old.items ++ items_bytes (item (codes "schemaRequiresEncryption") (flag set) no_items)) }
+    ensures flag { OnOk result (out.new.items ≡ out.old.items
+        ++ items_bytes (item (codes "schemaRequiresEncryption") (flag set) no_items)) }
 {
     put_flag(out, b"schemaRequiresEncryption", set)
 }

@@ -20,7 +20,8 @@ const AROUND_COMMAND: usize = 80;
 /// How many bytes the marking of this number adds to a command; none behind the last one.
 fn growth_at(rows: &Rows, marks: &Marks, i: usize) -> usize
     requires ruled { AreRuled rows.now marks.now }
-    ensures growth { added (growth_by rows.now) (drop i marks.now) ≡ result + added (growth_by rows.now) (drop (i + 1) marks.now) }
+    ensures growth { added (growth_by rows.now) (drop i marks.now)
+        ≡ result + added (growth_by rows.now) (drop (i + 1) marks.now) }
     ensures most { result ≤ 46 }
 {
     match next_mark(rows, marks, i) {

@@ -1,7 +1,8 @@
 //! A command with the markings of its protected values, written from its bytes: what isn't marked is copied as it
 //! stands.
 
-ghost use Rattle.std.specs.Prelude.{◌≡◌, ◌+◌, ◌<◌, ◌≤◌, ◌^◌, ◌++◌, [], ◌∷◌, length, drop, IfOk, IfSome, MatchOption, OnOk};
+ghost use Rattle.std.specs.Prelude.{◌≡◌, ◌+◌, ◌<◌, ◌≤◌, ◌^◌, ◌++◌, [], ◌∷◌, length, drop, IfOk, IfSome, MatchOption};
+ghost use Rattle.std.specs.Prelude.{OnOk};
 ghost use Rattle.bson_tree.specs.Spelling.{doc_bytes, items_bytes};
 ghost use Rattle.bson_tree.specs.Tree.{item as element, no_items};
 ghost use Rattle.encrypt_schema.specs.Language.Policies.{policy_at};
@@ -37,7 +38,8 @@ enum Step<'a> {
 /// The mark of this number, counted from 0.
 pub(crate) fn next_mark(rows: &Rows, marks: &Marks, next: usize) -> Option<Mark>
     requires ruled { AreRuled rows.now marks.now }
-    ensures first { MatchOption result (drop next marks.now ≡ []) (λ m. drop next marks.now ≡ m ∷ drop (next + 1) marks.now) }
+    ensures first { MatchOption result (drop next marks.now ≡ []) (λ m. drop next marks.now
+        ≡ m ∷ drop (next + 1) marks.now) }
     ensures inside { IfSome result (λ m. next < length marks.now) }
     ensures ruled { IfSome result (λ m. m.policy < length rows.now) }
 {
@@ -98,7 +100,8 @@ fn step_of<'a>(rows: &Rows, marks: &Marks, next: usize, item: &RawItem<'a>) -> S
 
 /// Appends an element as it stands.
 fn put_raw(out: &mut Vec<u8>, item: &RawItem<'_>) -> Result<(), Memory>
-    ensures element { OnOk result (out.new.items ≡ out.old.items ++ items_bytes (element item.now.name item.now.tree no_items)) }
+    ensures element { OnOk result (out.new.items ≡ out.old.items
+        ++ items_bytes (element item.now.name item.now.tree no_items)) }
 {
     put_name(out, item.tag(), item.name())?;
     append(out, item.value())?;
@@ -107,7 +110,8 @@ fn put_raw(out: &mut Vec<u8>, item: &RawItem<'_>) -> Result<(), Memory>
 
 /// Appends an element with the marking under this policy in the place of its value.
 fn put_marked(out: &mut Vec<u8>, policy: &Policy, item: &RawItem<'_>) -> Result<(), Memory>
-    ensures element { OnOk result (out.new.items ≡ out.old.items ++ items_bytes (element item.now.name (marked_value policy.now item.now.tree) no_items)) }
+    ensures element { OnOk result (out.new.items ≡ out.old.items
+        ++ items_bytes (element item.now.name (marked_value policy.now item.now.tree) no_items)) }
 {
     let size = item.value().len() + growth_of(policy) - BINARY_HEAD;
     put_name(out, types::BINARY, item.name())?;
@@ -128,8 +132,12 @@ fn put_item(
 ) -> Result<usize, Memory>
     requires ruled { AreRuled rows.now marks.now }
     requires few { length marks.now < 2 ^ 31 }
-    requires room { length out.old.items + length (items_bytes (element item.now.name (spliced_in (marked_by rows.now) item.now.start (drop next marks.now) item.now.tree) no_items)) < 2 ^ 31 }
-    ensures element { OnOk result (out.new.items ≡ out.old.items ++ items_bytes (element item.now.name (spliced_in (marked_by rows.now) item.now.start (drop next marks.now) item.now.tree) no_items)) }
+    requires room { length out.old.items + length
+        (items_bytes (element item.now.name (spliced_in (marked_by rows.now) item.now.start
+        (drop next marks.now) item.now.tree) no_items)) < 2 ^ 31 }
+    ensures element { OnOk result (out.new.items ≡ out.old.items
+        ++ items_bytes (element item.now.name (spliced_in (marked_by rows.now) item.now.start
+        (drop next marks.now) item.now.tree) no_items)) }
     ensures left { IfOk result (λ n. drop n marks.now ≡ left_in item.now.start (drop next marks.now) item.now.tree) }
 {
     match step_of(rows, marks, next, item) {
@@ -160,9 +168,14 @@ pub(crate) fn put_document(
 ) -> Result<usize, Memory>
     requires ruled { AreRuled rows.now marks.now }
     requires few { length marks.now < 2 ^ 31 }
-    requires room { length out.old.items + length (doc_bytes (spliced (marked_by rows.now) (document.now.start + 4) (drop next marks.now) document.now.tree)) < 2 ^ 31 }
-    ensures document { OnOk result (out.new.items ≡ out.old.items ++ doc_bytes (spliced (marked_by rows.now) (document.now.start + 4) (drop next marks.now) document.now.tree)) }
-    ensures left { IfOk result (λ n. drop n marks.now ≡ left (document.now.start + 4) (drop next marks.now) document.now.tree) }
+    requires room { length out.old.items + length
+        (doc_bytes (spliced (marked_by rows.now) (document.now.start + 4) (drop next marks.now) document.now.tree))
+        < 2 ^ 31 }
+    ensures document { OnOk result (out.new.items
+        ≡ out.old.items ++ doc_bytes (spliced (marked_by rows.now) (document.now.start + 4)
+        (drop next marks.now) document.now.tree)) }
+    ensures left { IfOk result (λ n. drop n marks.now
+        ≡ left (document.now.start + 4) (drop next marks.now) document.now.tree) }
 {
     let at = out.len();
     open(out)?;
@@ -183,9 +196,14 @@ fn put_items(
 ) -> Result<usize, Memory>
     requires ruled { AreRuled rows.now marks.now }
     requires few { length marks.now < 2 ^ 31 }
-    requires room { length out.old.items + length (items_bytes (spliced (marked_by rows.now) (document.now.start + 4) (drop next marks.now) document.now.tree)) < 2 ^ 31 }
-    ensures elements { OnOk result (out.new.items ≡ out.old.items ++ items_bytes (spliced (marked_by rows.now) (document.now.start + 4) (drop next marks.now) document.now.tree)) }
-    ensures left { IfOk result (λ n. drop n marks.now ≡ left (document.now.start + 4) (drop next marks.now) document.now.tree) }
+    requires room { length out.old.items + length
+        (items_bytes (spliced (marked_by rows.now) (document.now.start + 4) (drop next marks.now) document.now.tree))
+        < 2 ^ 31 }
+    ensures elements { OnOk result (out.new.items
+        ≡ out.old.items ++ items_bytes (spliced (marked_by rows.now) (document.now.start + 4)
+        (drop next marks.now) document.now.tree)) }
+    ensures left { IfOk result (λ n. drop n marks.now
+        ≡ left (document.now.start + 4) (drop next marks.now) document.now.tree) }
 {
     let mut behind = next;
     for item in document.items() {

@@ -108,7 +108,8 @@ fn name_in<'a>(field: &RawItem<'a>) -> &'a [u8]
 /// Whether a field is no string, or the empty one.
 #[tactic(auto, using(crate::proofs::Targets::empty_found, crate::proofs::Targets::empty_none))]
 fn names_nothing(field: &RawItem<'_>) -> bool
-    ensures { result ≡ (not (is_string (entry field.now.name field.now.tree)) || is_empty (text_of (raw_of field.now.tree))) }
+    ensures { result ≡ (not (is_string (entry field.now.name field.now.tree)) || is_empty
+        (text_of (raw_of field.now.tree))) }
 {
     match field.text() {
         Some(text) => is_empty(text),
@@ -119,7 +120,8 @@ fn names_nothing(field: &RawItem<'_>) -> bool
 /// Whether a field is a string that isn't this name.
 #[tactic(auto, using(crate::proofs::Targets::other_found, crate::proofs::Targets::other_none))]
 fn names_another(field: &RawItem<'_>, word: &[u8]) -> bool
-    ensures { result ≡ (is_string (entry field.now.name field.now.tree) && not (named (text_of (raw_of field.now.tree)) word.now)) }
+    ensures { result ≡ (is_string (entry field.now.name field.now.tree) && not
+        (named (text_of (raw_of field.now.tree)) word.now)) }
 {
     match field.text() {
         Some(text) => !is_named(text, word),

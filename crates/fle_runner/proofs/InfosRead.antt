@@ -1,5 +1,6 @@
 -- A file of collection infos is read by what it is.
-use Rattle.std.proofs.Common.{◌≡◌, ℕ, ◌≤◌, Bool, true, false, cond, nat_lt, Some, Result, Ok, Err, List, length, refl, sym, ap, ◌∙◌, subst, arith}
+use Rattle.std.proofs.Common.{◌≡◌, ℕ, ◌≤◌, Bool, true, false, cond, nat_lt, Some, Result, Ok, Err, List, length, refl}
+use Rattle.std.proofs.Common.{sym, ap, ◌∙◌, subst, arith}
 use Rattle.std.proofs.lemmas.Bool.Decides.{nat_tests}
 use Rattle.encrypt_schema.specs.Language.Collection.{Collection}
 use Rattle.encrypt_schema.specs.Language.Collections.{Faulty, collections}
@@ -19,17 +20,20 @@ pub read_as_json : (bytes : List ℕ) (result : Result (List Collection) InfosFa
     → ReadsAs (json_read (json_infos bytes)) result → ReadsAs (infos_read bytes) result
 unfolding infos_read
 read_as_json bytes result is reads =
-    subst (λ (b : Bool). ReadsAs (cond b (json_read (json_infos bytes)) (bson_read (collections bytes))) result) (sym is) reads
+    subst (λ (b : Bool). ReadsAs (cond b (json_read (json_infos bytes)) (bson_read (collections bytes))) result)
+    (sym is) reads
 
 pub read_as_bson : (bytes : List ℕ) (result : Result (List Collection) InfosFault) → is_json bytes ≡ false
     → ReadsAs (bson_read (collections bytes)) result → ReadsAs (infos_read bytes) result
 unfolding infos_read
 read_as_bson bytes result is reads =
-    subst (λ (b : Bool). ReadsAs (cond b (json_read (json_infos bytes)) (bson_read (collections bytes))) result) (sym is) reads
+    subst (λ (b : Bool). ReadsAs (cond b (json_read (json_infos bytes)) (bson_read (collections bytes))) result)
+    (sym is) reads
 
 -- ---- a file in JSON is its documents in BSON
 
-json_is : (json bson : List ℕ) → is_json json ≡ true → json_infos json ≡ Ok bson → infos_read json ≡ bson_read (collections bson)
+json_is : (json bson : List ℕ) → is_json json ≡ true → json_infos json ≡ Ok bson
+    → infos_read json ≡ bson_read (collections bson)
 unfolding infos_read
 json_is json bson is gives =
     ap (λ (b : Bool). cond b (json_read (json_infos json)) (bson_read (collections json))) is ∙ ap json_read gives
@@ -43,10 +47,12 @@ loaded db bytes fits =
     let short : nat_lt infos_limit (length bytes) ≡ false = grind (arith, nat_tests) in
     ap (λ (b : Bool). cond b (fails (finishes.Setup 1 setups.TooLong 0)) (infos_task db (infos_read bytes))) short
 
-pub json_marks : (db json bson : List ℕ) → length json ≤ infos_limit → length bson ≤ infos_limit → is_json json ≡ true → is_json bson ≡ false
+pub json_marks : (db json bson : List ℕ) → length json ≤ infos_limit → length bson ≤ infos_limit → is_json json ≡ true
+    → is_json bson ≡ false
     → json_infos json ≡ Ok bson → mark_task db (Some json) ≡ mark_task db (Some bson)
 json_marks db json bson fits fits2 is isnt gives =
-    loaded db json fits ∙ (ap (infos_task db) (json_is json bson is gives ∙ sym (bson_is bson isnt)) ∙ sym (loaded db bson fits2))
+    loaded db json fits ∙ (ap (infos_task db) (json_is json bson is gives ∙ sym (bson_is bson isnt))
+    ∙ sym (loaded db bson fits2))
 
 -- ---- no file comes to want of memory
 
@@ -54,13 +60,15 @@ bson_read_never : (given : Result (List Collection) Faulty) → bson_read given 
 bson_read_never (Ok infos) e = cc
 bson_read_never (Err faulty) e = cc
 
-json_read_never : (given : Result (List ℕ) JsonFault) → (given ≡ Err json_faults.Memory → ⊥) → json_read given ≡ Err infos_faults.Memory → ⊥
+json_read_never : (given : Result (List ℕ) JsonFault) → (given ≡ Err json_faults.Memory → ⊥)
+    → json_read given ≡ Err infos_faults.Memory → ⊥
 json_read_never (Ok bson) never e = bson_read_never (collections bson) e
 json_read_never (Err json_faults.Syntax) never e = cc
 json_read_never (Err (json_faults.Form document)) never e = cc
 json_read_never (Err json_faults.Memory) never e = never refl
 
-read_never : (b : Bool) (given : Result (List ℕ) JsonFault) (other : Result (List Collection) Faulty) → (given ≡ Err json_faults.Memory → ⊥)
+read_never : (b : Bool) (given : Result (List ℕ) JsonFault) (other : Result (List Collection) Faulty)
+    → (given ≡ Err json_faults.Memory → ⊥)
     → cond b (json_read given) (bson_read other) ≡ Err infos_faults.Memory → ⊥
 read_never true given other never e = json_read_never given never e
 read_never false given other never e = bson_read_never other e

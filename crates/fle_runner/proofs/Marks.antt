@@ -1,5 +1,6 @@
 -- A file of collection infos is at fault, or there was no memory for it; and what a reply makes of a judgement.
-use Rattle.std.proofs.Common.{◌≡◌, ◌<◌, ◌≤◌, ℕ, Bool, true, false, nat_lt, cond, Option, Some, None, Result, Err, List, [], length, Vec, Global, refl, ◌∙◌, ap, arith}
+use Rattle.std.proofs.Common.{◌≡◌, ◌<◌, ◌≤◌, ℕ, Bool, true, false, nat_lt, cond, Option, Some, None, Result, Err, List}
+use Rattle.std.proofs.Common.{[], length, Vec, Global, refl, ◌∙◌, ap, arith}
 use Rattle.std.proofs.lemmas.Bool.Decides.{nat_tests}
 use Rattle.bson_tree.specs.Tree.{Items}
 use Rattle.command_marker.specs.Reply.{reply_limit, reply_to}
@@ -23,14 +24,20 @@ use Rattle.fle_stream.specs.declared.why.SetupFault.TheVariants as setups
 use Rattle.fle_stream.specs.declared.why.Why.TheVariants as whys
 use Rattle.fle_stream.proofs.Programs.{did_task, did_fail, did_memory, ends_task}
 
-pub did_infos : (t : Task) (db : List ℕ) (read : Result (List Collection) InfosFault) (fault : InfosFault) (told : List ℕ) (after : Option (List ℕ)) (entropy : EntropySeen) (out : SinkSeen)
-    → t ≡ infos_task db read → ReadsAs read (Err fault) → after ≡ Some told → Did t told after entropy entropy out out 0 (infos_why fault)
+pub did_infos : (t : Task) (db : List ℕ) (read : Result (List Collection) InfosFault) (fault : InfosFault)
+    (told : List ℕ) (after : Option (List ℕ)) (entropy : EntropySeen) (out : SinkSeen)
+    → t ≡ infos_task db read → ReadsAs read (Err fault) → after ≡ Some told
+    → Did t told after entropy entropy out out 0 (infos_why fault)
 did_infos t db read (faults.Bad number document) told after entropy out from is left =
-    did_task (from ∙ ap (λ (x : Result (List Collection) InfosFault). infos_task db x) is) (did_fail (finishes.Setup 1 (setups.Contents number) document) told after entropy out left)
+    did_task (from ∙ ap (λ (x : Result (List Collection) InfosFault). infos_task db x) is)
+    (did_fail (finishes.Setup 1 (setups.Contents number) document) told after entropy out left)
 did_infos t db read faults.Memory told after entropy out from is left = did_memory t told after entropy out left
 
-pub ends_infos : (t : Task) (db : List ℕ) (read : Result (List Collection) InfosFault) (fault : InfosFault) → t ≡ infos_task db read → ReadsAs read (Err fault) → EndsAs t (infos_why fault)
-ends_infos t db read (faults.Bad number document) from is = ends_task (whys.Finished (finishes.Setup 1 (setups.Contents number) document)) (from ∙ ap (λ (x : Result (List Collection) InfosFault). infos_task db x) is) refl
+pub ends_infos : (t : Task) (db : List ℕ) (read : Result (List Collection) InfosFault) (fault : InfosFault)
+    → t ≡ infos_task db read → ReadsAs read (Err fault) → EndsAs t (infos_why fault)
+ends_infos t db read (faults.Bad number document) from is =
+    ends_task (whys.Finished (finishes.Setup 1 (setups.Contents number) document))
+    (from ∙ ap (λ (x : Result (List Collection) InfosFault). infos_task db x) is) refl
 ends_infos t db read faults.Memory from is = tt
 
 -- no reply draws a block
@@ -47,19 +54,24 @@ unfolding mark_verdict
 mark_draws infos db = λ c. verdict_draws c (reply_to (rows_of infos c) c) (verdict db infos 0 c)
 
 -- the reply is written, or above its limit
-by_size : (b : Bool) (bytes : List ℕ) (e : EntropySeen) → b ≡ true → JudgeIs (cond b too_long (writes (plain_plan bytes))) e e judgements.TooLong
+by_size : (b : Bool) (bytes : List ℕ) (e : EntropySeen) → b ≡ true
+    → JudgeIs (cond b too_long (writes (plain_plan bytes))) e e judgements.TooLong
 by_size true bytes e is = draws_none e
 by_size false bytes e is = cc
 
-pub reply_too_long : (bytes : List ℕ) (e : EntropySeen) → reply_limit < length bytes → JudgeIs (sized bytes) e e judgements.TooLong
+pub reply_too_long : (bytes : List ℕ) (e : EntropySeen) → reply_limit < length bytes
+    → JudgeIs (sized bytes) e e judgements.TooLong
 reply_too_long bytes e above = by_size (nat_lt reply_limit (length bytes)) bytes e (grind (arith, nat_tests))
 
-by_fit : (b : Bool) (bytes : List ℕ) (output : Vec ℕ Global) (e : EntropySeen) → b ≡ false → output.items ≡ bytes → JudgeIs (cond b too_long (writes (plain_plan bytes))) e e (judgements.Written output)
+by_fit : (b : Bool) (bytes : List ℕ) (output : Vec ℕ Global) (e : EntropySeen) → b ≡ false → output.items ≡ bytes
+    → JudgeIs (cond b too_long (writes (plain_plan bytes))) e e (judgements.Written output)
 by_fit true bytes output e is same = cc
 by_fit false bytes output e is same = ([], refl, draws_none e, same, refl)
 
-pub reply_written : (bytes : List ℕ) (output : Vec ℕ Global) (e : EntropySeen) → output.items ≡ bytes → length bytes ≤ reply_limit → JudgeIs (sized bytes) e e (judgements.Written output)
-reply_written bytes output e same fits = by_fit (nat_lt reply_limit (length bytes)) bytes output e (grind (arith, nat_tests)) same
+pub reply_written : (bytes : List ℕ) (output : Vec ℕ Global) (e : EntropySeen) → output.items ≡ bytes
+    → length bytes ≤ reply_limit → JudgeIs (sized bytes) e e (judgements.Written output)
+reply_written bytes output e same fits = by_fit (nat_lt reply_limit (length bytes)) bytes output e
+    (grind (arith, nat_tests)) same
 
 -- there was no memory, whatever the document comes to
 pub judged_memory : (v : Verdict) (e : EntropySeen) → JudgeIs v e e judgements.Memory

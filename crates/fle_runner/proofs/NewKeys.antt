@@ -1,5 +1,6 @@
 -- New keys: how long their documents are, and that they can be written.
-use Rattle.std.proofs.Common.{◌≡◌, ℕ, ◌+◌, ◌*◌, ◌/◌, ◌<◌, ◌≤◌, Option, Some, Result, Err, List, [], ◌∷◌, ◌++◌, length, refl, sym, ◌∙◌, ap, subst, arith, length-append}
+use Rattle.std.proofs.Common.{◌≡◌, ℕ, ◌+◌, ◌*◌, ◌/◌, ◌<◌, ◌≤◌, Option, Some, Result, Err, List, [], ◌∷◌, ◌++◌, length}
+use Rattle.std.proofs.Common.{refl, sym, ◌∙◌, ap, subst, arith, length-append}
 use Rattle.std.specs.Prelude.{codes, decimal}
 use Rattle.bson_tree.specs.Tree.{Tree, Items, node, no_items, item}
 use Rattle.bson_tree.specs.Spelling.{doc_bytes, items_bytes, value_bytes}
@@ -7,7 +8,8 @@ use Rattle.data_key.specs.Written.{binary, history, key_fields, names_field, num
 use Rattle.data_key.specs.declared.key_doc.KeyDoc.{KeyDoc}
 use Rattle.data_key.proofs.Sizes.{binary_size, element_size, framed_size}
 use Rattle.fle_outside.specs.Seen.{EntropySeen, SinkSeen}
-use Rattle.fle_runner.specs.Keygen.{IsOfKey, blank_key, document_size, keygen_plan, master_number, master_task, master_why}
+use Rattle.fle_runner.specs.Keygen.{IsOfKey, blank_key, document_size, keygen_plan, master_number, master_task}
+use Rattle.fle_runner.specs.Keygen.{master_why}
 use Rattle.fle_stream.specs.Did.{Did}
 use Rattle.fle_stream.specs.Ended.{EndsAs}
 use Rattle.fle_stream.specs.Plan.{Plan, draws_of, size_of as outputs_size}
@@ -42,7 +44,14 @@ document_long key now sixteen long =
     let ours = item (codes "keyMaterial") (binary 0 key.material) last in
     let zeros = item (codes "keyMaterial") (binary 0 blank.material) last in
     let behind : length (items_bytes ours) ≡ length (items_bytes zeros) =
-    omega (arith, long, element_size (codes "keyMaterial") (binary 0 key.material) last, element_size (codes "keyMaterial") (binary 0 blank.material) last, binary_size 0 key.material, binary_size 0 blank.material) in
+    omega (
+      arith,
+      long,
+      element_size (codes "keyMaterial") (binary 0 key.material) last,
+      element_size (codes "keyMaterial") (binary 0 blank.material) last,
+      binary_size 0 key.material,
+      binary_size 0 blank.material,
+    ) in
     omega (
       arith,
       sixteen,
@@ -56,14 +65,19 @@ document_long key now sixteen long =
     )
 
 -- a master key's file is at fault
-pub did_master : (t : Task) (names : List (List ℕ)) (now : ℕ) (read : Result (List ℕ) MasterFault) (fault : MasterFault) (told : List ℕ) (after : Option (List ℕ)) (entropy : EntropySeen) (out : SinkSeen)
-    → t ≡ master_task names now read → Err fault ≡ read → after ≡ Some told → Did t told after entropy entropy out out 0 (master_why fault)
+pub did_master : (t : Task) (names : List (List ℕ)) (now : ℕ) (read : Result (List ℕ) MasterFault) (fault : MasterFault)
+    (told : List ℕ) (after : Option (List ℕ)) (entropy : EntropySeen) (out : SinkSeen)
+    → t ≡ master_task names now read → Err fault ≡ read → after ≡ Some told
+    → Did t told after entropy entropy out out 0 (master_why fault)
 did_master t names now read fault told after entropy out from is left =
-    did_task (from ∙ ap (λ (r : Result (List ℕ) MasterFault). master_task names now r) (sym is)) (did_fail (finishes.Setup 1 (setups.Contents (master_number fault)) 0) told after entropy out left)
+    did_task (from ∙ ap (λ (r : Result (List ℕ) MasterFault). master_task names now r) (sym is))
+    (did_fail (finishes.Setup 1 (setups.Contents (master_number fault)) 0) told after entropy out left)
 
-pub ends_master : (t : Task) (names : List (List ℕ)) (now : ℕ) (read : Result (List ℕ) MasterFault) (fault : MasterFault) → t ≡ master_task names now read → Err fault ≡ read → EndsAs t (master_why fault)
+pub ends_master : (t : Task) (names : List (List ℕ)) (now : ℕ) (read : Result (List ℕ) MasterFault)
+    (fault : MasterFault) → t ≡ master_task names now read → Err fault ≡ read → EndsAs t (master_why fault)
 ends_master t names now read fault from is =
-    ends_task (master_why fault) (from ∙ ap (λ (r : Result (List ℕ) MasterFault). master_task names now r) (sym is)) refl
+    ends_task (master_why fault) (from ∙ ap (λ (r : Result (List ℕ) MasterFault). master_task names now r) (sym is))
+    refl
 
 -- a key was made
 pub ends_key : (plan : Plan) (why : Why) → IsOfKey why → EndsAs (makes plan) why
@@ -74,8 +88,10 @@ ends_key plan (whys.Cut cuts.Output) kind = tt
 ends_key plan (whys.Cut cuts.Entropy) kind = tt
 ends_key plan (whys.Cut cuts.Memory) kind = tt
 
-pub key_size : (t : Task) (told : List ℕ) (names : List (List ℕ)) (now : ℕ) (master : List ℕ) → t ≡ makes (keygen_plan names now master) → outputs_size (outcome_of t told).outputs ≡ document_size names now
+pub key_size : (t : Task) (told : List ℕ) (names : List (List ℕ)) (now : ℕ) (master : List ℕ)
+    → t ≡ makes (keygen_plan names now master) → outputs_size (outcome_of t told).outputs ≡ document_size names now
 key_size t told names now master is = ap (λ (x : Task). outputs_size (outcome_of x told).outputs) is ∙ omega arith
 
-pub key_draws : (t : Task) (told : List ℕ) (names : List (List ℕ)) (now : ℕ) (master : List ℕ) → t ≡ makes (keygen_plan names now master) → draws_of (outcome_of t told).outputs ≡ 8
+pub key_draws : (t : Task) (told : List ℕ) (names : List (List ℕ)) (now : ℕ) (master : List ℕ)
+    → t ≡ makes (keygen_plan names now master) → draws_of (outcome_of t told).outputs ≡ 8
 key_draws t told names now master is = ap (λ (x : Task). draws_of (outcome_of x told).outputs) is

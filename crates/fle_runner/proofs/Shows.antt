@@ -25,20 +25,26 @@ show_draws = λ is. shown_draws is (first_bad 0 is)
 bad_at : (is : Items) (start : ℕ) (bad : Option ℕ) → start ≡ 0 → bad ≡ first_bad start is → bad ≡ first_bad 0 is
 bad_at is start bad whole found = found ∙ ap (λ (n : ℕ). first_bad n is) whole
 
-pub place_told : (is : Items) (start at : ℕ) (place : List ℕ) (e : EntropySeen) → start ≡ 0 → Some at ≡ first_bad start is → place ≡ place_of at is
+pub place_told : (is : Items) (start at : ℕ) (place : List ℕ) (e : EntropySeen) → start ≡ 0
+    → Some at ≡ first_bad start is → place ≡ place_of at is
     → JudgeIs (show_verdict is) e e (judgements.Refused not_text place)
 unfolding show_verdict
 place_told is start at place e whole found stands =
-    subst (λ (bad : Option ℕ). JudgeIs (shown_by is bad) e e (judgements.Refused not_text place)) (bad_at is start (Some at) whole found) (refl, sym stands, draws_none e)
+    subst (λ (bad : Option ℕ). JudgeIs (shown_by is bad) e e (judgements.Refused not_text place))
+    (bad_at is start (Some at) whole found) (refl, sym stands, draws_none e)
 
-pub line_told : (is : Items) (start : ℕ) (line : Vec ℕ Global) (e : EntropySeen) → start ≡ 0 → None ≡ first_bad start is → line.items ≡ text_line is
+pub line_told : (is : Items) (start : ℕ) (line : Vec ℕ Global) (e : EntropySeen) → start ≡ 0 → None ≡ first_bad start is
+    → line.items ≡ text_line is
     → JudgeIs (show_verdict is) e e (judgements.Written line)
 unfolding show_verdict
 line_told is start line e whole found same =
-    subst (λ (bad : Option ℕ). JudgeIs (shown_by is bad) e e (judgements.Written line)) (bad_at is start None whole found) ([], refl, draws_none e, same, refl)
+    subst (λ (bad : Option ℕ). JudgeIs (shown_by is bad) e e (judgements.Written line))
+    (bad_at is start None whole found) ([], refl, draws_none e, same, refl)
 
 -- what was gathered from nothing is the two pieces
-pub gathered : (empty now last first second : List ℕ) → empty ≡ [] → Gains (Some empty) (Some now) first → Gains (Some now) (Some last) second → last ≡ first ++ second
+pub gathered : (empty now last first second : List ℕ) → empty ≡ [] → Gains (Some empty) (Some now) first
+    → Gains (Some now) (Some last) second → last ≡ first ++ second
 gathered empty now last first second is one two =
     some_is last (now ++ second) (two now refl)
-    ∙ ap (λ (x : List ℕ). x ++ second) (some_is now (empty ++ first) (one empty refl) ∙ ap (λ (x : List ℕ). x ++ first) is)
+    ∙ ap (λ (x : List ℕ). x ++ second) (some_is now (empty ++ first) (one empty refl)
+    ∙ ap (λ (x : List ℕ). x ++ first) is)

@@ -18,14 +18,20 @@ use Rattle.key_vault.specs.Loading.{Faulty, Loads}
 use Rattle.key_vault.specs.declared.faults.VaultFault.{VaultFault}
 use Rattle.key_vault.specs.declared.faults.VaultFault.TheVariants as faults
 
-pub did_vault : (t : Task) (read : Result (List KeyDoc) Faulty) (fault : VaultFault) (told : List ℕ) (after : Option (List ℕ)) (entropy : EntropySeen) (out : SinkSeen)
-    → t ≡ vault_task read → Loads (Err fault) read → after ≡ Some told → Did t told after entropy entropy out out 0 (vault_why fault)
+pub did_vault : (t : Task) (read : Result (List KeyDoc) Faulty) (fault : VaultFault) (told : List ℕ)
+    (after : Option (List ℕ)) (entropy : EntropySeen) (out : SinkSeen)
+    → t ≡ vault_task read → Loads (Err fault) read → after ≡ Some told
+    → Did t told after entropy entropy out out 0 (vault_why fault)
 did_vault t read (faults.Bad document kind) told after entropy out from is left =
-    did_task (from ∙ ap vault_task is) (did_fail (finishes.Setup 1 (setups.Contents (vault_number kind)) document) told after entropy out left)
+    did_task (from ∙ ap vault_task is) (did_fail (finishes.Setup 1 (setups.Contents (vault_number kind)) document) told
+    after entropy out left)
 did_vault t read faults.Memory told after entropy out from is left = did_memory t told after entropy out left
 
-pub ends_vault : (t : Task) (read : Result (List KeyDoc) Faulty) (fault : VaultFault) → t ≡ vault_task read → Loads (Err fault) read → EndsAs t (vault_why fault)
-ends_vault t read (faults.Bad document kind) from is = ends_task (whys.Finished (finishes.Setup 1 (setups.Contents (vault_number kind)) document)) (from ∙ ap vault_task is) refl
+pub ends_vault : (t : Task) (read : Result (List KeyDoc) Faulty) (fault : VaultFault) → t ≡ vault_task read
+    → Loads (Err fault) read → EndsAs t (vault_why fault)
+ends_vault t read (faults.Bad document kind) from is =
+    ends_task (whys.Finished (finishes.Setup 1 (setups.Contents (vault_number kind)) document))
+    (from ∙ ap vault_task is) refl
 ends_vault t read faults.Memory from is = tt
 
 -- the keys were told
@@ -38,5 +44,6 @@ ends_text plan (whys.Cut cuts.Entropy) kind = tt
 ends_text plan (whys.Cut cuts.Memory) kind = tt
 
 -- the output is assured of the lines
-pub lines_size : (t : Task) (told : List ℕ) (keys : List KeyDoc) → t ≡ makes (plain_plan (key_lines keys)) → size_of (outcome_of t told).outputs ≡ length (key_lines keys)
+pub lines_size : (t : Task) (told : List ℕ) (keys : List KeyDoc) → t ≡ makes (plain_plan (key_lines keys))
+    → size_of (outcome_of t told).outputs ≡ length (key_lines keys)
 lines_size t told keys is = ap (λ (x : Task). size_of (outcome_of x told).outputs) is ∙ omega arith

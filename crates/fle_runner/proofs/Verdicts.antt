@@ -1,5 +1,6 @@
 -- What a command comes to, by what is answered about its fields and its contents.
-use Rattle.std.proofs.Common.{◌≡◌, ℕ, ◌+◌, Bool, true, false, cond, not, ◌&&◌, ◌||◌, List, [], ◌++◌, length, Option, Some, None, Err, refl, sym, ap, ◌∙◌}
+use Rattle.std.proofs.Common.{◌≡◌, ℕ, ◌+◌, Bool, true, false, cond, not, ◌&&◌, ◌||◌, List, [], ◌++◌, length, Option}
+use Rattle.std.proofs.Common.{Some, None, Err, refl, sym, ap, ◌∙◌}
 use Rattle.std.proofs.lemmas.Bool.{false≢true}
 use Rattle.bson_tree.specs.Tree.{Tree, Items, no_items, item}
 use Rattle.bson_tree.specs.Places.{place_of}
@@ -12,7 +13,8 @@ use Rattle.encrypt_schema.specs.Language.Collection.{Collection, collection_of}
 use Rattle.encrypt_schema.specs.Commands.Stations.{is_passed}
 use Rattle.encrypt_schema.specs.Commands.Offences.{when, least, text_of, is_empty, is_string, is_view}
 use Rattle.encrypt_schema.specs.Commands.Targets.{info_of, rows_in, rows_of, verdict}
-use Rattle.encrypt_schema.specs.Commands.Visits.{entry, raw_of, view_of, command_visits, Refusal, refused_at, or_else, first_refusal, target_verdict, content_verdict}
+use Rattle.encrypt_schema.specs.Commands.Visits.{entry, raw_of, view_of, command_visits, Refusal, refused_at, or_else}
+use Rattle.encrypt_schema.specs.Commands.Visits.{first_refusal, target_verdict, content_verdict}
 use Rattle.encrypt_schema.proofs.Commands.Fields.{target_anyhow, view_alone}
 use Rattle.encrypt_schema.proofs.Commands.Parts.{unruled}
 use Rattle.command_marker.specs.Commands.{AimsAt, collection_in, is_marked_command, passes}
@@ -20,7 +22,8 @@ use Rattle.command_marker.specs.Fields.{is_marked_name, first_reasons}
 use Rattle.command_marker.specs.Reply.{reply_clear_to, reply_to}
 use Rattle.command_marker.proofs.Targets.{fields_told, marked_read}
 use Rattle.command_marker.proofs.Unmarked.{passing_verdict, passing_reply, reply_without_rules}
-use Rattle.fle_runner.specs.Mark.{refuses, Tells, first_start, mark_verdict, sized, verdict_by, verdict_into, verdict_under}
+use Rattle.fle_runner.specs.Mark.{refuses, Tells, first_start, mark_verdict, sized, verdict_by, verdict_into}
+use Rattle.fle_runner.specs.Mark.{verdict_under}
 
 -- a command of a collection without an info has no rules
 pub into_none : (c : Items) → verdict_into None c ≡ sized (reply_clear_to c)
@@ -28,10 +31,12 @@ into_none c =
     ap (verdict_by c (reply_to [] c)) (unruled (command_visits [] 0 c)) ∙ ap sized (reply_without_rules c)
 
 -- a command that passes comes to its reply with both flags false
-pub passed_told : (db : List ℕ) (infos : List Collection) (c : Items) → passes c ≡ true → mark_verdict infos db c ≡ sized (reply_clear_to c)
+pub passed_told : (db : List ℕ) (infos : List Collection) (c : Items) → passes c ≡ true
+    → mark_verdict infos db c ≡ sized (reply_clear_to c)
 unfolding mark_verdict
 passed_told db infos c h =
-    ap (verdict_by c (reply_to (rows_of infos c) c)) (passing_verdict db infos 0 c h) ∙ ap sized (passing_reply (rows_of infos c) c h)
+    ap (verdict_by c (reply_to (rows_of infos c) c)) (passing_verdict db infos 0 c h)
+    ∙ ap sized (passing_reply (rows_of infos c) c h)
 
 -- the fields of a command
 
@@ -42,17 +47,21 @@ first_none (Some x) s e = cc
 -- without a refusal of the target pass the verdict is that of the view or of the contents
 abbrev verdict_after : List Collection → Items → Option Refusal → Option Refusal
 verdict_after infos c r =
-    or_else r (or_else (first_refusal (view_of (info_of infos c)) (command_visits (rows_of infos c) 0 c)) (content_verdict (rows_of infos c) 0 c))
+    or_else r (or_else (first_refusal (view_of (info_of infos c)) (command_visits (rows_of infos c) 0 c))
+    (content_verdict (rows_of infos c) 0 c))
 
-verdict_is : (db : List ℕ) (infos : List Collection) (c : Items) → verdict db infos 0 c ≡ verdict_after infos c (target_verdict db 0 c)
+verdict_is : (db : List ℕ) (infos : List Collection) (c : Items)
+    → verdict db infos 0 c ≡ verdict_after infos c (target_verdict db 0 c)
 verdict_is db infos c = ap (verdict_after infos c) (target_anyhow db (rows_of infos c) 0 c)
 
 -- where a command of the stream begins
-begun_at : (db : List ℕ) (command : At) → command.start ≡ 0 → target_verdict db 0 command.tree ≡ target_verdict db command.start command.tree
+begun_at : (db : List ℕ) (command : At) → command.start ≡ 0
+    → target_verdict db 0 command.tree ≡ target_verdict db command.start command.tree
 begun_at db command whole = ap (λ (n : ℕ). target_verdict db n command.tree) (sym whole)
 
 -- a refusal of the target pass stays whatever the infos are
-pub tells_fields : (db : List ℕ) (infos : List Collection) (command : At) (fault : MarkFault) → command.start ≡ 0 → AimsAt db command (Err fault)
+pub tells_fields : (db : List ℕ) (infos : List Collection) (command : At) (fault : MarkFault) → command.start ≡ 0
+    → AimsAt db command (Err fault)
     → Tells fault command.tree (mark_verdict infos db command.tree)
 unfolding mark_verdict
 tells_fields db infos command (faults.Refused reason at) whole h =
@@ -73,12 +82,15 @@ unrefused at (Some r) e = cc
 
 -- by whether the collection is a view
 into : (info : Option Collection) (c : Items)
-    → verdict_by c (reply_to (rows_in info) c) (or_else (refused_at (first_start c) (least (when (is_view info) View))) (content_verdict (rows_in info) 0 c))
+    → verdict_by c (reply_to (rows_in info) c) (or_else (refused_at (first_start c) (least (when (is_view info) View)))
+    (content_verdict (rows_in info) 0 c))
     ≡ verdict_into info c
 into info c =
     elim (is_view info)
-    as (λ b. verdict_by c (reply_to (rows_in info) c) (or_else (refused_at (first_start c) (least (when b View))) (content_verdict (rows_in info) 0 c))
-    ≡ cond b (refuses View (place_of (first_start c) c)) (verdict_under (rows_in info) c)) [ true ↦ refl | false ↦ refl ]
+    as (λ b. verdict_by c (reply_to (rows_in info) c)
+    (or_else (refused_at (first_start c) (least (when b View))) (content_verdict (rows_in info) 0 c))
+    ≡ cond b (refuses View (place_of (first_start c) c)) (verdict_under (rows_in info) c))
+    [ true ↦ refl | false ↦ refl ]
 
 -- a marked command whose fields aren't refused goes into its collection
 into_collection : (db : List ℕ) (infos : List Collection) (name : List ℕ) (t : Tree) (is : Items)
@@ -93,13 +105,18 @@ into_collection db infos name t is free marked =
     let fields = sym (fields_told db 0 name t is passed) ∙ free in
     let first = first_none (refused_at start (least (first_reasons (entry name t)))) _ fields in
     let string : is_string (entry name t) ≡ true =
-    string_first (is_marked_name name) (is_string (entry name t)) (is_empty (text_of (raw_of t))) marked (unrefused start _ first) in
+    string_first (is_marked_name name) (is_string (entry name t)) (is_empty (text_of (raw_of t))) marked
+    (unrefused start _ first) in
     let found : info_of infos c ≡ info = ap (λ (b : Bool). cond b info None) string in
-    let viewed : (o : Option Collection) → first_refusal (view_of o) (command_visits (rows_in o) 0 c) ≡ refused_at start (least (when (is_view o) View))
-    = λ o. view_alone o (rows_in o) 0 name t is ∙ ap (λ (b : Bool). refused_at start (least (when (b && true && is_view o) View))) marked in
+    let viewed : (o : Option Collection) → first_refusal (view_of o) (command_visits (rows_in o) 0 c)
+    ≡ refused_at start (least (when (is_view o) View))
+    = λ o. view_alone o (rows_in o) 0 name t is ∙ ap
+    (λ (b : Bool). refused_at start (least (when (b && true && is_view o) View))) marked in
     ap (verdict_by c (reply_to (rows_of infos c) c)) (verdict_is db infos c ∙ ap (verdict_after infos c) free)
-    ∙ ap (λ (o : Option Collection). verdict_by c (reply_to (rows_in o) c) (or_else (first_refusal (view_of o) (command_visits (rows_in o) 0 c)) (content_verdict (rows_in o) 0 c))) found
-    ∙ ap (λ (o : Option Refusal). verdict_by c (reply_to (rows_in info) c) (or_else o (content_verdict (rows_in info) 0 c))) (viewed info)
+    ∙ ap (λ (o : Option Collection). verdict_by c (reply_to (rows_in o) c)
+    (or_else (first_refusal (view_of o) (command_visits (rows_in o) 0 c)) (content_verdict (rows_in o) 0 c))) found
+    ∙ ap (λ (o : Option Refusal). verdict_by c (reply_to (rows_in info) c)
+    (or_else o (content_verdict (rows_in info) 0 c))) (viewed info)
     ∙ into info c
 
 goes_into : (db : List ℕ) (infos : List Collection) (c : Items) (name : List ℕ)
@@ -111,7 +128,8 @@ goes_into db infos (item n t is) name free marked same =
     ∙ ap (λ (x : List ℕ). verdict_into (collection_of infos x) (item n t is)) (sym same)
 
 pub marked_told : (db : List ℕ) (infos : List Collection) (command : At) (name : List ℕ) → command.start ≡ 0
-    → target_verdict db command.start command.tree ≡ None → is_marked_command command.tree ≡ true → name ≡ collection_in command.tree
+    → target_verdict db command.start command.tree ≡ None → is_marked_command command.tree ≡ true
+    → name ≡ collection_in command.tree
     → mark_verdict infos db command.tree ≡ verdict_into (collection_of infos name) command.tree
 marked_told db infos command name whole free marked same =
     goes_into db infos command.tree name (begun_at db command whole ∙ free) marked same

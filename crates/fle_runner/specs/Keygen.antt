@@ -32,7 +32,11 @@ abbrev pub document_size : List (List ℕ) → ℕ → ℕ
 document_size names now = length (doc_bytes (key_fields (blank_key names) now now 0))
 
 abbrev pub keygen_plan : List (List ℕ) → ℕ → List ℕ → Plan
-keygen_plan names now master = record { draws = 8; size = document_size names now; bytes = new_document master names now }
+keygen_plan names now master = record {
+  draws = 8;
+  size = document_size names now;
+  bytes = new_document master names now;
+}
 
 -- the number of a fault of a master key's file
 abbrev pub master_code : MasterFault → ℕ

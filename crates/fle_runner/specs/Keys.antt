@@ -23,9 +23,11 @@ abbrev pub provider_word : Provider → List ℕ
 provider_word providers.Local = codes "local"
 provider_word providers.Other = codes "other"
 
--- RFC 4122, section 3: the id in lower-case hyphenated form; behind it who holds the master key, and the number of alternate names
+-- RFC 4122, section 3: the id in lower-case hyphenated form; behind it who holds the master key, and the number of
+-- alternate names
 abbrev pub key_line : KeyDoc → List ℕ
-key_line key = hyphenated_text lower key.id ++ (codes " " ++ (provider_word key.provider ++ (codes " " ++ (decimal (length key.names) ++ codes "\n"))))
+key_line key = hyphenated_text lower key.id ++
+    (codes " " ++ (provider_word key.provider ++ (codes " " ++ (decimal (length key.names) ++ codes "\n"))))
 
 -- a line for each key, in order
 abbrev pub key_lines : List KeyDoc → List ℕ

@@ -57,7 +57,8 @@ first_start (item name t is) = 4 + (2 + length name)
 
 -- what a marked command of this collection comes to, whose fields aren't refused: a view is refused at the first
 abbrev pub verdict_into : Option Collection → Items → Verdict
-verdict_into info c = if is_view info then refuses reasons.View (place_of (first_start c) c) else verdict_under (rows_in info) c
+verdict_into info c = if is_view info then refuses reasons.View (place_of (first_start c) c) else verdict_under
+    (rows_in info) c
 
 -- a fault of marking says that a command comes to this; want of memory may come at any time
 abbrev pub Tells : MarkFault → Items → Verdict → Type 0

@@ -1,5 +1,6 @@
 -- The forms of the words after the program's name.
-use Rattle.std.specs.Prelude.{ℕ, ◌+◌, ◌≤◌, Bool, true, not, ◌==◌, ◌||◌, ◌&&◌, map, string_bytes, Option, Some, None, List, [], ◌∷◌, length, codes, nat_eq, nat_lt, if◌then◌else◌}
+use Rattle.std.specs.Prelude.{ℕ, ◌+◌, ◌≤◌, Bool, true, not, ◌==◌, ◌||◌, ◌&&◌, map, string_bytes, Option, Some, None}
+use Rattle.std.specs.Prelude.{List, [], ◌∷◌, length, codes, nat_eq, nat_lt, if◌then◌else◌}
 use Rattle.data_key.specs.Written.{size_of}
 use Rattle.std.specs.Cmp.Lexicographic.{pointwise}
 use Rattle.fle_runner.specs.declared.words.Asked.{Asked}
@@ -14,7 +15,8 @@ pub data Form : Type 0 where
 
 -- `mark DB SCHEMAS`: DB has 1 to 63 bytes, SCHEMAS isn't empty
 abbrev pub mark_form : List ℕ → List ℕ → Option Form
-mark_form db schemas = if (length db == 0 || nat_lt 63 (length db) || length schemas == 0) then None else Some (mark db schemas)
+mark_form db schemas = if (length db == 0 || nat_lt 63 (length db) || length schemas == 0) then None else Some
+    (mark db schemas)
 
 -- whether a word is this verb
 abbrev pub is_verb : List ℕ → List ℕ → Bool

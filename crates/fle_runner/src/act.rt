@@ -36,13 +36,17 @@ pub fn act<S: Source, F: Folder, O: Sink, N: Entropy, B: Block256>(
     hooks: &B,
 ) -> End
     requires hooks { B.answers hooks.now }
-    ensures did { (all : Files) (told : List ℕ) → (F.seen files.old).told ≡ Some all → (S.seen input.old).told ≡ Some told
-        → Did (task time (map string_bytes words.now) all) told (S.seen input.new).told (N.seen entropy.old) (N.seen entropy.new) (O.seen out.old) (O.seen out.new) result.number result.why }
+    ensures did { (all : Files) (told : List ℕ) → (F.seen files.old).told ≡ Some all
+        → (S.seen input.old).told ≡ Some told
+        → Did (task time (map string_bytes words.now) all) told (S.seen input.new).told (N.seen entropy.old)
+        (N.seen entropy.new) (O.seen out.old) (O.seen out.new) result.number result.why }
     ensures unformed { form_of (map string_bytes words.now) ≡ None → result.why ≡ Why.Finished Finish.Words }
     ensures formed { result.why ≡ Why.Finished Finish.Words → form_of (map string_bytes words.now) ≡ None }
-    ensures placed { (all : Files) → (F.seen files.old).told ≡ Some all → EndsAs (task time (map string_bytes words.now) all) result.why }
+    ensures placed { (all : Files) → (F.seen files.old).told ≡ Some all
+        → EndsAs (task time (map string_bytes words.now) all) result.why }
     ensures unread { result.why ≡ Why.Finished Finish.Words → files.new ≡ files.old }
-    ensures untouched { IsUnread (status_of result.why) → (input.new ≡ input.old) × (out.new ≡ out.old) × (entropy.new ≡ entropy.old) }
+    ensures untouched { IsUnread (status_of result.why)
+        → (input.new ≡ input.old) × (out.new ≡ out.old) × (entropy.new ≡ entropy.old) }
     ensures took { RunTook (S.seen input.old).taken (S.seen input.new).taken result.number }
     ensures numbered { result.why ≡ Why.Cut Cut.Input → 0 < result.number }
     ensures folder_cause { result.why ≡ Why.Cut Cut.Folder → Rose (F.seen files.old).faults (F.seen files.new).faults }
@@ -50,13 +54,19 @@ pub fn act<S: Source, F: Folder, O: Sink, N: Entropy, B: Block256>(
     ensures in_cause { result.why ≡ Why.Cut Cut.Input → Rose (S.seen input.old).faults (S.seen input.new).faults }
     ensures in_sure { (S.seen input.old).assured ≡ true → result.why ≡ Why.Cut Cut.Input → ⊥ }
     ensures out_cause { result.why ≡ Why.Cut Cut.Output → Rose (O.seen out.old).faults (O.seen out.new).faults }
-    ensures out_sure { (all : Files) (told : List ℕ) → (F.seen files.old).told ≡ Some all → (S.seen input.old).told ≡ Some told
-        → size_of (outcome_of (task time (map string_bytes words.now) all) told).outputs ≤ (O.seen out.old).assured → result.why ≡ Why.Cut Cut.Output → ⊥ }
-    ensures entropy_cause { result.why ≡ Why.Cut Cut.Entropy → Rose (N.seen entropy.old).faults (N.seen entropy.new).faults }
-    ensures entropy_sure { (all : Files) (told : List ℕ) → (F.seen files.old).told ≡ Some all → (S.seen input.old).told ≡ Some told
-        → draws_of (outcome_of (task time (map string_bytes words.now) all) told).outputs ≤ (N.seen entropy.old).assured → result.why ≡ Why.Cut Cut.Entropy → ⊥ }
+    ensures out_sure { (all : Files) (told : List ℕ) → (F.seen files.old).told ≡ Some all
+        → (S.seen input.old).told ≡ Some told
+        → size_of (outcome_of (task time (map string_bytes words.now) all) told).outputs ≤ (O.seen out.old).assured
+        → result.why ≡ Why.Cut Cut.Output → ⊥ }
+    ensures entropy_cause { result.why ≡ Why.Cut Cut.Entropy
+        → Rose (N.seen entropy.old).faults (N.seen entropy.new).faults }
+    ensures entropy_sure { (all : Files) (told : List ℕ) → (F.seen files.old).told ≡ Some all
+        → (S.seen input.old).told ≡ Some told
+        → draws_of (outcome_of (task time (map string_bytes words.now) all) told).outputs ≤ (N.seen entropy.old).assured
+        → result.why ≡ Why.Cut Cut.Entropy → ⊥ }
     ensures statuses { MayEnd (form_of (map string_bytes words.now)) (status_of result.why) }
-    ensures no_input { ReadsNoInput (form_of (map string_bytes words.now)) → (input.new ≡ input.old) × (result.why ≡ Why.Cut Cut.Input → ⊥) }
+    ensures no_input { ReadsNoInput (form_of (map string_bytes words.now))
+        → (input.new ≡ input.old) × (result.why ≡ Why.Cut Cut.Input → ⊥) }
     ensures none_or_eight { AsksKey (form_of (map string_bytes words.now)) → result.why ≡ Why.Cut Cut.Memory
         → (entropy.new ≡ entropy.old) ⊎ DrawsEight (N.seen entropy.old) (N.seen entropy.new) }
     ensures undrawn { DrawsNoBlock (form_of (map string_bytes words.now)) → result.why ≡ Why.Cut Cut.Entropy → ⊥ }

@@ -8,7 +8,8 @@ ghost use Rattle.fle_outside.specs.Counts.{Rose};
 ghost use Rattle.fle_outside.specs.Drawing.{Draws};
 ghost use Rattle.fle_outside.specs.Files.{Files, file_of};
 ghost use Rattle.fle_outside.specs.Seen.{EntropySeen};
-ghost use Rattle.fle_runner.specs.Keygen.{DrawsEight, IsOfKey, IsOfKeygen, document_size, keygen_plan, keygen_task, master_code, master_why};
+ghost use Rattle.fle_runner.specs.Keygen.{DrawsEight, IsOfKey, IsOfKeygen, document_size, keygen_plan, keygen_task};
+ghost use Rattle.fle_runner.specs.Keygen.{master_code, master_why};
 ghost use Rattle.fle_stream.specs.Codes.{status_of};
 ghost use Rattle.fle_stream.specs.Did.{Did};
 ghost use Rattle.fle_stream.specs.Ended.{EndsAs, IsUnread};
@@ -43,12 +44,16 @@ pub fn keygen<F: Folder, O: Sink, N: Entropy, B: Block256>(
     requires hooks { B.answers hooks.now }
     requires few { length names.now ≤ 1000 }
     requires small { names_size (map string_bytes names.now) ≤ 15999840 }
-    ensures did { (all : Files) (told : List ℕ) (after : Option (List ℕ)) → (F.seen files.old).told ≡ Some all → after ≡ Some told
-        → Did (keygen_task (map string_bytes names.now) time (file_of all master.now)) told after (N.seen entropy.old) (N.seen entropy.new) (O.seen out.old) (O.seen out.new) result.number result.why }
+    ensures did { (all : Files) (told : List ℕ) (after : Option (List ℕ)) → (F.seen files.old).told ≡ Some all
+        → after ≡ Some told
+        → Did (keygen_task (map string_bytes names.now) time (file_of all master.now)) told after (N.seen entropy.old)
+        (N.seen entropy.new) (O.seen out.old) (O.seen out.new) result.number result.why }
     ensures kind { IsOfKeygen result.why }
-    ensures none_or_eight { result.why ≡ Why.Cut Cut.Memory → (entropy.new ≡ entropy.old) ⊎ DrawsEight (N.seen entropy.old) (N.seen entropy.new) }
+    ensures none_or_eight { result.why ≡ Why.Cut Cut.Memory
+        → (entropy.new ≡ entropy.old) ⊎ DrawsEight (N.seen entropy.old) (N.seen entropy.new) }
     ensures formed { result.why ≡ Why.Finished Finish.Words → ⊥ }
-    ensures placed { (all : Files) → (F.seen files.old).told ≡ Some all → EndsAs (keygen_task (map string_bytes names.now) time (file_of all master.now)) result.why }
+    ensures placed { (all : Files) → (F.seen files.old).told ≡ Some all
+        → EndsAs (keygen_task (map string_bytes names.now) time (file_of all master.now)) result.why }
     ensures untouched { IsUnread (status_of result.why) → (out.new ≡ out.old) × (entropy.new ≡ entropy.old) }
     ensures took { (n : ℕ) → RunTook n n result.number }
     ensures no_read { result.why ≡ Why.Cut Cut.Input → ⊥ }
@@ -56,10 +61,13 @@ pub fn keygen<F: Folder, O: Sink, N: Entropy, B: Block256>(
     ensures folder_sure { (F.seen files.old).assured ≡ true → result.why ≡ Why.Cut Cut.Folder → ⊥ }
     ensures out_cause { result.why ≡ Why.Cut Cut.Output → Rose (O.seen out.old).faults (O.seen out.new).faults }
     ensures out_sure { (all : Files) (told : List ℕ) → (F.seen files.old).told ≡ Some all
-        → size_of (outcome_of (keygen_task (map string_bytes names.now) time (file_of all master.now)) told).outputs ≤ (O.seen out.old).assured → result.why ≡ Why.Cut Cut.Output → ⊥ }
-    ensures entropy_cause { result.why ≡ Why.Cut Cut.Entropy → Rose (N.seen entropy.old).faults (N.seen entropy.new).faults }
+        → size_of (outcome_of (keygen_task (map string_bytes names.now) time (file_of all master.now)) told).outputs
+        ≤ (O.seen out.old).assured → result.why ≡ Why.Cut Cut.Output → ⊥ }
+    ensures entropy_cause { result.why ≡ Why.Cut Cut.Entropy
+        → Rose (N.seen entropy.old).faults (N.seen entropy.new).faults }
     ensures entropy_sure { (all : Files) (told : List ℕ) → (F.seen files.old).told ≡ Some all
-        → draws_of (outcome_of (keygen_task (map string_bytes names.now) time (file_of all master.now)) told).outputs ≤ (N.seen entropy.old).assured → result.why ≡ Why.Cut Cut.Entropy → ⊥ }
+        → draws_of (outcome_of (keygen_task (map string_bytes names.now) time (file_of all master.now)) told).outputs
+        ≤ (N.seen entropy.old).assured → result.why ≡ Why.Cut Cut.Entropy → ⊥ }
 {
     let bytes = match load_file(alloc, files, 1, master, MASTER_LIMIT) {
         Ok(bytes) => bytes,
@@ -85,13 +93,17 @@ fn make_key<O: Sink, N: Entropy, B: Block256>(
     requires few { length names.now ≤ 1000 }
     requires small { names_size (map string_bytes names.now) ≤ 15999840 }
     ensures did { (told : List ℕ) (after : Option (List ℕ)) → after ≡ Some told
-        → Did (makes (keygen_plan (map string_bytes names.now) time master.now)) told after (N.seen entropy.old) (N.seen entropy.new) (O.seen out.old) (O.seen out.new) result.number result.why }
+        → Did (makes (keygen_plan (map string_bytes names.now) time master.now)) told after (N.seen entropy.old)
+        (N.seen entropy.new) (O.seen out.old) (O.seen out.new) result.number result.why }
     ensures kind { IsOfKey result.why }
-    ensures none_or_eight { result.why ≡ Why.Cut Cut.Memory → (entropy.new ≡ entropy.old) ⊎ DrawsEight (N.seen entropy.old) (N.seen entropy.new) }
+    ensures none_or_eight { result.why ≡ Why.Cut Cut.Memory
+        → (entropy.new ≡ entropy.old) ⊎ DrawsEight (N.seen entropy.old) (N.seen entropy.new) }
     ensures unnumbered { result.number ≡ 0 }
     ensures out_cause { result.why ≡ Why.Cut Cut.Output → Rose (O.seen out.old).faults (O.seen out.new).faults }
-    ensures out_sure { document_size (map string_bytes names.now) time ≤ (O.seen out.old).assured → result.why ≡ Why.Cut Cut.Output → ⊥ }
-    ensures entropy_cause { result.why ≡ Why.Cut Cut.Entropy → Rose (N.seen entropy.old).faults (N.seen entropy.new).faults }
+    ensures out_sure { document_size (map string_bytes names.now) time ≤ (O.seen out.old).assured
+        → result.why ≡ Why.Cut Cut.Output → ⊥ }
+    ensures entropy_cause { result.why ≡ Why.Cut Cut.Entropy
+        → Rose (N.seen entropy.old).faults (N.seen entropy.new).faults }
     ensures entropy_sure { 8 ≤ (N.seen entropy.old).assured → result.why ≡ Why.Cut Cut.Entropy → ⊥ }
 {
     let Ok(names) = names_of(alloc, names) else {
@@ -110,14 +122,17 @@ fn write_new<O: Sink>(alloc: Global, key: &KeyDoc, time: u64, out: &mut O) -> En
     requires small { names_size key.now.names ≤ 15999840 }
     requires long { (length key.now.id ≡ 16) × (length key.now.material ≡ 160) }
     requires local { key.now.provider ≡ Provider.Local }
-    ensures did { (master : List ℕ) (names : List (List ℕ)) (blocks : List Block) (told : List ℕ) (left : Option (List ℕ)) (before after : EntropySeen)
+    ensures did { (master : List ℕ) (names : List (List ℕ)) (blocks : List Block) (told : List ℕ)
+        (left : Option (List ℕ)) (before after : EntropySeen)
         → length blocks ≡ 8 → key.now ≡ key_of_blocks master names blocks → Draws before after blocks → left ≡ Some told
-        → Did (makes (keygen_plan names time master)) told left before after (O.seen out.old) (O.seen out.new) result.number result.why }
+        → Did (makes (keygen_plan names time master)) told left before after (O.seen out.old)
+        (O.seen out.new) result.number result.why }
     ensures kind { IsOfKey result.why }
     ensures drawn { result.why ≡ Why.Cut Cut.Entropy → ⊥ }
     ensures unnumbered { result.number ≡ 0 }
     ensures out_cause { result.why ≡ Why.Cut Cut.Output → Rose (O.seen out.old).faults (O.seen out.new).faults }
-    ensures out_sure { document_size key.now.names time ≤ (O.seen out.old).assured → result.why ≡ Why.Cut Cut.Output → ⊥ }
+    ensures out_sure { document_size key.now.names time ≤ (O.seen out.old).assured → result.why ≡ Why.Cut Cut.Output
+        → ⊥ }
 {
     match document_of(alloc, key, time) {
         Ok(bytes) => write_made(out, &bytes),

@@ -4,7 +4,8 @@ ghost use Rattle.std.specs.Prelude.{true, ◌≡◌, ◌≤◌, ◌++◌, List, 
 ghost use Rattle.fle_outside.specs.Counts.{Rose};
 ghost use Rattle.fle_outside.specs.Files.{Files, file_of};
 ghost use Rattle.fle_outside.specs.Seen.{EntropySeen};
-ghost use Rattle.fle_runner.specs.Keys.{IsOfKeys, IsOfText, key_line, key_lines, keys_task, provider_word, vault_code, vault_why};
+ghost use Rattle.fle_runner.specs.Keys.{IsOfKeys, IsOfText, key_line, key_lines, keys_task, provider_word, vault_code};
+ghost use Rattle.fle_runner.specs.Keys.{vault_why};
 ghost use Rattle.fle_runner.specs.Mark.{plain_plan};
 ghost use Rattle.fle_stream.specs.Codes.{status_of};
 ghost use Rattle.fle_stream.specs.Did.{Did};
@@ -27,11 +28,14 @@ const VAULT_LIMIT: usize = 67_108_864;
 
 /// Tells the keys of a vault, in its order. It reads no input and draws no block.
 pub fn keys<F: Folder, O: Sink>(alloc: Global, vault: &str, files: &mut F, out: &mut O) -> End
-    ensures did { (all : Files) (told : List ℕ) (after : Option (List ℕ)) (entropy : EntropySeen) → (F.seen files.old).told ≡ Some all → after ≡ Some told
-        → Did (keys_task (file_of all vault.now)) told after entropy entropy (O.seen out.old) (O.seen out.new) result.number result.why }
+    ensures did { (all : Files) (told : List ℕ) (after : Option (List ℕ)) (entropy : EntropySeen)
+        → (F.seen files.old).told ≡ Some all → after ≡ Some told
+        → Did (keys_task (file_of all vault.now)) told after entropy entropy (O.seen out.old)
+        (O.seen out.new) result.number result.why }
     ensures kind { IsOfKeys result.why }
     ensures formed { result.why ≡ Why.Finished Finish.Words → ⊥ }
-    ensures placed { (all : Files) → (F.seen files.old).told ≡ Some all → EndsAs (keys_task (file_of all vault.now)) result.why }
+    ensures placed { (all : Files) → (F.seen files.old).told ≡ Some all
+        → EndsAs (keys_task (file_of all vault.now)) result.why }
     ensures untouched { IsUnread (status_of result.why) → out.new ≡ out.old }
     ensures took { (n : ℕ) → RunTook n n result.number }
     ensures no_read { result.why ≡ Why.Cut Cut.Input → ⊥ }
@@ -39,7 +43,8 @@ pub fn keys<F: Folder, O: Sink>(alloc: Global, vault: &str, files: &mut F, out: 
     ensures folder_sure { (F.seen files.old).assured ≡ true → result.why ≡ Why.Cut Cut.Folder → ⊥ }
     ensures out_cause { result.why ≡ Why.Cut Cut.Output → Rose (O.seen out.old).faults (O.seen out.new).faults }
     ensures out_sure { (all : Files) (told : List ℕ) → (F.seen files.old).told ≡ Some all
-        → size_of (outcome_of (keys_task (file_of all vault.now)) told).outputs ≤ (O.seen out.old).assured → result.why ≡ Why.Cut Cut.Output → ⊥ }
+        → size_of (outcome_of (keys_task (file_of all vault.now)) told).outputs ≤ (O.seen out.old).assured
+        → result.why ≡ Why.Cut Cut.Output → ⊥ }
     ensures undrawn { result.why ≡ Why.Cut Cut.Entropy → ⊥ }
 {
     let bytes = match load_file(alloc, files, 1, vault, VAULT_LIMIT) {
@@ -55,7 +60,8 @@ pub fn keys<F: Folder, O: Sink>(alloc: Global, vault: &str, files: &mut F, out: 
 /// Writes the line of each key.
 fn write_keys<O: Sink>(alloc: Global, keys: &[KeyDoc], out: &mut O) -> End
     ensures did { (told : List ℕ) (after : Option (List ℕ)) (entropy : EntropySeen) → after ≡ Some told
-        → Did (makes (plain_plan (key_lines keys.now))) told after entropy entropy (O.seen out.old) (O.seen out.new) result.number result.why }
+        → Did (makes (plain_plan (key_lines keys.now))) told after entropy entropy (O.seen out.old)
+        (O.seen out.new) result.number result.why }
     ensures kind { IsOfText result.why }
     ensures unnumbered { result.number ≡ 0 }
     ensures out_cause { result.why ≡ Why.Cut Cut.Output → Rose (O.seen out.old).faults (O.seen out.new).faults }

@@ -16,12 +16,14 @@ use fle_stream::Finish;
 
 /// An empty input is done, whatever verb the words and files ask for that judges documents.
 pub fn empty_input_is_done()
-    ensures done { (now : ℕ) (words : List (List ℕ)) (all : Files) (v : Items → Verdict) → task now words all ≡ each v → outcome_of (task now words all) [] ≡ finished Finish.Done 1 0 }
+    ensures done { (now : ℕ) (words : List (List ℕ)) (all : Files) (v : Items → Verdict) → task now words all ≡ each v
+        → outcome_of (task now words all) [] ≡ finished Finish.Done 1 0 }
 {}
 
 /// `mark` over a file in JSON is `mark` over its documents in BSON.
 pub fn json_infos_are_their_bson()
-    ensures same { (db json bson : List ℕ) → length json ≤ infos_limit → length bson ≤ infos_limit → is_json json ≡ true → is_json bson ≡ false
+    ensures same { (db json bson : List ℕ) → length json ≤ infos_limit → length bson ≤ infos_limit → is_json json ≡ true
+        → is_json bson ≡ false
         → json_infos json ≡ Ok bson → mark_task db (Some json) ≡ mark_task db (Some bson) }
 {}
 

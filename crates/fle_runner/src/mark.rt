@@ -7,7 +7,8 @@ ghost use Rattle.command_marker.specs.Reply.{RepliesAs};
 ghost use Rattle.fle_outside.specs.Counts.{Rose};
 ghost use Rattle.fle_outside.specs.Files.{Files, file_of};
 ghost use Rattle.fle_outside.specs.Seen.{EntropySeen};
-ghost use Rattle.fle_runner.specs.Mark.{Tells, first_start, infos_why, mark_task, mark_verdict, refuses, sized, verdict_into, verdict_under};
+ghost use Rattle.fle_runner.specs.Mark.{Tells, first_start, infos_why, mark_task, mark_verdict, refuses, sized};
+ghost use Rattle.fle_runner.specs.Mark.{verdict_into, verdict_under};
 ghost use Rattle.fle_stream.specs.Codes.{status_of};
 ghost use Rattle.fle_stream.specs.Did.{Did};
 ghost use Rattle.fle_stream.specs.Ended.{EndsAs, IsUnread};
@@ -146,11 +147,15 @@ pub fn mark<S: Source, F: Folder, O: Sink, N: Entropy>(
     out: &mut O,
     entropy: &mut N,
 ) -> End
-    ensures did { (all : Files) (told : List ℕ) → (F.seen files.old).told ≡ Some all → (S.seen input.old).told ≡ Some told
-        → Did (mark_task db.now (file_of all schemas.now)) told (S.seen input.new).told (N.seen entropy.old) (N.seen entropy.new) (O.seen out.old) (O.seen out.new) result.number result.why }
+    ensures did { (all : Files) (told : List ℕ) → (F.seen files.old).told ≡ Some all
+        → (S.seen input.old).told ≡ Some told
+        → Did (mark_task db.now (file_of all schemas.now)) told (S.seen input.new).told (N.seen entropy.old)
+        (N.seen entropy.new) (O.seen out.old) (O.seen out.new) result.number result.why }
     ensures formed { result.why ≡ Why.Finished Finish.Words → ⊥ }
-    ensures placed { (all : Files) → (F.seen files.old).told ≡ Some all → EndsAs (mark_task db.now (file_of all schemas.now)) result.why }
-    ensures untouched { IsUnread (status_of result.why) → (input.new ≡ input.old) × (out.new ≡ out.old) × (entropy.new ≡ entropy.old) }
+    ensures placed { (all : Files) → (F.seen files.old).told ≡ Some all
+        → EndsAs (mark_task db.now (file_of all schemas.now)) result.why }
+    ensures untouched { IsUnread (status_of result.why)
+        → (input.new ≡ input.old) × (out.new ≡ out.old) × (entropy.new ≡ entropy.old) }
     ensures took { RunTook (S.seen input.old).taken (S.seen input.new).taken result.number }
     ensures numbered { result.why ≡ Why.Cut Cut.Input → 0 < result.number }
     ensures folder_cause { result.why ≡ Why.Cut Cut.Folder → Rose (F.seen files.old).faults (F.seen files.new).faults }
@@ -158,8 +163,10 @@ pub fn mark<S: Source, F: Folder, O: Sink, N: Entropy>(
     ensures in_cause { result.why ≡ Why.Cut Cut.Input → Rose (S.seen input.old).faults (S.seen input.new).faults }
     ensures in_sure { (S.seen input.old).assured ≡ true → result.why ≡ Why.Cut Cut.Input → ⊥ }
     ensures out_cause { result.why ≡ Why.Cut Cut.Output → Rose (O.seen out.old).faults (O.seen out.new).faults }
-    ensures out_sure { (all : Files) (told : List ℕ) → (F.seen files.old).told ≡ Some all → (S.seen input.old).told ≡ Some told
-        → size_of (outcome_of (mark_task db.now (file_of all schemas.now)) told).outputs ≤ (O.seen out.old).assured → result.why ≡ Why.Cut Cut.Output → ⊥ }
+    ensures out_sure { (all : Files) (told : List ℕ) → (F.seen files.old).told ≡ Some all
+        → (S.seen input.old).told ≡ Some told
+        → size_of (outcome_of (mark_task db.now (file_of all schemas.now)) told).outputs ≤ (O.seen out.old).assured
+        → result.why ≡ Why.Cut Cut.Output → ⊥ }
     ensures undrawn { result.why ≡ Why.Cut Cut.Entropy → ⊥ }
 {
     let bytes = match load_file(alloc, files, 1, schemas, INFOS_LIMIT) {

@@ -49,7 +49,8 @@ pub fn fle<S: Source, F: Folder, O: Sink, G: Sink, N: Entropy, B: Block256>(
     ensures whole { WritesAll (task (cast_unsigned w64 now_ms) (map string_bytes words.now))
         (world (S.seen input.old) (F.seen files.old) (O.seen out.old) (G.seen diag.old) (N.seen entropy.old))
         (world (S.seen input.new) (F.seen files.new) (O.seen out.new) (G.seen diag.new) (N.seen entropy.new)) result }
-    ensures read_sure { (S.seen input.old).assured ≡ true → (F.seen files.old).assured ≡ true → result ≡ Status.ReadFault → ⊥ }
+    ensures read_sure { (S.seen input.old).assured ≡ true → (F.seen files.old).assured ≡ true
+        → result ≡ Status.ReadFault → ⊥ }
     ensures write_sure { WritesSurely (task (cast_unsigned w64 now_ms) (map string_bytes words.now))
         (world (S.seen input.old) (F.seen files.old) (O.seen out.old) (G.seen diag.old) (N.seen entropy.old)) result }
     ensures entropy_sure { DrawsSurely (task (cast_unsigned w64 now_ms) (map string_bytes words.now))
@@ -58,7 +59,8 @@ pub fn fle<S: Source, F: Folder, O: Sink, G: Sink, N: Entropy, B: Block256>(
     ensures statuses { MayEnd (form_of (map string_bytes words.now)) result }
     // They make no call on the input, so with 5 a named file failed.
     ensures no_input { ReadsNoInput (form_of (map string_bytes words.now)) → input.new ≡ input.old }
-    ensures by_folder { ReadsNoInput (form_of (map string_bytes words.now)) → result ≡ Status.ReadFault → Rose (F.seen files.old).faults (F.seen files.new).faults }
+    ensures by_folder { ReadsNoInput (form_of (map string_bytes words.now)) → result ≡ Status.ReadFault
+        → Rose (F.seen files.old).faults (F.seen files.new).faults }
     // Where `keygen` wants memory, it has drawn no block or the eight of a key.
     ensures none_or_eight { AsksKey (form_of (map string_bytes words.now)) → result ≡ Status.Memory
         → (entropy.new ≡ entropy.old) ⊎ DrawsEight (N.seen entropy.old) (N.seen entropy.new) }

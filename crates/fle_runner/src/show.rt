@@ -78,7 +78,8 @@ pub fn show<S: Source, O: Sink, N: Entropy>(
     entropy: &mut N,
 ) -> End
     ensures did { (told : List ℕ) → (S.seen input.old).told ≡ Some told
-        → Did show_task told (S.seen input.new).told (N.seen entropy.old) (N.seen entropy.new) (O.seen out.old) (O.seen out.new) result.number result.why }
+        → Did show_task told (S.seen input.new).told (N.seen entropy.old) (N.seen entropy.new) (O.seen out.old)
+        (O.seen out.new) result.number result.why }
     ensures kind { IsOfStream result.why }
     ensures took { RunTook (S.seen input.old).taken (S.seen input.new).taken result.number }
     ensures numbered { 0 < result.number }

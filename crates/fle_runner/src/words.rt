@@ -2,7 +2,8 @@
 
 ghost use Rattle.std.specs.Prelude.{◌≡◌, ◌≤◌, Bool, not, true, nat_lt, length, map, string_bytes};
 ghost use Rattle.data_key.specs.Written.{size_of};
-ghost use Rattle.fle_runner.specs.Words.{are_names, AreFew, asked_form, each_once, form_of, keygen_words, keys_words, mark_words, show_words, times, verb_form};
+ghost use Rattle.fle_runner.specs.Words.{are_names, AreFew, asked_form, each_once, form_of, keygen_words, keys_words};
+ghost use Rattle.fle_runner.specs.Words.{mark_words, show_words, times, verb_form};
 
 /// A database's name has at most this many bytes.
 const MAX_DB: usize = 63;

@@ -10,7 +10,8 @@ returns-in-Insert c =
     let e = entry c.args.item.now.name c.args.item.now.tree in
     record {
       judged = λ rows.
-          subst (λ (n : CommandName). Judges rows (name_station n) elder e c.judge_insert.result) (sym c.in-Insert.is) (c.judge_insert.ensures.judged rows);
+          subst (λ (n : CommandName). Judges rows (name_station n) elder e c.judge_insert.result) (sym c.in-Insert.is)
+          (c.judge_insert.ensures.judged rows);
     }
 
 pub returns-in-Update : goal.returns-in-Update
@@ -19,7 +20,8 @@ returns-in-Update c =
     let e = entry c.args.item.now.name c.args.item.now.tree in
     record {
       judged = λ rows.
-          subst (λ (n : CommandName). Judges rows (name_station n) elder e c.judge_update.result) (sym c.in-Update.is) (c.judge_update.ensures.judged rows);
+          subst (λ (n : CommandName). Judges rows (name_station n) elder e c.judge_update.result) (sym c.in-Update.is)
+          (c.judge_update.ensures.judged rows);
     }
 
 pub returns-in-Delete : goal.returns-in-Delete
@@ -28,7 +30,8 @@ returns-in-Delete c =
     let e = entry c.args.item.now.name c.args.item.now.tree in
     record {
       judged = λ rows.
-          subst (λ (n : CommandName). Judges rows (name_station n) elder e c.judge_delete.result) (sym c.in-Delete.is) (c.judge_delete.ensures.judged rows);
+          subst (λ (n : CommandName). Judges rows (name_station n) elder e c.judge_delete.result) (sym c.in-Delete.is)
+          (c.judge_delete.ensures.judged rows);
     }
 
 pub returns-in-Find : goal.returns-in-Find
@@ -37,5 +40,6 @@ returns-in-Find c =
     let e = entry c.args.item.now.name c.args.item.now.tree in
     record {
       judged = λ rows.
-          subst (λ (n : CommandName). Judges rows (name_station n) elder e c.judge_find.result) (sym c.in-Find.is) (c.judge_find.ensures.judged rows);
+          subst (λ (n : CommandName). Judges rows (name_station n) elder e c.judge_find.result) (sym c.in-Find.is)
+          (c.judge_find.ensures.judged rows);
     }

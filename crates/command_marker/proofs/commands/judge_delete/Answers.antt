@@ -9,14 +9,22 @@ returns-then-is_deletes c =
     let elder = take c.args.k (names_of c.args.document.now.tree) in
     let name = c.args.item.now.name in
     let t = c.args.item.now.tree in
-    record { judged = λ rows. deletes_read rows elder name t c.read_array.result (ap (λ (n : List ℕ). named n (codes "deletes")) (sym c.name-name.ensures.name) ∙ sym c.is_deletes.ensures ∙ c.if-is_deletes.true) c.read_array.ensures.read }
+    record {
+      judged = λ rows. deletes_read rows elder name t c.read_array.result
+          (ap (λ (n : List ℕ). named n (codes "deletes")) (sym c.name-name.ensures.name) ∙ sym c.is_deletes.ensures
+          ∙ c.if-is_deletes.true) c.read_array.ensures.read;
+    }
 
 pub returns-then-is_let : goal.returns-then-is_let
 returns-then-is_let c =
     let elder = take c.args.k (names_of c.args.document.now.tree) in
     let name = c.args.item.now.name in
     let t = c.args.item.now.tree in
-    record { judged = λ rows. ap Some c.unusable.ensures.reason ∙ delete_let_unusable rows elder name t (ap (λ (n : List ℕ). named n (codes "let")) (sym c.name-name.ensures.name) ∙ sym c.is_let.ensures ∙ c.if-is_let.true) }
+    record {
+      judged = λ rows. ap Some c.unusable.ensures.reason
+          ∙ delete_let_unusable rows elder name t (ap (λ (n : List ℕ). named n (codes "let"))
+          (sym c.name-name.ensures.name) ∙ sym c.is_let.ensures ∙ c.if-is_let.true);
+    }
 
 pub returns : goal.returns
 returns c =
@@ -25,6 +33,8 @@ returns c =
     let t = c.args.item.now.tree in
     record {
       judged = λ rows. delete_other rows elder name t
-          (ap (λ (n : List ℕ). named n (codes "deletes")) (sym c.name-name.ensures.name) ∙ sym c.is_deletes.ensures ∙ c.if-is_deletes.false)
-          (ap (λ (n : List ℕ). named n (codes "let")) (sym c.name-name.ensures.name) ∙ sym c.is_let.ensures ∙ c.if-is_let.false);
+          (ap (λ (n : List ℕ). named n (codes "deletes")) (sym c.name-name.ensures.name) ∙ sym c.is_deletes.ensures
+          ∙ c.if-is_deletes.false)
+          (ap (λ (n : List ℕ). named n (codes "let")) (sym c.name-name.ensures.name) ∙ sym c.is_let.ensures
+          ∙ c.if-is_let.false);
     }

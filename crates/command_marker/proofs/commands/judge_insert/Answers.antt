@@ -9,7 +9,11 @@ returns-then-is_documents c =
     let elder = take c.args.k (names_of c.args.document.now.tree) in
     let name = c.args.item.now.name in
     let t = c.args.item.now.tree in
-    record { judged = λ rows. documents_read rows elder name t c.read_array.result (ap (λ (n : List ℕ). named n (codes "documents")) (sym c.name-name.ensures.name) ∙ sym c.is_documents.ensures ∙ c.if-is_documents.true) c.read_array.ensures.read }
+    record {
+      judged = λ rows. documents_read rows elder name t c.read_array.result
+          (ap (λ (n : List ℕ). named n (codes "documents")) (sym c.name-name.ensures.name) ∙ sym c.is_documents.ensures
+          ∙ c.if-is_documents.true) c.read_array.ensures.read;
+    }
 
 pub returns : goal.returns
 returns c =
@@ -18,5 +22,6 @@ returns c =
     let t = c.args.item.now.tree in
     record {
       judged = λ rows. insert_other rows elder name t
-          (ap (λ (n : List ℕ). named n (codes "documents")) (sym c.name-name.ensures.name) ∙ sym c.is_documents.ensures ∙ c.if-is_documents.false);
+          (ap (λ (n : List ℕ). named n (codes "documents")) (sym c.name-name.ensures.name) ∙ sym c.is_documents.ensures
+          ∙ c.if-is_documents.false);
     }

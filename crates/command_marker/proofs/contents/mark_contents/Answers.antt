@@ -13,7 +13,8 @@ returns-then-lacks_required c =
     record {
       marked =
           lacking c.args.rows.now command.start command.tree name c.command_name-name.ensures.name
-          (subst (λ (b : Bool). when b BadField ≡ command_lacks (name_station name) (names_of command.tree)) c.if-lacks_required.true c.lacks_required.ensures.lacks);
+          (subst (λ (b : Bool). when b BadField ≡ command_lacks (name_station name) (names_of command.tree))
+          c.if-lacks_required.true c.lacks_required.ensures.lacks);
     }
 
 pub returns : goal.returns
@@ -22,7 +23,9 @@ returns c =
     let name = c.command_name-name.result in
     record {
       marked =
-          complete c.args.rows.now command name c.args.marks.now c.mark_elements.new.marks c.mark_elements.result c.command_name-name.ensures.name
-          (subst (λ (b : Bool). when b BadField ≡ command_lacks (name_station name) (names_of command.tree)) c.if-lacks_required.false c.lacks_required.ensures.lacks)
+          complete c.args.rows.now command name c.args.marks.now c.mark_elements.new.marks c.mark_elements.result
+          c.command_name-name.ensures.name
+          (subst (λ (b : Bool). when b BadField ≡ command_lacks (name_station name) (names_of command.tree))
+          c.if-lacks_required.false c.lacks_required.ensures.lacks)
           c.mark_elements.ensures.marked;
     }

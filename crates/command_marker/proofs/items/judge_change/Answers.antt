@@ -11,7 +11,10 @@ returns-then-stands_again c =
     let name = c.args.item.now.name in
     let t = c.args.item.now.tree in
     let again : is_among name elder ≡ true = sym c.stands_again.ensures.again ∙ c.if-stands_again.true in
-    record { judged = sym (change_is c.args.rows.now elder name t true (tag_of t == 4) (tag_of t == 3) c.requires.change again refl refl) }
+    record {
+      judged = sym (change_is c.args.rows.now elder name t true (tag_of t == 4)
+          (tag_of t == 3) c.requires.change again refl refl);
+    }
 
 pub returns-then-tag-eq-ARRAY : goal.returns-then-tag-eq-ARRAY
 returns-then-tag-eq-ARRAY c =
@@ -20,7 +23,10 @@ returns-then-tag-eq-ARRAY c =
     let t = c.args.item.now.tree in
     let again : is_among name elder ≡ false = sym c.stands_again.ensures.again ∙ c.if-stands_again.false in
     let array : (tag_of t == 4) ≡ true = search rules in
-    record { judged = sym (change_is c.args.rows.now elder name t false true (tag_of t == 3) c.requires.change again array refl) }
+    record {
+      judged = sym (change_is c.args.rows.now elder name t false true
+          (tag_of t == 3) c.requires.change again array refl);
+    }
 
 pub returns-then-tag-eq-DOCUMENT : goal.returns-then-tag-eq-DOCUMENT
 returns-then-tag-eq-DOCUMENT c =
@@ -46,4 +52,7 @@ returns c =
     let again : is_among name elder ≡ false = sym c.stands_again.ensures.again ∙ c.if-stands_again.false in
     let array : (tag_of t == 4) ≡ false = search rules in
     let document : (tag_of t == 3) ≡ false = search rules in
-    record { judged = sym (change_is c.args.rows.now elder name t false false false c.requires.change again array document) }
+    record {
+      judged = sym (change_is c.args.rows.now elder name t false false false c.requires.change again array
+          document);
+    }

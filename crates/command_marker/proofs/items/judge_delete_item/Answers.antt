@@ -9,7 +9,11 @@ returns-then-is_query c =
     let elder = take c.args.k (names_of c.args.document.now.tree) in
     let name = c.args.item.now.name in
     let t = c.args.item.now.tree in
-    record { judged = λ rows. delete_query_read rows elder name t c.read_document.result (ap (λ (n : List ℕ). named n (codes "q")) (sym c.name-name.ensures.name) ∙ sym c.is_query.ensures ∙ c.if-is_query.true) c.read_document.ensures.read }
+    record {
+      judged = λ rows. delete_query_read rows elder name t c.read_document.result
+          (ap (λ (n : List ℕ). named n (codes "q")) (sym c.name-name.ensures.name) ∙ sym c.is_query.ensures
+          ∙ c.if-is_query.true) c.read_document.ensures.read;
+    }
 
 pub returns : goal.returns
 returns c =
@@ -18,5 +22,6 @@ returns c =
     let t = c.args.item.now.tree in
     record {
       judged = λ rows. delete_item_other rows elder name t
-          (ap (λ (n : List ℕ). named n (codes "q")) (sym c.name-name.ensures.name) ∙ sym c.is_query.ensures ∙ c.if-is_query.false);
+          (ap (λ (n : List ℕ). named n (codes "q")) (sym c.name-name.ensures.name) ∙ sym c.is_query.ensures
+          ∙ c.if-is_query.false);
     }

@@ -1,6 +1,7 @@
 -- A place read from its chain is the one that the descent visits, and the marked command has its marking there.
 use Rattle.encrypt_schema.specs.Commands.Targets.{info_of, rows_of}
-use Rattle.encrypt_schema.proofs.Commands.ByPlace.{by_place, stations_by_place, offences_by_place, roles_by_place, part_by_place, part_stations, part_offences, verdict_by_place}
+use Rattle.encrypt_schema.proofs.Commands.ByPlace.{by_place, stations_by_place, offences_by_place, roles_by_place}
+use Rattle.encrypt_schema.proofs.Commands.ByPlace.{part_by_place, part_stations, part_offences, verdict_by_place}
 use Rattle.encrypt_schema.proofs.Commands.Refused.{accepted}
 use Rattle.command_marker.proofs.MarkedPlaces.{marked_filled}
 use Rattle.command_marker.proofs.ToldPlaces.{told_places, offence_told}

@@ -11,4 +11,7 @@ returns-then-len-eq0 c =
 pub returns-in-Err : goal.returns-in-Err
 returns-in-Err c =
     let some : 0 < length c.args.rows.now = omega (arith, c.len.ensures.count, c.if-len-eq0.false) in
-    record { marks = refused_contents c.args.rows.now c.args.command.now c.new-marks.result c.mark_contents.new.marks c.in-Err.fault some c.in-Err.ensures.marked }
+    record {
+      marks = refused_contents c.args.rows.now c.args.command.now c.new-marks.result c.mark_contents.new.marks
+          c.in-Err.fault some c.in-Err.ensures.marked;
+    }

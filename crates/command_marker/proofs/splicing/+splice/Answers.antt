@@ -11,7 +11,11 @@ put_items-put_item-requires t c =
     let taken = c.in-Some.ensures.steps in
     let put = marked_by c.args.rows.now in
     let ms = drop c.loop-item.behind c.args.marks.now in
-    let smaller : 3 * tree_size c.in-Some.item.tree < 3 * items_size c.args.document.now.tree = omega (arith, ap items_size taken.0, c.loop-item.invariant.size) in
-    let room : length c.loop-item.out.items + length (items_bytes (item c.in-Some.item.name (spliced_in put c.in-Some.item.start ms c.in-Some.item.tree) no_items)) < 2 ^ 31 =
-    room_next put c.loop-item.out.items _ _ c.loop-item.item-iterator c.next.new.self c.in-Some.item ms (2 ^ 31) taken c.loop-item.invariant.made c.requires.room in
+    let smaller : 3 * tree_size c.in-Some.item.tree < 3 * items_size c.args.document.now.tree =
+    omega (arith, ap items_size taken.0, c.loop-item.invariant.size) in
+    let room : length c.loop-item.out.items + length
+    (items_bytes (item c.in-Some.item.name (spliced_in put c.in-Some.item.start ms c.in-Some.item.tree) no_items))
+    < 2 ^ 31 =
+    room_next put c.loop-item.out.items _ _ c.loop-item.item-iterator c.next.new.self c.in-Some.item ms
+    (2 ^ 31) taken c.loop-item.invariant.made c.requires.room in
     search (rules, smaller, room, c.requires.ruled, c.requires.few)

@@ -8,4 +8,5 @@ pub returns-clause-inside : goal.returns-clause-inside
 returns-clause-inside c = inside_next c.args.marks.now c.args.next c.get.result c.get.ensures.mark
 
 pub returns-clause-ruled : goal.returns-clause-ruled
-returns-clause-ruled c = ruled_next c.args.rows.now c.args.marks.now c.args.next c.get.result c.get.ensures.mark c.requires.ruled
+returns-clause-ruled c = ruled_next c.args.rows.now c.args.marks.now c.args.next c.get.result c.get.ensures.mark
+    c.requires.ruled

@@ -10,7 +10,8 @@ use Rattle.command_marker.proofs.targeting.target.Goals as goal
 
 pub returns-in_default : goal.returns-in_default
 returns-in_default c = record {
-  aims = target_none c.args.db.now c.args.command.now.start c.args.command.now.tree (sym (ap (λ (a : At). a.tree) c.items-fields.ensures.elements) ∙ c.in_default.ensures.steps.0);
+  aims = target_none c.args.db.now c.args.command.now.start c.args.command.now.tree
+      (sym (ap (λ (a : At). a.tree) c.items-fields.ensures.elements) ∙ c.in_default.ensures.steps.0);
 }
 
 pub returns-then-is_passed : goal.returns-then-is_passed
@@ -19,7 +20,8 @@ returns-then-is_passed c =
     let is = sym (ap (λ (a : At). a.tree) c.items-fields.ensures.elements) in
     record {
       aims =
-          target_passes c.args.db.now c.args.command.now c.items-fields.result c.next.new.self first c.in-Some.ensures.steps is
+          target_passes c.args.db.now c.args.command.now c.items-fields.result c.next.new.self first
+          c.in-Some.ensures.steps is
           (ap is_passed (sym c.name-name.ensures.name) ∙ sym c.is_passed.ensures ∙ c.if-is_passed.true);
     }
 
@@ -31,11 +33,13 @@ returns-in-Some-first_reason c =
     let rest = c.next.new.self in
     let is = sym (ap (λ (a : At). a.tree) c.items-fields.ensures.elements) in
     let begun = ap (λ (a : At). a.start) c.items-fields.ensures.elements in
-    let read : is_passed first.name ≡ false = ap is_passed (sym c.name-name.ensures.name) ∙ sym c.is_passed.ensures ∙ c.if-is_passed.false in
+    let read : is_passed first.name ≡ false = ap is_passed (sym c.name-name.ensures.name) ∙ sym c.is_passed.ensures
+    ∙ c.if-is_passed.false in
     let later = later_refusal db first.name false rest.start rest.tree in
     record {
       aims =
-          target_read db command.start command.tree c.items-fields.result rest first c.in-Some.ensures.steps is begun read
+          target_read db command.start command.tree c.items-fields.result rest first c.in-Some.ensures.steps is begun
+          read
           ∙ ap (λ (r : Option Reason). or_else (refused_at first.start r) later) (sym c.in-Some-first_reason.ensures)
           ∙ ap (λ (n : ℕ). refused_at n (Some c.in-Some-first_reason.reason)) (sym c.start.ensures.start);
     }
@@ -51,13 +55,15 @@ returns-in-Ok c =
     let rest = c.next.new.self in
     let is = sym (ap (λ (a : At). a.tree) c.items-fields.ensures.elements) in
     let begun = ap (λ (a : At). a.start) c.items-fields.ensures.elements in
-    let read : is_passed first.name ≡ false = ap is_passed (sym c.name-name.ensures.name) ∙ sym c.is_passed.ensures ∙ c.if-is_passed.false in
+    let read : is_passed first.name ≡ false = ap is_passed (sym c.name-name.ensures.name) ∙ sym c.is_passed.ensures
+    ∙ c.if-is_passed.false in
     let later = later_refusal db first.name false rest.start rest.tree in
     let whole = is ∙ c.in-Some.ensures.steps.0 in
     record {
       aims = (
         target_read db command.start command.tree c.items-fields.result rest first c.in-Some.ensures.steps is begun read
-            ∙ ap (λ (r : Option Reason). or_else (refused_at first.start r) later) (sym c.in_default-first_reason.ensures)
+            ∙ ap (λ (r : Option Reason). or_else (refused_at first.start r) later)
+            (sym c.in_default-first_reason.ensures)
             ∙ ap (λ (n : _). later_refusal db n false rest.start rest.tree) (sym c.name-name.ensures.name)
             ∙ c.in-Ok.ensures,
         ap is_marked_command whole ∙ marked_left (is_marked_name first.name) _ c.in_default-first_reason.ensures,
@@ -73,12 +79,14 @@ returns-in-Err c =
     let rest = c.next.new.self in
     let is = sym (ap (λ (a : At). a.tree) c.items-fields.ensures.elements) in
     let begun = ap (λ (a : At). a.start) c.items-fields.ensures.elements in
-    let read : is_passed first.name ≡ false = ap is_passed (sym c.name-name.ensures.name) ∙ sym c.is_passed.ensures ∙ c.if-is_passed.false in
+    let read : is_passed first.name ≡ false = ap is_passed (sym c.name-name.ensures.name) ∙ sym c.is_passed.ensures
+    ∙ c.if-is_passed.false in
     let later = later_refusal db first.name false rest.start rest.tree in
     record {
       aims =
           aims_err db command _ c.in-Err.fault
-          (target_read db command.start command.tree c.items-fields.result rest first c.in-Some.ensures.steps is begun read
+          (target_read db command.start command.tree c.items-fields.result rest first c.in-Some.ensures.steps is begun
+          read
           ∙ ap (λ (r : Option Reason). or_else (refused_at first.start r) later) (sym c.in_default-first_reason.ensures)
           ∙ ap (λ (n : _). later_refusal db n false rest.start rest.tree) (sym c.name-name.ensures.name))
           c.in-Err.ensures;

@@ -10,36 +10,45 @@ use Rattle.fle_runner.proofs.act.act.Goals as goal
 pub returns-in-Nothing-clause-did : goal.returns-in-Nothing-clause-did
 returns-in-Nothing-clause-did g c = λ all told has is.
     rw c.unread.ensures.unread
-    (did_task (ap (λ (f : Option Form). task_of c.args.time f all) (sym c.in-Nothing.ensures.asked)) (did_fail finishes.Words told _ _ _ is))
+    (did_task (ap (λ (f : Option Form). task_of c.args.time f all) (sym c.in-Nothing.ensures.asked))
+    (did_fail finishes.Words told _ _ _ is))
 
 pub returns-in-Mark-clause-did : goal.returns-in-Mark-clause-did
 returns-in-Mark-clause-did g c = λ all told has is.
-    did_task (ap (λ (f : Option Form). task_of c.args.time f all) (sym c.in-Mark.ensures.asked)) (c.mark.ensures.did all told has is)
+    did_task (ap (λ (f : Option Form). task_of c.args.time f all) (sym c.in-Mark.ensures.asked))
+    (c.mark.ensures.did all told has is)
 
 pub returns-in-Mark-clause-placed : goal.returns-in-Mark-clause-placed
 returns-in-Mark-clause-placed g c = λ all has.
-    ends_task _ (ap (λ (f : Option Form). task_of c.args.time f all) (sym c.in-Mark.ensures.asked)) (c.mark.ensures.placed all has)
+    ends_task _ (ap (λ (f : Option Form). task_of c.args.time f all) (sym c.in-Mark.ensures.asked))
+    (c.mark.ensures.placed all has)
 
 pub returns-in-Show-clause-did : goal.returns-in-Show-clause-did
 returns-in-Show-clause-did g c = λ all told has is.
-    did_task (ap (λ (f : Option Form). task_of c.args.time f all) (sym c.in-Show.ensures.asked)) (c.show.ensures.did told is)
+    did_task (ap (λ (f : Option Form). task_of c.args.time f all) (sym c.in-Show.ensures.asked))
+    (c.show.ensures.did told is)
 
 pub returns-in-Show-clause-placed : goal.returns-in-Show-clause-placed
 returns-in-Show-clause-placed g c = λ all has.
-    ends_task _ (ap (λ (f : Option Form). task_of c.args.time f all) (sym c.in-Show.ensures.asked)) (ends_each show_verdict _ c.show.ensures.kind)
+    ends_task _ (ap (λ (f : Option Form). task_of c.args.time f all) (sym c.in-Show.ensures.asked))
+    (ends_each show_verdict _ c.show.ensures.kind)
 
 pub returns-in-Keys-clause-did : goal.returns-in-Keys-clause-did
 returns-in-Keys-clause-did g c = λ all told has is.
-    did_task (ap (λ (f : Option Form). task_of c.args.time f all) (sym c.in-Keys.ensures.asked)) (c.keys.ensures.did all told _ _ has is)
+    did_task (ap (λ (f : Option Form). task_of c.args.time f all) (sym c.in-Keys.ensures.asked))
+    (c.keys.ensures.did all told _ _ has is)
 
 pub returns-in-Keys-clause-placed : goal.returns-in-Keys-clause-placed
 returns-in-Keys-clause-placed g c = λ all has.
-    ends_task _ (ap (λ (f : Option Form). task_of c.args.time f all) (sym c.in-Keys.ensures.asked)) (c.keys.ensures.placed all has)
+    ends_task _ (ap (λ (f : Option Form). task_of c.args.time f all) (sym c.in-Keys.ensures.asked))
+    (c.keys.ensures.placed all has)
 
 pub returns-in-Keygen-clause-did : goal.returns-in-Keygen-clause-did
 returns-in-Keygen-clause-did g c = λ all told has is.
-    did_task (ap (λ (f : Option Form). task_of c.args.time f all) (sym c.in-Keygen.ensures.asked)) (c.keygen.ensures.did all told _ has is)
+    did_task (ap (λ (f : Option Form). task_of c.args.time f all) (sym c.in-Keygen.ensures.asked))
+    (c.keygen.ensures.did all told _ has is)
 
 pub returns-in-Keygen-clause-placed : goal.returns-in-Keygen-clause-placed
 returns-in-Keygen-clause-placed g c = λ all has.
-    ends_task _ (ap (λ (f : Option Form). task_of c.args.time f all) (sym c.in-Keygen.ensures.asked)) (c.keygen.ensures.placed all has)
+    ends_task _ (ap (λ (f : Option Form). task_of c.args.time f all) (sym c.in-Keygen.ensures.asked))
+    (c.keygen.ensures.placed all has)

@@ -9,7 +9,8 @@ use Rattle.fle_runner.proofs.keygen.document_of.Goals as goal
 
 pub returns-clause-document : goal.returns-clause-document
 returns-clause-document c =
-    let back : cast_unsigned w64 (cast_signed w64 c.args.time) ≡ c.args.time = of_z-to_z w64 c.args.time (search rules) in
+    let back : cast_unsigned w64 (cast_signed w64 c.args.time) ≡ c.args.time =
+    of_z-to_z w64 c.args.time (search rules) in
     let bits : cast_unsigned w64 (cast_signed w64 (cast_unsigned w64 c.cast_signed-ms.result)) ≡ c.args.time =
     ap (λ (z : ℤ). cast_unsigned w64 (cast_signed w64 (cast_unsigned w64 z))) c.cast_signed-ms.ensures
     ∙ (ap (λ (n : ℕ). cast_unsigned w64 (cast_signed w64 n)) back ∙ back) in
@@ -17,7 +18,8 @@ returns-clause-document c =
 
 pub returns-clause-size : goal.returns-clause-size
 returns-clause-size c =
-    let back : cast_unsigned w64 (cast_signed w64 c.args.time) ≡ c.args.time = of_z-to_z w64 c.args.time (search rules) in
+    let back : cast_unsigned w64 (cast_signed w64 c.args.time) ≡ c.args.time =
+    of_z-to_z w64 c.args.time (search rules) in
     let bits : cast_unsigned w64 (cast_signed w64 (cast_unsigned w64 c.cast_signed-ms.result)) ≡ c.args.time =
     ap (λ (z : ℤ). cast_unsigned w64 (cast_signed w64 (cast_unsigned w64 z))) c.cast_signed-ms.ensures
     ∙ (ap (λ (n : ℕ). cast_unsigned w64 (cast_signed w64 n)) back ∙ back) in

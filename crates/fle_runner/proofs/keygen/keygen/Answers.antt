@@ -11,16 +11,22 @@ use Rattle.fle_runner.proofs.keygen.keygen.Goals as goal
 pub returns-in-Err-clause-did : goal.returns-in-Err-clause-did
 returns-in-Err-clause-did g c = λ all told after has is.
     rw c.unread.ensures.unread
-    (did_load 1 master_limit (file_of all c.args.master.now) c.in-Err.why (λ bytes. master_task (map string_bytes c.args.names.now) c.args.time (master_in bytes)) told _ _ _ (c.in-Err.ensures.load all has) is)
+    (did_load 1 master_limit (file_of all c.args.master.now) c.in-Err.why
+    (λ bytes. master_task (map string_bytes c.args.names.now) c.args.time (master_in bytes)) told _ _ _
+    (c.in-Err.ensures.load all has) is)
 
 pub returns-in-Err-clause-placed : goal.returns-in-Err-clause-placed
 returns-in-Err-clause-placed g c = λ all has.
     rw c.unread.ensures.unread
-    (ends_load 1 master_limit (file_of all c.args.master.now) c.in-Err.why (λ bytes. master_task (map string_bytes c.args.names.now) c.args.time (master_in bytes)) (c.in-Err.ensures.load all has))
+    (ends_load 1 master_limit (file_of all c.args.master.now) c.in-Err.why
+    (λ bytes. master_task (map string_bytes c.args.names.now) c.args.time (master_in bytes))
+    (c.in-Err.ensures.load all has))
 
 pub returns-clause-did : goal.returns-clause-did
 returns-clause-did g c = λ all told after has is.
     let read = rw c.deref.ensures.value at c.in-Err-read_master.ensures.read in
-    let from = c.in-Ok.ensures.load all has (λ bytes. master_task (map string_bytes c.args.names.now) c.args.time (master_in bytes)) in
+    let from = c.in-Ok.ensures.load all has (λ bytes. master_task (map string_bytes c.args.names.now) c.args.time
+    (master_in bytes)) in
     rw (c.unread-in-Err-read_master.ensures.unread, c.why_master.ensures.why)
-    (did_master _ (map string_bytes c.args.names.now) c.args.time (master_in c.in-Ok.bytes.items) c.in-Err-read_master.fault told _ _ _ from read is)
+    (did_master _ (map string_bytes c.args.names.now) c.args.time
+    (master_in c.in-Ok.bytes.items) c.in-Err-read_master.fault told _ _ _ from read is)

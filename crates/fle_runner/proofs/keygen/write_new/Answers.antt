@@ -9,8 +9,10 @@ use Rattle.fle_runner.proofs.keygen.write_new.Goals as goal
 
 pub returns-in-Ok-clause-did : goal.returns-in-Ok-clause-did
 returns-in-Ok-clause-did g c = λ master names blocks told left before after eight is draws has.
-    let document = c.deref.ensures.value ∙ (c.in-Ok.ensures.document ∙ ap (λ (k : KeyDoc). doc_bytes (key_fields k c.args.time c.args.time 0)) is) in
-    c.write_made.ensures.did (keygen_plan names c.args.time master) blocks told left before after eight document draws has
+    let document = c.deref.ensures.value ∙ (c.in-Ok.ensures.document
+    ∙ ap (λ (k : KeyDoc). doc_bytes (key_fields k c.args.time c.args.time 0)) is) in
+    c.write_made.ensures.did (keygen_plan names c.args.time master) blocks told left before after eight document draws
+    has
 
 pub returns-in-Ok-clause-out_sure : goal.returns-in-Ok-clause-out_sure
 returns-in-Ok-clause-out_sure g c = λ enough at.

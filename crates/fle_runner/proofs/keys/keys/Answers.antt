@@ -11,12 +11,14 @@ use Rattle.fle_runner.proofs.keys.keys.Goals as goal
 pub returns-in-Err-clause-did : goal.returns-in-Err-clause-did
 returns-in-Err-clause-did g c = λ all told after entropy has is.
     rw c.unread.ensures.unread
-    (did_load 1 vault_limit (file_of all c.args.vault.now) c.in-Err.why (λ bytes. vault_task (vault bytes)) told _ _ _ (c.in-Err.ensures.load all has) is)
+    (did_load 1 vault_limit (file_of all c.args.vault.now) c.in-Err.why (λ bytes. vault_task (vault bytes)) told _ _ _
+    (c.in-Err.ensures.load all has) is)
 
 pub returns-in-Err-clause-placed : goal.returns-in-Err-clause-placed
 returns-in-Err-clause-placed g c = λ all has.
     rw c.unread.ensures.unread
-    (ends_load 1 vault_limit (file_of all c.args.vault.now) c.in-Err.why (λ bytes. vault_task (vault bytes)) (c.in-Err.ensures.load all has))
+    (ends_load 1 vault_limit (file_of all c.args.vault.now) c.in-Err.why (λ bytes. vault_task (vault bytes))
+    (c.in-Err.ensures.load all has))
 
 pub returns-in-Ok-load-clause-did : goal.returns-in-Ok-load-clause-did
 returns-in-Ok-load-clause-did g c = λ all told after entropy has is.
@@ -29,7 +31,8 @@ pub returns-in-Ok-load-clause-placed : goal.returns-in-Ok-load-clause-placed
 returns-in-Ok-load-clause-placed g c = λ all has.
     let read = rw c.deref.ensures.value at c.in-Ok-load.ensures.loaded in
     let from = c.in-Ok.ensures.load all has (λ bytes. vault_task (vault bytes)) in
-    ends_task _ (from ∙ ap vault_task read) (ends_text (plain_plan (key_lines c.in-Ok-load.vault)) _ c.write_keys.ensures.kind)
+    ends_task _ (from ∙ ap vault_task read) (ends_text
+    (plain_plan (key_lines c.in-Ok-load.vault)) _ c.write_keys.ensures.kind)
 
 pub returns-in-Ok-load-clause-out_sure : goal.returns-in-Ok-load-clause-out_sure
 returns-in-Ok-load-clause-out_sure g c = λ all told has enough at.

@@ -10,7 +10,8 @@ use Rattle.fle_runner.proofs.keys.write_keys.Goals as goal
 pub returns-in-Ok-clause-did : goal.returns-in-Ok-clause-did
 returns-in-Ok-clause-did g c = λ told after entropy is.
     let lines = c.deref.ensures.value ∙ c.in-Ok.ensures.lines in
-    c.write_made.ensures.did (plain_plan (key_lines c.args.keys.now)) [] told after entropy entropy refl lines (draws_none entropy) is
+    c.write_made.ensures.did (plain_plan (key_lines c.args.keys.now)) [] told after entropy entropy refl lines
+    (draws_none entropy) is
 
 pub returns-in-Err-clause-did : goal.returns-in-Err-clause-did
 returns-in-Err-clause-did g c = λ told after entropy is.

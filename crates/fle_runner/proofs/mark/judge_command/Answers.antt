@@ -16,7 +16,10 @@ returns-in-Ok-Collection c =
     let into =
     marked_told db infos command c.in-Ok-Collection.name.now c.requires.whole aims.0 aims.1 aims.2
     ∙ ap (λ (o : Option Collection). verdict_into o command.tree) (sym c.info_of.ensures.named) in
-    record { judged = λ e. subst (λ (v : Verdict). JudgeIs v e e c.judge_marked.result) (sym into) (c.judge_marked.ensures.judged e) }
+    record {
+      judged = λ e. subst (λ (v : Verdict). JudgeIs v e e c.judge_marked.result) (sym into)
+          (c.judge_marked.ensures.judged e);
+    }
 
 pub returns-in-Ok-Pass : goal.returns-in-Ok-Pass
 returns-in-Ok-Pass c =
@@ -26,7 +29,8 @@ returns-in-Ok-Pass c =
     let aims = rw c.in-Ok-Pass.field-0-is at c.in-Ok-Pass.ensures.aims in
     record {
       judged = λ e.
-          subst (λ (v : Verdict). JudgeIs v e e c.judge_reply.result) (sym (passed_told db infos command.tree aims.1)) (c.judge_reply.ensures.judged _ e c.reply_clear.ensures.replies);
+          subst (λ (v : Verdict). JudgeIs v e e c.judge_reply.result) (sym (passed_told db infos command.tree aims.1))
+          (c.judge_reply.ensures.judged _ e c.reply_clear.ensures.replies);
     }
 
 pub returns-in-Err : goal.returns-in-Err
@@ -35,5 +39,6 @@ returns-in-Err c =
     let infos = c.args.infos.now in
     let command = c.args.command.now in
     record {
-      judged = λ e. c.judge_fault.ensures.judged (mark_verdict infos db command.tree) e (tells_fields db infos command c.in-Err.refusal c.requires.whole c.in-Err.ensures.aims);
+      judged = λ e. c.judge_fault.ensures.judged (mark_verdict infos db command.tree) e
+          (tells_fields db infos command c.in-Err.refusal c.requires.whole c.in-Err.ensures.aims);
     }

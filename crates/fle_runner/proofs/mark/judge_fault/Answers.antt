@@ -7,7 +7,8 @@ use Rattle.fle_runner.proofs.mark.judge_fault.Goals as goal
 
 pub returns-in-Refused : goal.returns-in-Refused
 returns-in-Refused c = record {
-  judged = λ v e says. subst (λ (w : Verdict). JudgeIs w e e c.refuse.result) (sym (rw c.in-Refused.is at says)) (c.refuse.ensures.judged e);
+  judged = λ v e says. subst (λ (w : Verdict). JudgeIs w e e c.refuse.result) (sym (rw c.in-Refused.is at says))
+      (c.refuse.ensures.judged e);
 }
 
 pub returns-in-Memory : goal.returns-in-Memory

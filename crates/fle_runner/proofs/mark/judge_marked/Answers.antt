@@ -31,5 +31,6 @@ returns-in-Some c =
     record {
       judged = λ e.
           rw (c.in-Some.is, view)
-          (subst (λ (n : ℕ). JudgeIs (refuses View (place_of n command)) e e c.refuse.result) c.first_start.ensures.start (c.refuse.ensures.judged e));
+          (subst (λ (n : ℕ). JudgeIs (refuses View (place_of n command)) e e c.refuse.result)
+          c.first_start.ensures.start (c.refuse.ensures.judged e));
     }

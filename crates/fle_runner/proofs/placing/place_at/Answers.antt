@@ -15,7 +15,9 @@ loop-number-init c =
 pub returns-then-start-at : goal.returns-then-start-at
 returns-then-start-at c =
     let l = c.loop-number in
-    let here = ends_here l.steps.items c.args.at 0 (l.inner.start + 4) l.inner.tree c.in-Some.number c.in-Some.item c.in-Some.ensures.found (sym c.start.ensures.start ∙ c.if-start-at.true) in
+    let here = ends_here l.steps.items c.args.at 0
+    (l.inner.start + 4) l.inner.tree c.in-Some.number c.in-Some.item c.in-Some.ensures.found
+    (sym c.start.ensures.start ∙ c.if-start-at.true) in
     let pushed : c.push.new.self.items ≡ l.steps.items ++ c.in-Some.number ∷ [] = grind (arith, common_steps) in
     let whole : c.push.new.self.items ≡ place_of c.args.at c.args.document.now.tree = cc in
     record { place = c.from_vec.ensures.same ∙ whole }
@@ -23,12 +25,14 @@ returns-then-start-at c =
 pub loop-number-smaller : goal.loop-number-smaller
 loop-number-smaller c =
     let l = c.loop-number in
-    is_smaller l.steps.items c.args.at 0 (l.inner.start + 4) l.inner.tree c.in-Some.number c.in-Some.item c.in-Some.ensures.found _ _ c.in-Some-child.ensures.node
+    is_smaller l.steps.items c.args.at 0 (l.inner.start + 4) l.inner.tree c.in-Some.number c.in-Some.item
+    c.in-Some.ensures.found _ _ c.in-Some-child.ensures.node
 
 pub loop-number-preserved : goal.loop-number-preserved
 loop-number-preserved c =
     let l = c.loop-number in
-    let on = goes_on l.steps.items c.args.at 0 (l.inner.start + 4) l.inner.tree c.in-Some.number c.in-Some.item c.in-Some.ensures.found _ _
+    let on = goes_on l.steps.items c.args.at 0 (l.inner.start + 4) l.inner.tree c.in-Some.number c.in-Some.item
+    c.in-Some.ensures.found _ _
     (λ same. c.if-start-at.false (c.start.ensures.start ∙ same)) c.in-Some-child.ensures.node in
     let pushed : c.push.new.self.items ≡ l.steps.items ++ c.in-Some.number ∷ [] = grind (arith, common_steps) in
     cc (c.in-Some-child.ensures.start)
@@ -40,8 +44,10 @@ returns c =
     let none : [] ≡ place =
     elim c.match-child_holding.branch [
       | in-Some+else-is_err+else-start-at+in-None w ↦
-          sym (l.invariant ∙ ends_in_leaf l.steps.items c.args.at 0 (l.inner.start + 4) l.inner.tree w.in-Some.number w.in-Some.item w.in-Some.ensures.found _ _
+          sym (l.invariant ∙ ends_in_leaf l.steps.items c.args.at 0
+          (l.inner.start + 4) l.inner.tree w.in-Some.number w.in-Some.item w.in-Some.ensures.found _ _
           (λ same. w.if-start-at.false (w.start.ensures.start ∙ same)) w.in-None.ensures.node)
-      | in_default w ↦ sym (l.invariant ∙ ends_nowhere l.steps.items c.args.at 0 (l.inner.start + 4) l.inner.tree w.in_default.ensures.found)
+      | in_default w ↦ sym (l.invariant ∙ ends_nowhere l.steps.items c.args.at 0
+          (l.inner.start + 4) l.inner.tree w.in_default.ensures.found)
     ] in
     record { place = c.from_vec-2.ensures.same ∙ c.new.ensures.items ∙ none }

@@ -6,7 +6,8 @@ use Rattle.bson_tree.specs.Places.{place_of}
 use Rattle.fle_runner.proofs.placing.place_at.Given as goal
 
 abbrev pub invariant-loop-number : goal.invariant-loop-number
-invariant-loop-number l = place_of l.at l.document.tree ≡ below l.steps.items (spot_from l.at 0 (l.inner.start + 4) l.inner.tree)
+invariant-loop-number l = place_of l.at l.document.tree
+    ≡ below l.steps.items (spot_from l.at 0 (l.inner.start + 4) l.inner.tree)
 
 abbrev pub decreases-loop-number : goal.decreases-loop-number
 decreases-loop-number l = items_size l.inner.tree

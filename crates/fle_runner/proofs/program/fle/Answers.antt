@@ -9,7 +9,8 @@ use Rattle.fle_runner.proofs.program.fle.Goals as goal
 
 pub returns-clause-ended : goal.returns-clause-ended
 returns-clause-ended g c =
-    let same : c.cast_unsigned.result ≡ cast_unsigned w64 c.args.now_ms = c.cast_unsigned.ensures ∙ ap (cast_unsigned w64) (to_z-of_z w64 c.args.now_ms c.ranges.now_ms) in
+    let same : c.cast_unsigned.result ≡ cast_unsigned w64 c.args.now_ms =
+    c.cast_unsigned.ensures ∙ ap (cast_unsigned w64) (to_z-of_z w64 c.args.now_ms c.ranges.now_ms) in
     rw (sym same) (record {
       why = c.act-end.result.why;
       number = c.act-end.result.number;
@@ -28,23 +29,29 @@ returns-clause-ended g c =
 
 pub returns-clause-settled : goal.returns-clause-settled
 returns-clause-settled g c =
-    let same : c.cast_unsigned.result ≡ cast_unsigned w64 c.args.now_ms = c.cast_unsigned.ensures ∙ ap (cast_unsigned w64) (to_z-of_z w64 c.args.now_ms c.ranges.now_ms) in
+    let same : c.cast_unsigned.result ≡ cast_unsigned w64 c.args.now_ms =
+    c.cast_unsigned.ensures ∙ ap (cast_unsigned w64) (to_z-of_z w64 c.args.now_ms c.ranges.now_ms) in
     rw (sym same) (λ all told has is unfailed lasted.
     settled_of c.report.ensures.status (c.act-end.ensures.did all told has is).ran
-    c.act-end.ensures.in_cause c.act-end.ensures.folder_cause c.act-end.ensures.out_cause c.act-end.ensures.entropy_cause unfailed lasted)
+    c.act-end.ensures.in_cause c.act-end.ensures.folder_cause c.act-end.ensures.out_cause
+    c.act-end.ensures.entropy_cause unfailed lasted)
 
 pub returns-clause-whole : goal.returns-clause-whole
 returns-clause-whole g c =
-    let same : c.cast_unsigned.result ≡ cast_unsigned w64 c.args.now_ms = c.cast_unsigned.ensures ∙ ap (cast_unsigned w64) (to_z-of_z w64 c.args.now_ms c.ranges.now_ms) in
+    let same : c.cast_unsigned.result ≡ cast_unsigned w64 c.args.now_ms =
+    c.cast_unsigned.ensures ∙ ap (cast_unsigned w64) (to_z-of_z w64 c.args.now_ms c.ranges.now_ms) in
     rw (sym same) (λ all told has is settled.
-    whole_of (c.act-end.ensures.did all told has is).ran (subst (λ (s : Status). IsSettled s) c.report.ensures.status settled))
+    whole_of (c.act-end.ensures.did all told has is).ran
+    (subst (λ (s : Status). IsSettled s) c.report.ensures.status settled))
 
 pub returns-clause-write_sure : goal.returns-clause-write_sure
 returns-clause-write_sure g c =
-    let same : c.cast_unsigned.result ≡ cast_unsigned w64 c.args.now_ms = c.cast_unsigned.ensures ∙ ap (cast_unsigned w64) (to_z-of_z w64 c.args.now_ms c.ranges.now_ms) in
+    let same : c.cast_unsigned.result ≡ cast_unsigned w64 c.args.now_ms =
+    c.cast_unsigned.ensures ∙ ap (cast_unsigned w64) (to_z-of_z w64 c.args.now_ms c.ranges.now_ms) in
     rw (sym same) (search rules)
 
 pub returns-clause-entropy_sure : goal.returns-clause-entropy_sure
 returns-clause-entropy_sure g c =
-    let same : c.cast_unsigned.result ≡ cast_unsigned w64 c.args.now_ms = c.cast_unsigned.ensures ∙ ap (cast_unsigned w64) (to_z-of_z w64 c.args.now_ms c.ranges.now_ms) in
+    let same : c.cast_unsigned.result ≡ cast_unsigned w64 c.args.now_ms =
+    c.cast_unsigned.ensures ∙ ap (cast_unsigned w64) (to_z-of_z w64 c.args.now_ms c.ranges.now_ms) in
     rw (sym same) (search rules)

@@ -6,6 +6,7 @@ use Rattle.fle_runner.proofs.show.text_line.Goals as goal
 
 pub returns-in-Ok-write_whole : goal.returns-in-Ok-write_whole
 returns-in-Ok-write_whole c = record {
-  line = gathered c.new-line.result.bytes.items c.write_text.new.out.bytes.items c.write_whole.new.out.bytes.items (text c.args.document.now.tree) (10 ∷ [])
+  line = gathered c.new-line.result.bytes.items c.write_text.new.out.bytes.items c.write_whole.new.out.bytes.items
+      (text c.args.document.now.tree) (10 ∷ [])
       c.new-line.ensures.empty c.in-Ok.ensures.text.puts c.in-Ok-write_whole.ensures.wrote.puts;
 }

@@ -5,5 +5,6 @@ use Rattle.fle_runner.proofs.words.each_once.Given as goal
 
 abbrev pub invariant-loop-name : goal.invariant-loop-name
 invariant-loop-name l = record {
-  once : each_once (map string_bytes l.names) (map string_bytes (drop l.name-index l.names)) ≡ each_once (map string_bytes l.names) (map string_bytes l.names);
+  once : each_once (map string_bytes l.names) (map string_bytes (drop l.name-index l.names))
+      ≡ each_once (map string_bytes l.names) (map string_bytes l.names);
 }
