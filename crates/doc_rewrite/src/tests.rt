@@ -2,8 +2,7 @@
 
 use crate::sample_bytes::INFOS;
 use crate::samples::{
-    DOTTED, EQUAL_NAMES, FROM_A_DRIVER, IN_LIST, INFOS, NESTED, ONE_INT, ONE_STRING, Sample,
-    TWO_DOCUMENTS,
+    DOTTED, EQUAL_NAMES, FROM_A_DRIVER, IN_LIST, NESTED, ONE_INT, ONE_STRING, Sample, TWO_DOCUMENTS,
 };
 use crate::standing::{keys_there, stand};
 use crate::{KeyTable, plan_seal, seal_through};
