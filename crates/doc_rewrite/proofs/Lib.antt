@@ -5,3 +5,10 @@ pub mod Growth
 pub mod Runs
 pub mod Policies
 pub mod Stands
+pub mod Leaves
+pub mod Walks
+pub mod Finds
+pub mod Unsealed
+pub mod OneLeaf
+pub mod Opens
+pub mod Wholes

@@ -5,3 +5,8 @@ pub mod Sealed
 pub mod Plans
 pub mod Vectors
 pub mod Sealing
+pub mod Founds
+pub mod Opened
+pub mod Leaves
+pub mod Finding
+pub mod Opening
