@@ -13,7 +13,8 @@ word n = search (rules, arith)
 digest : (h : List ℕ) (n : ℕ) → All (λ b. b < 256) (digest_bytes h n)
 unfolding digest_bytes
 digest h zero = search rules
-digest h (suc n) = All-append (λ b. b < 256) (digest_bytes h n) (to_be_bytes w64 (slice_index h n)) (digest h n) (word (slice_index h n))
+digest h (suc n) = All-append (λ b. b < 256) (digest_bytes h n) (to_be_bytes w64 (slice_index h n)) (digest h n)
+    (word (slice_index h n))
 
 pub code_bytes : (k m : List ℕ) → All (λ b. b < 256) (hmac k m)
 unfolding hmac sha512

@@ -13,16 +13,19 @@ use Rattle.doc_rewrite.specs.Vectors.{IsDrawnVector, DrawFails}
 some_is : (a b : List Block) → Some a ≡ Some b → a ≡ b
 some_is a b e = ap (λ (o : Option (List Block)). unwrap_or o []) e
 
-taken : (before after : Option (List Block)) (block : Block) → DrawTakes before after (Ok block) → (all : List Block) → before ≡ Some all
+taken : (before after : Option (List Block)) (block : Block) → DrawTakes before after (Ok block) → (all : List Block)
+    → before ≡ Some all
     → (rest : List Block) × (all ≡ (block ∷ []) ++ rest) × (after ≡ Some rest)
 taken None after block t all is = absurd cc
 taken (Some blocks) after block t all is = (t.0, sym (some_is blocks all is) ∙ t.1, t.2)
 
-kept : (before after : Option (List Block)) (fault : Failed) → DrawTakes before after (Err fault) → (all : List Block) → before ≡ Some all → after ≡ Some all
+kept : (before after : Option (List Block)) (fault : Failed) → DrawTakes before after (Err fault) → (all : List Block)
+    → before ≡ Some all → after ≡ Some all
 kept None after fault t all is = absurd cc
 kept (Some blocks) after fault t all is = t ∙ is
 
-pub vector_drawn : (s : Site) (key : List ℕ) (t : Tree) (before after : EntropySeen) (block : Block) → s.algorithm ≡ Random
+pub vector_drawn : (s : Site) (key : List ℕ) (t : Tree) (before after : EntropySeen) (block : Block)
+    → s.algorithm ≡ Random
     → DrawTakes before.told after.told (Ok block) → DrawCause before.faults after.faults (Ok block)
     → DrawAssured before.assured after.assured (Ok block) → IsBlock block → IsDrawnVector s key t before after block
 vector_drawn s key t before after block random takes cause sure is = rw random (record {
@@ -38,7 +41,8 @@ vector_drawn s key t before after block random takes cause sure is = rw random (
 })
 
 pub draw_failed : (before after : EntropySeen) (fault : Failed) → DrawTakes before.told after.told (Err fault)
-    → DrawCause before.faults after.faults (Err fault) → DrawAssured before.assured after.assured (Err fault) → DrawFails Random before after
+    → DrawCause before.faults after.faults (Err fault) → DrawAssured before.assured after.assured (Err fault)
+    → DrawFails Random before after
 draw_failed before after fault takes cause sure = record {
   needs = refl;
   draws = record {

@@ -27,13 +27,15 @@ removed (s ∷ ss) = (s.end - s.start) + removed ss
 more : (n k l : ℕ) → sealed_width n + (k + l) ≡ (n + k) + ((sealed_width n - n) + l)
 more n k l = omega arith
 
-pub one_trade : (s : Site) (t : Tree) (n : ℕ) → s.end ≡ s.start + length (value_bytes t) → n ≡ sealed_width (length (value_bytes t))
+pub one_trade : (s : Site) (t : Tree) (n : ℕ) → s.end ≡ s.start + length (value_bytes t)
+    → n ≡ sealed_width (length (value_bytes t))
     → n + (s.end - s.start) ≡ length (value_bytes t) + sealed_width (s.end - s.start)
 one_trade s t n e is =
     let long : s.end - s.start ≡ length (value_bytes t) = omega (arith, e) in
     omega (arith, long, is, ap sealed_width long)
 
-one_cap : (s : Site) (t : Tree) (n : ℕ) → s.end ≡ s.start + length (value_bytes t) → n ≤ sealed_width (length (value_bytes t))
+one_cap : (s : Site) (t : Tree) (n : ℕ) → s.end ≡ s.start + length (value_bytes t)
+    → n ≤ sealed_width (length (value_bytes t))
     → n + (s.end - s.start) ≤ length (value_bytes t) + sealed_width (s.end - s.start)
 one_cap s t n e is =
     let long : s.end - s.start ≡ length (value_bytes t) = omega (arith, e) in
@@ -50,14 +52,16 @@ caps (s ∷ ss) (p ∷ ps) f = (
   removed ss + grown ss,
   refl,
   sym (more (s.end - s.start) (removed ss) (grown ss)),
-  λ t e. one_cap s t (length (value_bytes (p.value t))) (sym f.0.end ∙ e ∙ ap (λ (n : ℕ). n + length (value_bytes t)) f.0.start) (f.0.size t),
+  λ t e. one_cap s t (length (value_bytes (p.value t)))
+      (sym f.0.end ∙ e ∙ ap (λ (n : ℕ). n + length (value_bytes t)) f.0.start) (f.0.size t),
   caps ss ps f.1,
 )
 
 -- what takes the place of the first of them, and of the others
 pub trades_one : (s : Site) (ss : List Site) (p : Put) (ps : List Put) → p.start ≡ s.start → p.end ≡ s.end
     → ((t : Tree) → length (value_bytes (p.value t)) ≡ sealed_width (length (value_bytes t)))
-    → Trades ps (removed ss) (removed ss + grown ss) → Trades (p ∷ ps) (removed (s ∷ ss)) (removed (s ∷ ss) + grown (s ∷ ss))
+    → Trades ps (removed ss) (removed ss + grown ss)
+    → Trades (p ∷ ps) (removed (s ∷ ss)) (removed (s ∷ ss) + grown (s ∷ ss))
 trades_one s ss p ps from to long others = (
   s.end - s.start,
   sealed_width (s.end - s.start),
@@ -65,30 +69,39 @@ trades_one s ss p ps from to long others = (
   removed ss + grown ss,
   refl,
   sym (more (s.end - s.start) (removed ss) (grown ss)),
-  λ t e. one_trade s t (length (value_bytes (p.value t))) (sym to ∙ e ∙ ap (λ (n : ℕ). n + length (value_bytes t)) from) (long t),
+  λ t e. one_trade s t (length (value_bytes (p.value t))) (sym to ∙ e ∙ ap (λ (n : ℕ). n + length (value_bytes t)) from)
+      (long t),
   others,
 )
 
-trades : (keys : Lookup) (ss : List Site) (blocks : List Block) → AreLong ss → AreBlocks blocks → Trades (seals keys ss blocks) (removed ss) (removed ss + grown ss)
+trades : (keys : Lookup) (ss : List Site) (blocks : List Block) → AreLong ss → AreBlocks blocks
+    → Trades (seals keys ss blocks) (removed ss) (removed ss + grown ss)
 trades keys [] blocks ids are = (refl, refl)
 trades keys (s ∷ ss) blocks ids are =
-    trades_one s ss (put_of keys s (first_block s.algorithm blocks)) (seals keys ss (other_blocks s.algorithm blocks)) refl refl
+    trades_one s ss (put_of keys s (first_block s.algorithm blocks))
+    (seals keys ss (other_blocks s.algorithm blocks)) refl refl
     (λ t. sealed_size keys s (first_block s.algorithm blocks) t ids.0 (first_long s.algorithm blocks are))
     (trades keys ss (other_blocks s.algorithm blocks) ids.1 (other_are s.algorithm blocks are))
 
-fit : (keys : Lookup) (ss : List Site) (blocks : List Block) → AreLong ss → AreBlocks blocks → AreFits (spans_of ss) (seals keys ss blocks)
+fit : (keys : Lookup) (ss : List Site) (blocks : List Block) → AreLong ss → AreBlocks blocks
+    → AreFits (spans_of ss) (seals keys ss blocks)
 fit keys [] blocks ids are = tt
 fit keys (s ∷ ss) blocks ids are = (
   record {
     start = refl;
     end = refl;
-    size = λ t. omega (arith, sealed_size keys s (first_block s.algorithm blocks) t ids.0 (first_long s.algorithm blocks are));
+    size = λ t. omega (
+      arith,
+      sealed_size keys s (first_block s.algorithm blocks) t ids.0
+          (first_long s.algorithm blocks are),
+    );
   },
   fit keys ss (other_blocks s.algorithm blocks) ids.1 (other_are s.algorithm blocks are),
 )
 
 -- the document with what takes the places of these sites
-pub whole_size : (ss : List Site) (d : At) (ps : List Put) → Takes (d.start + 4) d.tree ps [] → Trades ps (removed ss) (removed ss + grown ss)
+pub whole_size : (ss : List Site) (d : At) (ps : List Put) → Takes (d.start + 4) d.tree ps []
+    → Trades ps (removed ss) (removed ss + grown ss)
     → length (doc_bytes (replaced ps d)) ≡ length (doc_bytes d.tree) + grown ss
 whole_size ss d ps taken trade =
     let s = spliced_items taken tt in
@@ -96,7 +109,8 @@ whole_size ss d ps taken trade =
     let js = spliced (d.start + 4) ps d.tree in
     let k : i.0 ≡ 0 = i.2.0 in
     let l : i.1 ≡ 0 = i.2.1 in
-    let made : length (doc_bytes js) ≡ length (doc_bytes (replaced ps d)) = ap (λ (is : Items). length (doc_bytes is)) s.made in
+    let made : length (doc_bytes js) ≡ length (doc_bytes (replaced ps d)) =
+    ap (λ (is : Items). length (doc_bytes is)) s.made in
     omega (arith, i.3, k, l, made, framed_size (items_bytes js), framed_size (items_bytes d.tree))
 
 module _ (ss : List Site) (d : At) (stands : StandsAt (spans_of ss) d) where
@@ -107,13 +121,15 @@ module _ (ss : List Site) (d : At) (stands : StandsAt (spans_of ss) d) where
       let js = spliced (d.start + 4) ps d.tree in
       let k : i.0 ≡ 0 = i.2.0 in
       let l : i.1 ≡ 0 = i.2.1 in
-      let made : length (doc_bytes js) ≡ length (doc_bytes (replaced ps d)) = ap (λ (is : Items). length (doc_bytes is)) s.made in
+      let made : length (doc_bytes js) ≡ length (doc_bytes (replaced ps d)) =
+      ap (λ (is : Items). length (doc_bytes is)) s.made in
       omega (arith, i.3, k, l, made, long, framed_size (items_bytes js), framed_size (items_bytes d.tree))
 
   pub sealed_long : (n : ℕ) → n ≡ length (doc_bytes d.tree) + grown ss → AreLong ss → IsSealedSize ss d n
   unfolding sealed
   sealed_long n long ids keys blocks are =
-      whole_size ss d (seals keys ss blocks) (stands (seals keys ss blocks) (fit keys ss blocks ids are)) (trades keys ss blocks ids are) ∙ sym long
+      whole_size ss d (seals keys ss blocks) (stands (seals keys ss blocks) (fit keys ss blocks ids are))
+      (trades keys ss blocks ids are) ∙ sym long
 
   -- how long it is under some keys, is how long it is under any
   pub size_is : (n : ℕ) → AreLong ss → IsSealedSize ss d n → n ≡ length (doc_bytes d.tree) + grown ss

@@ -13,3 +13,10 @@ pub mod Codes
 pub mod MadePayloads
 pub mod WithinBytes
 pub mod SealedAsStated
+pub mod Leaves
+pub mod Walks
+pub mod Finds
+pub mod Unsealed
+pub mod OneLeaf
+pub mod Opens
+pub mod Wholes

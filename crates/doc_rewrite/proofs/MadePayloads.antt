@@ -23,16 +23,22 @@ use Rattle.doc_rewrite.proofs.Sizes.{derived_size}
 pub any_is : IsBlock any_block
 any_is = record { len = refl; bytes = search rules }
 
-vector_block : (algorithm : Algorithm) (key a p : List ℕ) (block : Block) → IsBlock block → aes.IsBlock (vector algorithm key a p block)
+vector_block : (algorithm : Algorithm) (key a p : List ℕ) (block : Block) → IsBlock block
+    → aes.IsBlock (vector algorithm key a p block)
 unfolding derived_iv
-vector_block Deterministic key a p block b = record { len = derived_size key a p; bytes = All-take (λ x. x < 256) 16 _ (code_bytes _ _) }
+vector_block Deterministic key a p block b = record {
+  len = derived_size key a p;
+  bytes = All-take (λ x. x < 256) 16 _ (code_bytes _ _);
+}
 vector_block Random key a p block b = record { len = b.len; bytes = b.bytes }
 
-vector_is : (algorithm : Algorithm) (key a p : List ℕ) (block : Block) → IsVector algorithm key a p (vector algorithm key a p block)
+vector_is : (algorithm : Algorithm) (key a p : List ℕ) (block : Block)
+    → IsVector algorithm key a p (vector algorithm key a p block)
 vector_is Deterministic key a p block = refl
 vector_is Random key a p block = tt
 
-payload_made : (algorithm : Algorithm) (id key : List ℕ) (type : ℕ) (p : List ℕ) (block : Block) → length id ≡ 16 → IsBlock block → All (λ x. x < 256) p
+payload_made : (algorithm : Algorithm) (id key : List ℕ) (type : ℕ) (p : List ℕ) (block : Block) → length id ≡ 16
+    → IsBlock block → All (λ x. x < 256) p
     → IsPayload algorithm id key type p (payload algorithm id key type p block)
 unfolding payload
 payload_made algorithm id key type p block long b bytes =
@@ -48,9 +54,15 @@ payload_made algorithm id key type p block long b bytes =
     } in
     payload_of algorithm kind id key type iv p (a ++ (s ++ tag key a s)) form refl (vector_is algorithm key a p block)
 
-pub value_made : (keys : Lookup) (policy : Policy) (start end : ℕ) (t : Tree) (block : Block) (key : List ℕ) → length (key_id policy.key) ≡ 16
+pub value_made : (keys : Lookup) (policy : Policy) (start end : ℕ) (t : Tree) (block : Block) (key : List ℕ)
+    → length (key_id policy.key) ≡ 16
     → keys (key_id policy.key) ≡ Some key → IsBlock block → All (λ x. x < 256) (value_bytes t)
-    → IsSealedValue keys policy t (sealed_value keys (record { start = start; end = end; algorithm = policy.algorithm; key_id = key_id policy.key }) block t)
+    → IsSealedValue keys policy t (sealed_value keys (record {
+      start = start;
+      end = end;
+      algorithm = policy.algorithm;
+      key_id = key_id policy.key;
+    }) block t)
 unfolding sealed_value
 value_made keys policy start end t block key long there b bytes = record {
   key = key;

@@ -1,5 +1,6 @@
 -- The site of a mark is read from its rule.
-use Rattle.std.proofs.Common.{◌≡◌, ℕ, zero, suc, ◌+◌, List, [], ◌∷◌, ◌++◌, length, Option, Some, None, slice_get, option_map, drop, refl, ap, ◌∙◌, sym, subst, arith, append_assoc}
+use Rattle.std.proofs.Common.{◌≡◌, ℕ, zero, suc, ◌+◌, List, [], ◌∷◌, ◌++◌, length, Option, Some, None, slice_get}
+use Rattle.std.proofs.Common.{option_map, drop, refl, ap, ◌∙◌, sym, subst, arith, append_assoc}
 use Rattle.std.specs.Prelude.{MatchOption}
 use Rattle.encrypt_schema.specs.declared.command.marks.Mark.{Mark}
 use Rattle.encrypt_schema.specs.declared.schema.policy.Policy.{Policy}
@@ -10,10 +11,13 @@ use Rattle.doc_rewrite.specs.declared.site.Site.{Site}
 use Rattle.doc_rewrite.specs.Plans.{AreLong}
 use Rattle.doc_rewrite.specs.Sites.{site_of, sites_of}
 
-pub site_found : (rows : List Row) (m : Mark) (policy : Policy) (site : Site) → option_map (λ (row : Row). row.policy) (slice_get rows m.policy) ≡ Some policy
-    → site ≡ record { start = m.start; end = m.end; algorithm = policy.algorithm; key_id = key_id policy.key } → site ≡ site_of rows m
+pub site_found : (rows : List Row) (m : Mark) (policy : Policy) (site : Site)
+    → option_map (λ (row : Row). row.policy) (slice_get rows m.policy) ≡ Some policy
+    → site ≡ record { start = m.start; end = m.end; algorithm = policy.algorithm; key_id = key_id policy.key }
+    → site ≡ site_of rows m
 site_found rows m policy site found is =
-    is ∙ ap (λ (p : Policy). record { start = m.start; end = m.end; algorithm = p.algorithm; key_id = key_id p.key }) (sym (policy_found m.policy rows policy found))
+    is ∙ ap (λ (p : Policy). record { start = m.start; end = m.end; algorithm = p.algorithm; key_id = key_id p.key })
+    (sym (policy_found m.policy rows policy found))
 
 -- the mark of a number, and those behind it
 pub no_mark : (i : ℕ) (ms : List Mark) → slice_get ms i ≡ None → drop i ms ≡ []
@@ -41,7 +45,8 @@ long_more [] s are long = (long, tt)
 long_more (t ∷ ss) s are long = (are.0, long_more ss s are.1 long)
 
 -- what was made of the marks that were read, and what is left
-pub one_site : (rows : List Row) (ss all : List Site) (m : Mark) (ms left : List Mark) (s : Site) → ss ++ sites_of rows left ≡ all
+pub one_site : (rows : List Row) (ss all : List Site) (m : Mark) (ms left : List Mark) (s : Site)
+    → ss ++ sites_of rows left ≡ all
     → left ≡ m ∷ ms → s ≡ site_of rows m → (ss ++ s ∷ []) ++ sites_of rows ms ≡ all
 one_site rows ss all m ms left s made first is =
     append_assoc ss (s ∷ []) (sites_of rows ms)

@@ -1,5 +1,6 @@
 -- Values that are sealed one after the other.
-use Rattle.std.proofs.Common.{◌≡◌, ◌∙◌, ℕ, ◌+◌, List, [], ◌∷◌, ◌++◌, length, take, arith, refl, sym, ap, subst, length-append, append_assoc}
+use Rattle.std.proofs.Common.{◌≡◌, ◌∙◌, ℕ, ◌+◌, List, [], ◌∷◌, ◌++◌, length, take, arith, refl, sym, ap, subst}
+use Rattle.std.proofs.Common.{length-append, append_assoc}
 use Rattle.std.proofs.lemmas.List.{append-nil}
 use Rattle.std.proofs.Math.Seq.{take-length}
 use Rattle.bson_tree.specs.Spelling.{doc_bytes}
@@ -41,7 +42,8 @@ some_none keys ss e = record {
 }
 
 -- one more in front
-some_more : (keys : Lookup) (ss mid others : List Site) (a b c : EntropySeen) (p : Put) (ps : List Put) → SealsOne keys ss mid a b p
+some_more : (keys : Lookup) (ss mid others : List Site) (a b c : EntropySeen) (p : Put) (ps : List Put)
+    → SealsOne keys ss mid a b p
     → SealsSome keys mid others b c ps → SealsSome keys ss others a c (p ∷ ps)
 some_more keys ss mid others a b c p ps one more = record {
   drawn = one.drawn ++ more.drawn;
@@ -54,13 +56,15 @@ some_more keys ss mid others a b c p ps one more = record {
       let parts : all ≡ one.drawn ++ behind = append_assoc one.drawn more.drawn rest in
       ap (λ (rs : List Site). seals keys rs all) one.first
       ∙ ap (λ (bs : List Block). put_of keys one.site (first_block alg bs) ∷ seals keys mid (other_blocks alg bs)) parts
-      ∙ ap (λ (bs : List Block). put_of keys one.site (first_block alg (one.drawn ++ behind)) ∷ seals keys mid bs) (others_are alg one.drawn behind one.count)
+      ∙ ap (λ (bs : List Block). put_of keys one.site (first_block alg (one.drawn ++ behind)) ∷ seals keys mid bs)
+      (others_are alg one.drawn behind one.count)
       ∙ ap (λ (b : Block). put_of keys one.site b ∷ seals keys mid behind) (first_same alg one.drawn behind one.count)
       ∙ ap (λ (q : Put). q ∷ seals keys mid behind) (sym one.is)
       ∙ ap (λ (qs : List Put). p ∷ qs) (more.are rest);
   trade = λ none.
       subst (λ (rs : List Site). Trades (p ∷ ps) (removed rs) (removed rs + grown rs)) (sym one.first)
-      (trades_one one.site mid p ps (ap (λ (q : Put). q.start) one.is) (ap (λ (q : Put). q.end) one.is) one.long (more.trade none));
+      (trades_one one.site mid p ps (ap (λ (q : Put). q.start) one.is) (ap (λ (q : Put). q.end) one.is) one.long
+      (more.trade none));
 }
 
 no_sites : (ss : List Site) → spans_of ss ≡ [] → ss ≡ []
@@ -84,12 +88,14 @@ module _ {S A : Type 0} (keys : S → List KeyEntry) (left : S → List Site) (s
       let mid = runs.0 in
       let more = runs_seal mid b ps runs.2 in (
         some_more (key_in (keys a)) (left a) (left mid) (left b) (seen a) (seen mid) (seen b) p ps runs.1.0
-            (subst (λ (ks : List KeyEntry). SealsSome (key_in ks) (left mid) (left b) (seen mid) (seen b) ps) runs.1.1 more.0),
+            (subst (λ (ks : List KeyEntry). SealsSome (key_in ks) (left mid) (left b) (seen mid) (seen b) ps) runs.1.1
+            more.0),
         more.1 ∙ runs.1.2,
       )
 
   -- after the last one the source of blocks is the one that was handed in
-  pub name_done : (d : At) (a b : S) (new : List ℕ) (end : ℕ) → IsSpliced One (λ s. spans_of (left s)) d a b new end → name b ≡ name a
+  pub name_done : (d : At) (a b : S) (new : List ℕ) (end : ℕ) → IsSpliced One (λ s. spans_of (left s)) d a b new end
+      → name b ≡ name a
   name_done d a b new end s = (runs_seal a b s.puts s.runs).1
 
   pub name_stopped : (a b : S) → Stops One None_ a b → name b ≡ name a
@@ -97,7 +103,8 @@ module _ {S A : Type 0} (keys : S → List KeyEntry) (left : S → List Site) (s
 
   pub whole : (ss : List Site) (d : At) (a b : S) (new : List ℕ) (end : ℕ) → left a ≡ ss → StandsAt (spans_of ss) d
       → length new ≡ length (doc_bytes d.tree) + grown ss
-      → IsSpliced One (λ s. spans_of (left s)) d a b new end → IsSealedWhole (key_in (keys a)) ss d (seen a) (seen b) new
+      → IsSpliced One (λ s. spans_of (left s)) d a b new end
+      → IsSealedWhole (key_in (keys a)) ss d (seen a) (seen b) new
   unfolding sealed
   whole ss d a b new end is stands long s =
       let some = (runs_seal a b s.puts s.runs).0 in
@@ -105,7 +112,8 @@ module _ {S A : Type 0} (keys : S → List KeyEntry) (left : S → List Site) (s
       let all : seals (key_in (keys a)) (left a) (some.drawn ++ []) ≡ s.puts =
       some.are [] ∙ ap (λ (rs : List Site). s.puts ++ seals (key_in (keys a)) rs []) none ∙ append-nil s.puts in
       let puts : s.puts ≡ seals (key_in (keys a)) ss some.drawn =
-      sym all ∙ ap (λ (bs : List Block). seals (key_in (keys a)) (left a) bs) (append-nil some.drawn) ∙ ap (λ (rs : List Site). seals (key_in (keys a)) rs some.drawn) is in
+      sym all ∙ ap (λ (bs : List Block). seals (key_in (keys a)) (left a) bs) (append-nil some.drawn)
+      ∙ ap (λ (rs : List Site). seals (key_in (keys a)) rs some.drawn) is in
       let fits : AreFits (spans_of ss) s.puts = subst (λ (rs : List Site). AreFits (spans_of rs) s.puts) is s.fits in
       let trade : Trades s.puts (removed ss) (removed ss + grown ss) =
       subst (λ (rs : List Site). Trades s.puts (removed rs) (removed rs + grown rs)) is (some.trade none) in
@@ -114,7 +122,8 @@ module _ {S A : Type 0} (keys : S → List KeyEntry) (left : S → List Site) (s
         drawn = some.drawn;
         count = omega (arith, some.count, ap draws_of none, ap draws_of is);
         draws = some.draws;
-        written = sym (take-length new) ∙ ap (λ (n : ℕ). take n new) here ∙ s.written ∙ ap (λ (qs : List Put). doc_bytes (replaced qs d)) puts;
+        written = sym (take-length new) ∙ ap (λ (n : ℕ). take n new) here ∙ s.written
+            ∙ ap (λ (qs : List Put). doc_bytes (replaced qs d)) puts;
       }
 
   pub short : (ss : List Site) (a b : S) → left a ≡ ss → Stops One None_ a b → FellShort (seen a) (seen b) (draws_of ss)
@@ -125,7 +134,8 @@ module _ {S A : Type 0} (keys : S → List KeyEntry) (left : S → List Site) (s
       record {
         drawn = some.drawn;
         fewer = omega (arith, some.count, ap draws_of stop.2, fails.needs, ap draws_of is);
-        draws = subst (λ (bs : List Block). Draws (seen a) (seen b) bs) (append-nil some.drawn) (draws_then some.draws fails.draws);
+        draws = subst (λ (bs : List Block). Draws (seen a) (seen b) bs) (append-nil some.drawn)
+            (draws_then some.draws fails.draws);
         unassured = omega (arith, some.draws.falls, fails.unassured);
         rose = omega (arith, some.draws.later, fails.rose);
       }

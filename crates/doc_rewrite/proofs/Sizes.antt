@@ -24,25 +24,38 @@ pub derived_size : (key a p : List ℕ) → length (derived_iv key a p) ≡ 16
 unfolding derived_iv
 derived_size key a p = length-take-le 16 _ (omega (arith, length-hmac (iv_key key) ((a ++ bit_length a) ++ p)))
 
-vector_size : (algorithm : Algorithm) (key a p : List ℕ) (block : Block) → length block ≡ 16 → length (vector algorithm key a p block) ≡ 16
+vector_size : (algorithm : Algorithm) (key a p : List ℕ) (block : Block) → length block ≡ 16
+    → length (vector algorithm key a p block) ≡ 16
 vector_size Deterministic key a p block h = derived_size key a p
 vector_size Random key a p block h = h
 
-payload_size : (algorithm : Algorithm) (id key : List ℕ) (type : ℕ) (p : List ℕ) (block : Block) → length id ≡ 16 → length block ≡ 16
+payload_size : (algorithm : Algorithm) (id key : List ℕ) (type : ℕ) (p : List ℕ) (block : Block) → length id ≡ 16
+    → length block ≡ 16
     → length (payload algorithm id key type p block) ≡ 66 + 16 * (length p / 16 + 1)
 unfolding payload
 payload_size algorithm id key type p block long h =
     let a = head (algorithm_number algorithm) id type in
     let iv = vector algorithm key a p block in
     let s = body key iv p in
-    omega (arith, length-append a (s ++ tag key a s), length-append s (tag key a s), head-size (algorithm_number algorithm) id type long, length-body key iv p (vector_size algorithm key a p block h), length-tag key a s)
+    omega (
+      arith,
+      length-append a (s ++ tag key a s),
+      length-append s (tag key a s),
+      head-size (algorithm_number algorithm) id type long,
+      length-body key iv p (vector_size algorithm key a p block h),
+      length-tag key a s,
+    )
 
 -- what takes the place of a value
 pub sealed_size : (keys : Lookup) (s : Site) (block : Block) (t : Tree) → length s.key_id ≡ 16 → length block ≡ 16
     → length (value_bytes (sealed_value keys s block t)) ≡ sealed_width (length (value_bytes t))
 unfolding sealed_value
 sealed_size keys s block t id h =
-    omega (arith, payload_size s.algorithm s.key_id (unwrap_or (keys s.key_id) []) (tag_of t) (value_bytes t) block id h)
+    omega (
+      arith,
+      payload_size s.algorithm s.key_id (unwrap_or (keys s.key_id) []) (tag_of t)
+          (value_bytes t) block id h,
+    )
 
 -- the blocks for a value, where others come behind them
 pub first_same : (algorithm : Algorithm) (drawn rest : List Block) → length drawn ≡ draw algorithm
@@ -61,12 +74,14 @@ others_are Deterministic drawn rest e = none_more drawn rest e
 others_are Random [] rest e = absurd (omega (arith, e))
 others_are Random (b ∷ drawn) rest e = none_more drawn rest (omega (arith, e))
 
-pub first_long : (algorithm : Algorithm) (blocks : List Block) → AreBlocks blocks → length (first_block algorithm blocks) ≡ 16
+pub first_long : (algorithm : Algorithm) (blocks : List Block) → AreBlocks blocks
+    → length (first_block algorithm blocks) ≡ 16
 first_long Deterministic blocks are = refl
 first_long Random [] are = refl
 first_long Random (b ∷ blocks) are = (All-head IsBlock b blocks are).len
 
-pub other_are : (algorithm : Algorithm) (blocks : List Block) → AreBlocks blocks → AreBlocks (other_blocks algorithm blocks)
+pub other_are : (algorithm : Algorithm) (blocks : List Block) → AreBlocks blocks
+    → AreBlocks (other_blocks algorithm blocks)
 other_are Deterministic blocks are = are
 other_are Random [] are = are
 other_are Random (b ∷ blocks) are = All-tail IsBlock b blocks are

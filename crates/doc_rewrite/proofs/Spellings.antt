@@ -18,11 +18,13 @@ use Rattle.doc_rewrite.specs.Sealed.{sealed_value}
 -- what is sealed under the vector of a block is the payload
 pub payload_is : (algorithm : Algorithm) (id key : List ℕ) (type : ℕ) (iv p b : List ℕ) (block : Block)
     → IsSealedPayload (algorithm_number algorithm) id key type iv p b
-    → iv ≡ vector algorithm key (head (algorithm_number algorithm) id type) p block → b ≡ payload algorithm id key type p block
+    → iv ≡ vector algorithm key (head (algorithm_number algorithm) id type) p block
+    → b ≡ payload algorithm id key type p block
 unfolding payload
 payload_is algorithm id key type iv p b block s e =
     let a = head (algorithm_number algorithm) id type in
-    s.parts ∙ ap (λ (x : List ℕ). a ++ x) (s.message.form ∙ ap (λ (v : List ℕ). body key v p ++ tag key a (body key v p)) e)
+    s.parts ∙ ap (λ (x : List ℕ). a ++ x) (s.message.form
+    ∙ ap (λ (v : List ℕ). body key v p ++ tag key a (body key v p)) e)
 
 -- type byte, name, length, subtype and contents of a binary
 pub binary_parts : (out name contents : List ℕ) (n : ℕ) (a b c whole : List ℕ) → n ≡ length contents
@@ -34,9 +36,12 @@ pub binary_parts : (out name contents : List ℕ) (n : ℕ) (a b c whole : List 
 binary_parts out name contents n a b c whole is ea eb ec ew = rw (ew, ec, eb, ea, is) (simp (append_assoc, append-nil))
 
 -- an element whose value is sealed under the key of the site's id
-pub element_is : (keys : Lookup) (s : Site) (block : Block) (name : List ℕ) (t : Tree) (key out whole : List ℕ) → key ≡ unwrap_or (keys s.key_id) []
-    → whole ≡ out ++ items_bytes (item name (binary 6 (payload s.algorithm s.key_id key (tag_of t) (value_bytes t) block)) no_items)
+pub element_is : (keys : Lookup) (s : Site) (block : Block) (name : List ℕ) (t : Tree) (key out whole : List ℕ)
+    → key ≡ unwrap_or (keys s.key_id) []
+    → whole ≡ out ++ items_bytes (item name (binary 6
+    (payload s.algorithm s.key_id key (tag_of t) (value_bytes t) block)) no_items)
     → whole ≡ out ++ items_bytes (item name (sealed_value keys s block t) no_items)
 unfolding sealed_value
 element_is keys s block name t key out whole is e =
-    e ∙ ap (λ (k : List ℕ). out ++ items_bytes (item name (binary 6 (payload s.algorithm s.key_id k (tag_of t) (value_bytes t) block)) no_items)) is
+    e ∙ ap (λ (k : List ℕ). out ++ items_bytes (item name
+    (binary 6 (payload s.algorithm s.key_id k (tag_of t) (value_bytes t) block)) no_items)) is

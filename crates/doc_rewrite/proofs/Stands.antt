@@ -37,7 +37,8 @@ module _ (rows : List Row) where
         let others = stands_among ds first.0 first.2 in
         (others.0, takes.next at name t is ps first.0 others.0 first.1 others.1, others.2)
 
-  all_taken : (at : ℕ) (is : Items) (ps left : List Put) → takes.Takes at is ps left → Fit [] left → takes.Takes at is ps []
+  all_taken : (at : ℕ) (is : Items) (ps left : List Put) → takes.Takes at is ps left → Fit [] left
+      → takes.Takes at is ps []
   all_taken at is ps [] taken f = taken
   all_taken at is ps (p ∷ left) taken f = absurd f
 

@@ -1,12 +1,15 @@
 -- A command that is sealed by its stations is sealed by its places.
-use Rattle.std.proofs.Common.{◌≡◌, ℕ, zero, suc, ◌+◌, List, [], ◌∷◌, ◌++◌, Option, Some, None, unwrap_or, option_and_then, refl, sym, ap, ap₂, ◌∙◌, subst, arith, Bool, true, false, codes, if◌then◌else◌}
+use Rattle.std.proofs.Common.{◌≡◌, ℕ, zero, suc, ◌+◌, List, [], ◌∷◌, ◌++◌, Option, Some, None, unwrap_or}
+use Rattle.std.proofs.Common.{option_and_then, refl, sym, ap, ap₂, ◌∙◌, subst, arith, Bool, true, false, codes}
+use Rattle.std.proofs.Common.{if◌then◌else◌}
 use Rattle.bson_tree.specs.Tree.{Tree, leaf, node, Items, no_items, item}
 use Rattle.bson_tree.specs.Places.{tree_at, value_at}
 use Rattle.bson_tree.specs.Filled.{filled_in, filled_from}
 use Rattle.encrypt_schema.specs.Commands.Chains.{Chain, last, onward, link, chain_in, chain_from, parent_along, last_of}
 use Rattle.encrypt_schema.specs.Language.Names.{named}
 use Rattle.encrypt_schema.specs.Language.Row.{Row}
-use Rattle.encrypt_schema.specs.Commands.Stations.{Station, Outside, Store, Compare, Passed, Unknown, Insert, Update, Delete, Find, is_passed, station, command_of}
+use Rattle.encrypt_schema.specs.Commands.Stations.{Station, Outside, Store, Compare, Passed, Unknown, Insert, Update}
+use Rattle.encrypt_schema.specs.Commands.Stations.{Delete, Find, is_passed, station, command_of}
 use Rattle.encrypt_schema.specs.Commands.Visits.{entry, command_entry}
 use Rattle.doc_rewrite.specs.SealedTrees.{rule_of, SealedBy, SealedIn, AreSealed}
 use Rattle.doc_rewrite.specs.SealedCommand.{rule_at, SealsAt, IsFilledCommand}
@@ -37,7 +40,8 @@ module _ (S : ℕ → Tree → Tree → Type 0) (rows : List Row) where
 
   -- ---- what is put in at the places
 
-  fill_leaf : (tag : ℕ) (bytes : List ℕ) (u : Tree) (o : Option ℕ) (v : Option Tree) → SealedBy S o (leaf tag bytes) u (u ≡ leaf tag bytes) → v ≡ here o (Some u) → unwrap_or v (leaf tag bytes) ≡ u
+  fill_leaf : (tag : ℕ) (bytes : List ℕ) (u : Tree) (o : Option ℕ) (v : Option Tree)
+      → SealedBy S o (leaf tag bytes) u (u ≡ leaf tag bytes) → v ≡ here o (Some u) → unwrap_or v (leaf tag bytes) ≡ u
   fill_leaf tag bytes u None v sealed e = ap (λ (x : Option Tree). unwrap_or x (leaf tag bytes)) e ∙ sym sealed
   fill_leaf tag bytes u (Some i) v sealed e = ap (λ (x : Option Tree). unwrap_or x (leaf tag bytes)) e
 
@@ -46,41 +50,55 @@ module _ (S : ℕ → Tree → Tree → Type 0) (rows : List Row) where
       → (o ≡ None → (js : Items) → u ≡ node tag js → AreSealed S rows s is js → filled' ≡ js)
       → unwrap_or v (node tag filled') ≡ u
   fill_node tag is filled' u s None v sealed e inside =
-      ap (λ (x : Option Tree). unwrap_or x (node tag filled')) e ∙ ap (node tag) (inside refl sealed.0 sealed.1 sealed.2) ∙ sym sealed.1
+      ap (λ (x : Option Tree). unwrap_or x (node tag filled')) e
+      ∙ ap (node tag) (inside refl sealed.0 sealed.1 sealed.2) ∙ sym sealed.1
   fill_node tag is filled' u s (Some i) v sealed e inside = ap (λ (x : Option Tree). unwrap_or x (node tag filled')) e
 
   mutual
-    filled_is : (s : Station) (elder : List (List ℕ)) (name : List ℕ) (t u : Tree) (f : List ℕ → Option Tree) → SealedIn S rows (station rows s (entry name t)) t u
-        → ((place : List ℕ) → f place ≡ here (rule_along S rows s (chain_in elder name place t)) (tree_at place u)) → filled_in f t ≡ u
-    filled_is s elder name (leaf tag bytes) u f sealed h = fill_leaf tag bytes u (rule_of (station rows s (entry name (leaf tag bytes)))) (f []) sealed (h [])
+    filled_is : (s : Station) (elder : List (List ℕ)) (name : List ℕ) (t u : Tree) (f : List ℕ → Option Tree)
+        → SealedIn S rows (station rows s (entry name t)) t u
+        → ((place : List ℕ) → f place ≡ here (rule_along S rows s (chain_in elder name place t)) (tree_at place u))
+        → filled_in f t ≡ u
+    filled_is s elder name (leaf tag bytes) u f sealed h =
+        fill_leaf tag bytes u (rule_of (station rows s (entry name (leaf tag bytes)))) (f []) sealed (h [])
     filled_is s elder name (node tag is) u f sealed h =
         let w = station rows s (entry name (node tag is)) in
         fill_node tag is (filled_from f 0 is) u w (rule_of w) (f []) sealed (h [])
         (λ none js e p. items_filled w [] 0 is js f p (λ n k place q.
         ap (λ (m : ℕ). f (m ∷ place)) (omega (arith, q)) ∙ h (k ∷ place)
-        ∙ ap₂ (λ (o : Option ℕ) (x : Tree). here o (tree_at (k ∷ place) x)) (along_onward S rows s (link elder name (node tag is)) (chain_from [] k place is)) e))
+        ∙ ap₂ (λ (o : Option ℕ) (x : Tree). here o (tree_at (k ∷ place) x))
+        (along_onward S rows s (link elder name (node tag is)) (chain_from [] k place is)) e))
 
-    items_filled : (s : Station) (elder : List (List ℕ)) (i : ℕ) (is js : Items) (f : List ℕ → Option Tree) → AreSealed S rows s is js
-        → ((n k : ℕ) (place : List ℕ) → n ≡ i + k → f (n ∷ place) ≡ here (rule_along S rows s (chain_from elder k place is)) (value_at (k ∷ place) js)) → filled_from f i is ≡ js
+    items_filled : (s : Station) (elder : List (List ℕ)) (i : ℕ) (is js : Items) (f : List ℕ → Option Tree)
+        → AreSealed S rows s is js
+        → ((n k : ℕ) (place : List ℕ) → n ≡ i + k → f (n ∷ place)
+        ≡ here (rule_along S rows s (chain_from elder k place is)) (value_at (k ∷ place) js))
+        → filled_from f i is ≡ js
     items_filled s elder i no_items js f sealed h = sym sealed
     items_filled s elder i (item name t is) js f sealed h =
         let u = sealed.0 in
         let ks = sealed.1 in
-        let h' : (n k : ℕ) (place : List ℕ) → n ≡ i + k → f (n ∷ place) ≡ here (rule_along S rows s (chain_from elder k place (item name t is))) (value_at (k ∷ place) (item name u ks)) =
-        λ n k place e. h n k place e ∙ ap (λ (x : Items). here (rule_along S rows s (chain_from elder k place (item name t is))) (value_at (k ∷ place) x)) sealed.2 in
+        let h' : (n k : ℕ) (place : List ℕ) → n ≡ i + k
+        → f (n ∷ place) ≡ here (rule_along S rows s (chain_from elder k place (item name t is)))
+        (value_at (k ∷ place) (item name u ks)) =
+        λ n k place e. h n k place e ∙ ap (λ (x : Items). here
+        (rule_along S rows s (chain_from elder k place (item name t is))) (value_at (k ∷ place) x)) sealed.2 in
         ap₂ (λ (x : Tree) (xs : Items). item name x xs)
         (filled_is s elder name t u (λ place. f (i ∷ place)) sealed.3 (λ place. h' i zero place (omega arith)))
-        (items_filled s (elder ++ name ∷ []) (i + 1) is ks f sealed.4 (λ n k place e. h' n (suc k) place (omega (arith, e))))
+        (items_filled s (elder ++ name ∷ []) (i + 1) is ks f sealed.4
+        (λ n k place e. h' n (suc k) place (omega (arith, e))))
         ∙ sym sealed.2
 
   -- ---- what each place is sealed to
 
-  own_seal : (o : Option ℕ) (i : ℕ) (t u : Tree) (P : Type 0) → o ≡ Some i → SealedBy S o t u P → SealsAt S (Some i) (Some t) (Some u)
+  own_seal : (o : Option ℕ) (i : ℕ) (t u : Tree) (P : Type 0) → o ≡ Some i → SealedBy S o t u P
+      → SealsAt S (Some i) (Some t) (Some u)
   own_seal None i t u P e sealed = absurd cc
   own_seal (Some j) i t u P e sealed = let same : j ≡ i = cc in subst (λ (k : ℕ). S k t u) same sealed
 
   -- what is inside a document that isn't protected itself
-  inner_seal : (o : Option ℕ) (tag i : ℕ) (is : Items) (u : Tree) (s : Station) (links : Option Chain) (v w : Option Tree) (n : ℕ) (place : List ℕ)
+  inner_seal : (o : Option ℕ) (tag i : ℕ) (is : Items) (u : Tree) (s : Station) (links : Option Chain)
+      (v w : Option Tree) (n : ℕ) (place : List ℕ)
       → o ≡ rule_of s → SealedBy S o (node tag is) u ((js : Items) × (u ≡ node tag js) × AreSealed S rows s is js)
       → rule_along S rows s links ≡ Some i
       → ((js : Items) → AreSealed S rows s is js → SealsAt S (Some i) v (value_at (n ∷ place) js))
@@ -91,31 +109,40 @@ module _ (S : ℕ → Tree → Tree → Type 0) (rows : List Row) where
       let none : rule_along S rows s links ≡ None = below_rule s j links (sym e) in absurd cc
 
   mutual
-    seals_in : (s : Station) (elder : List (List ℕ)) (name : List ℕ) (t u : Tree) → SealedIn S rows (station rows s (entry name t)) t u
-        → (place : List ℕ) (i : ℕ) → rule_along S rows s (chain_in elder name place t) ≡ Some i → SealsAt S (Some i) (tree_at place t) (tree_at place u)
-    seals_in s elder name (leaf tag bytes) u sealed [] i e = own_seal (rule_of (station rows s (entry name (leaf tag bytes)))) i (leaf tag bytes) u (u ≡ leaf tag bytes) e sealed
+    seals_in : (s : Station) (elder : List (List ℕ)) (name : List ℕ) (t u : Tree)
+        → SealedIn S rows (station rows s (entry name t)) t u
+        → (place : List ℕ) (i : ℕ) → rule_along S rows s (chain_in elder name place t) ≡ Some i
+        → SealsAt S (Some i) (tree_at place t) (tree_at place u)
+    seals_in s elder name (leaf tag bytes) u sealed [] i e =
+        own_seal (rule_of (station rows s (entry name (leaf tag bytes)))) i (leaf tag bytes) u (u
+        ≡ leaf tag bytes) e sealed
     seals_in s elder name (leaf tag bytes) u sealed (n ∷ place) i e = absurd cc
     seals_in s elder name (node tag is) u sealed [] i e =
         let w = station rows s (entry name (node tag is)) in
         own_seal (rule_of w) i (node tag is) u ((js : Items) × (u ≡ node tag js) × AreSealed S rows w is js) e sealed
     seals_in s elder name (node tag is) u sealed (n ∷ place) i e =
         let w = station rows s (entry name (node tag is)) in
-        let e' : rule_along S rows w (chain_from [] n place is) ≡ Some i = sym (along_onward S rows s (link elder name (node tag is)) (chain_from [] n place is)) ∙ e in
-        inner_seal (rule_of w) tag i is u w (chain_from [] n place is) (value_at (n ∷ place) is) None n place refl sealed e'
+        let e' : rule_along S rows w (chain_from [] n place is) ≡ Some i =
+        sym (along_onward S rows s (link elder name (node tag is)) (chain_from [] n place is)) ∙ e in
+        inner_seal (rule_of w) tag i is u w (chain_from [] n place is)
+        (value_at (n ∷ place) is) None n place refl sealed e'
         (λ js p. seals_among w [] is js p n place i e')
 
     seals_among : (s : Station) (elder : List (List ℕ)) (is js : Items) → AreSealed S rows s is js
-        → (k : ℕ) (place : List ℕ) (i : ℕ) → rule_along S rows s (chain_from elder k place is) ≡ Some i → SealsAt S (Some i) (value_at (k ∷ place) is) (value_at (k ∷ place) js)
+        → (k : ℕ) (place : List ℕ) (i : ℕ) → rule_along S rows s (chain_from elder k place is) ≡ Some i
+        → SealsAt S (Some i) (value_at (k ∷ place) is) (value_at (k ∷ place) js)
     seals_among s elder no_items js sealed k place i e = absurd cc
     seals_among s elder (item name t is) js sealed zero place i e =
-        subst (λ (x : Items). SealsAt S (Some i) (tree_at place t) (value_at (0 ∷ place) x)) (sym sealed.2) (seals_in s elder name t sealed.0 sealed.3 place i e)
+        subst (λ (x : Items). SealsAt S (Some i) (tree_at place t) (value_at (0 ∷ place) x)) (sym sealed.2)
+        (seals_in s elder name t sealed.0 sealed.3 place i e)
     seals_among s elder (item name t is) js sealed (suc k) place i e =
         subst (λ (x : Items). SealsAt S (Some i) (value_at (k ∷ place) is) (value_at (suc k ∷ place) x)) (sym sealed.2)
         (seals_among s (elder ++ name ∷ []) is sealed.1 sealed.4 k place i e)
 
   -- the command itself is no protected value
   none_if : (a b c d e : Bool)
-      → rule_of (if a then Insert else if b then Update else if c then Delete else if d then Find else if e then Passed else Unknown) ≡ None
+      → rule_of (if a then Insert else if b then Update else if c then Delete else if d then Find else if e then Passed
+      else Unknown) ≡ None
   none_if true b c d e = refl
   none_if false true c d e = refl
   none_if false false true d e = refl
@@ -126,27 +153,33 @@ module _ (S : ℕ → Tree → Tree → Type 0) (rows : List Row) where
   command_none : (names : List (List ℕ)) → rule_of (command_of names) ≡ None
   command_none [] = refl
   command_none (name ∷ names) =
-      none_if (named name (codes "insert")) (named name (codes "update")) (named name (codes "delete")) (named name (codes "find")) (is_passed name)
+      none_if (named name (codes "insert")) (named name (codes "update")) (named name (codes "delete"))
+      (named name (codes "find")) (is_passed name)
 
-  seals_at : (o : Option ℕ) (v w : Option Tree) → ((i : ℕ) → o ≡ Some i → SealsAt S (Some i) v w) → SealsAt S o v (here o w)
+  seals_at : (o : Option ℕ) (v w : Option Tree) → ((i : ℕ) → o ≡ Some i → SealsAt S (Some i) v w)
+      → SealsAt S o v (here o w)
   seals_at None v w h = refl
   seals_at (Some i) v w h = h i refl
 
   abbrev put_in : Items → Items → List ℕ → Option Tree
   put_in c d place = here (rule_at rows c place) (value_at place d)
 
-  exact : (c d : Items) → AreSealed S rows (station rows Outside (command_entry c)) c d → (place : List ℕ) → SealsAt S (rule_at rows c place) (value_at place c) (put_in c d place)
-  exact c d sealed [] = seals_at (rule_at rows c []) None None (λ i e. let none : rule_at rows c [] ≡ None = command_none (command_entry c).names in absurd cc)
+  exact : (c d : Items) → AreSealed S rows (station rows Outside (command_entry c)) c d → (place : List ℕ)
+      → SealsAt S (rule_at rows c place) (value_at place c) (put_in c d place)
+  exact c d sealed [] = seals_at (rule_at rows c []) None None (λ i e. let none : rule_at rows c []
+      ≡ None = command_none (command_entry c).names in absurd cc)
   exact c d sealed (k ∷ place) = seals_at (rule_at rows c (k ∷ place)) (value_at (k ∷ place) c) (value_at (k ∷ place) d)
       (λ i e. seals_among (station rows Outside (command_entry c)) [] c d sealed k place i
       (sym (command_rule S rows (link [] [] (node 3 c)) (chain_from [] k place c)) ∙ e))
 
-  pub to_places : (c d : Items) → AreSealed S rows (station rows Outside (command_entry c)) c d → IsFilledCommand S rows c d
+  pub to_places : (c d : Items) → AreSealed S rows (station rows Outside (command_entry c)) c d
+      → IsFilledCommand S rows c d
   to_places c d sealed = record {
     f = put_in c d;
     made = sym (items_filled (station rows Outside (command_entry c)) [] 0 c d (put_in c d) sealed (λ n k place e.
         let same : n ≡ k = omega (arith, e) in
         ap (λ (m : ℕ). put_in c d (m ∷ place)) same
-        ∙ ap (λ (o : Option ℕ). here o (value_at (k ∷ place) d)) (command_rule S rows (link [] [] (node 3 c)) (chain_from [] k place c))));
+        ∙ ap (λ (o : Option ℕ). here o (value_at (k ∷ place) d))
+        (command_rule S rows (link [] [] (node 3 c)) (chain_from [] k place c))));
     exactly = exact c d sealed;
   }

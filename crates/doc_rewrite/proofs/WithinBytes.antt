@@ -21,11 +21,13 @@ back_of xs ys h = subst Bytes (drop_at xs ys (length xs) refl) (All-drop (λ b. 
 
 value_of : (name : List ℕ) (t : Tree) (is : Items) → Bytes (items_bytes (item name t is)) → Bytes (value_bytes t)
 value_of name t is h =
-    front_of (value_bytes t) (items_bytes is) (All-tail (λ b. b < 256) 0 _ (back_of name _ (All-tail (λ b. b < 256) (tag_of t) _ h)))
+    front_of (value_bytes t) (items_bytes is) (All-tail (λ b. b < 256) 0 _
+    (back_of name _ (All-tail (λ b. b < 256) (tag_of t) _ h)))
 
 others_of : (name : List ℕ) (t : Tree) (is : Items) → Bytes (items_bytes (item name t is)) → Bytes (items_bytes is)
 others_of name t is h =
-    back_of (value_bytes t) (items_bytes is) (All-tail (λ b. b < 256) 0 _ (back_of name _ (All-tail (λ b. b < 256) (tag_of t) _ h)))
+    back_of (value_bytes t) (items_bytes is) (All-tail (λ b. b < 256) 0 _
+    (back_of name _ (All-tail (λ b. b < 256) (tag_of t) _ h)))
 
 inside_of : (elements : List ℕ) → Bytes (framed elements) → Bytes elements
 inside_of elements h = front_of elements (0 ∷ []) (All-drop (λ b. b < 256) 4 (framed elements) h)
@@ -53,7 +55,8 @@ module _ (S : ℕ → Tree → Tree → Type 0) (rows : List Row) where
     value_given s (node tag is) u are sealed =
         node_given s tag is u (rule_of s) are sealed (λ js p. items_given s is js (inside_of (items_bytes is) are) p)
 
-    pub items_given : (s : Station) (is js : Items) → Bytes (items_bytes is) → AreSealed Given rows s is js → AreSealed S rows s is js
+    pub items_given : (s : Station) (is js : Items) → Bytes (items_bytes is) → AreSealed Given rows s is js
+        → AreSealed S rows s is js
     items_given s no_items js are sealed = sealed
     items_given s (item name t is) js are sealed = (
       sealed.0,

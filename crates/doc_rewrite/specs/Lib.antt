@@ -8,3 +8,8 @@ pub mod Sealing
 pub mod Standing
 pub mod SealedTrees
 pub mod SealedCommand
+pub mod Founds
+pub mod Opened
+pub mod Leaves
+pub mod Finding
+pub mod Opening

@@ -13,18 +13,27 @@
 //! It looks no key up in a vault and asks nothing of who may read what.
 #![tactic(auto)]
 
+mod finding;
+mod found;
 mod key_table;
 pub mod laws;
+mod leaf;
+mod opening;
 mod placing;
 mod planning;
 mod sealing;
 mod site;
+mod unsealing;
 mod vector;
 
+pub use finding::{FindFault, find_payloads};
+pub use found::{Found, FoundAt};
 pub use key_table::{KeyEntry, KeyTable};
+pub use opening::open_through;
 pub use planning::{Plan, PlanFault, plan_seal};
 pub use sealing::seal_through;
 pub use site::Site;
+pub use unsealing::Spot;
 
 #[cfg(test)]
 mod sample_bytes;

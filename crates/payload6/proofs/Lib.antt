@@ -1,2 +1,3 @@
 pub mod PayloadForm
 pub mod MarkingForm
+pub mod Verdicts

@@ -12,7 +12,11 @@ use Rattle.payload6.specs.Marking.{binary, key_id, marking, marking_fields}
 element_size : (name : List ℕ) (t : Tree) (is : Items)
     → length (items_bytes (item name t is)) ≡ length name + 2 + length (value_bytes t) + length (items_bytes is)
 element_size name t is =
-    omega (arith, length-append name (0 ∷ (value_bytes t ++ items_bytes is)), length-append (value_bytes t) (items_bytes is))
+    omega (
+      arith,
+      length-append name (0 ∷ (value_bytes t ++ items_bytes is)),
+      length-append (value_bytes t) (items_bytes is),
+    )
 
 -- a binary has its length in four bytes, its subtype, and its contents
 binary_size : (subtype : ℕ) (contents : List ℕ) → length (value_bytes (binary subtype contents)) ≡ length contents + 5
@@ -57,7 +61,8 @@ put_parts policy t n o a b c whole id is ea eb ec ew =
 -- the fields of a marking, one by one
 pub put_fields : (policy : Policy) (t : Tree) (o a b whole : List ℕ)
     → a ≡ o ++ items_bytes (item (codes "v") t no_items)
-    → b ≡ a ++ items_bytes (item (codes "a") (leaf 16 (algorithm_number policy.algorithm ∷ (0 ∷ (0 ∷ (0 ∷ []))))) no_items)
+    → b ≡ a ++ items_bytes (item (codes "a") (leaf 16 (algorithm_number policy.algorithm ∷ (0 ∷ (0 ∷ (0 ∷ [])))))
+    no_items)
     → whole ≡ b ++ items_bytes (item (codes "ki") (binary 4 (key_id policy.key)) no_items)
     → whole ≡ o ++ items_bytes (marking_fields policy t)
 unfolding marking_fields

@@ -1,11 +1,13 @@
 -- Payloads taken apart, and put together again.
-use Rattle.std.proofs.Common.{◌≡◌, ◌∙◌, ℕ, ◌+◌, ◌-◌, ◌*◌, ◌/◌, ◌%◌, ◌<◌, List, [], ◌∷◌, ◌++◌, length, get_or, take, drop, arith, ap, sym, subst}
+use Rattle.std.proofs.Common.{◌≡◌, ◌∙◌, ℕ, ◌+◌, ◌-◌, ◌*◌, ◌/◌, ◌%◌, ◌<◌, List, [], ◌∷◌, ◌++◌, length, get_or, take}
+use Rattle.std.proofs.Common.{drop, arith, ap, sym, subst}
 use Rattle.std.proofs.lemmas.List.{drop_at, take_at, length-append}
 use Rattle.encrypt_schema.specs.declared.schema.policy.Algorithm.{Algorithm}
 use Rattle.encrypt_schema.specs.declared.schema.policy.Algorithm.TheVariants.{Deterministic, Random}
 use Rattle.fle_aead.specs.Sealed.{body, tag, IsSealed, IsSealedLength}
 use Rattle.fle_aead.proofs.SealedForm.{sealed-determines, sealed-iv, sealed-length}
-use Rattle.payload6.specs.Payload.{algorithm_number, head, payload_iv, HasKind, IsKind, IsPayload, IsPayloadLength, IsSealedPayload, IsVector}
+use Rattle.payload6.specs.Payload.{algorithm_number, head, payload_iv, HasKind, IsKind, IsPayload, IsPayloadLength}
+use Rattle.payload6.specs.Payload.{IsSealedPayload, IsVector}
 
 pub head-size : (kind : ℕ) (id : List ℕ) (type : ℕ) → length id ≡ 16 → length (head kind id type) ≡ 18
 head-size kind id type long = omega (arith, length-append id (type ∷ []), long)
@@ -20,12 +22,14 @@ payload_from kind id key type iv p h c long is s = record {
   message = subst (λ (a : List ℕ). IsSealed key a iv p c) is s;
 }
 
-pub behind-head : (kind : ℕ) (id key : List ℕ) (type : ℕ) (iv p bytes : List ℕ) (s : IsSealedPayload kind id key type iv p bytes)
+pub behind-head : (kind : ℕ) (id key : List ℕ) (type : ℕ) (iv p bytes : List ℕ)
+    (s : IsSealedPayload kind id key type iv p bytes)
     → drop 18 bytes ≡ s.sealed
 behind-head kind id key type iv p bytes s =
     ap (drop 18) s.parts ∙ drop_at (head kind id type) s.sealed 18 (head-size kind id type s.id_size)
 
-pub before-sealed : (kind : ℕ) (id key : List ℕ) (type : ℕ) (iv p bytes : List ℕ) → IsSealedPayload kind id key type iv p bytes
+pub before-sealed : (kind : ℕ) (id key : List ℕ) (type : ℕ) (iv p bytes : List ℕ)
+    → IsSealedPayload kind id key type iv p bytes
     → take 18 bytes ≡ head kind id type
 before-sealed kind id key type iv p bytes s =
     ap (take 18) s.parts ∙ take_at (head kind id type) s.sealed 18 (head-size kind id type s.id_size)
@@ -40,7 +44,8 @@ message_in kind id key type iv p h c long is s =
     (subst (λ (x : List ℕ). IsSealed key (head kind id type) iv p x) same s.message)
 
 -- bytes 18 to 33 are the vector
-pub vector_is : (kind : ℕ) (id key : List ℕ) (type : ℕ) (iv p bytes : List ℕ) → IsSealedPayload kind id key type iv p bytes
+pub vector_is : (kind : ℕ) (id key : List ℕ) (type : ℕ) (iv p bytes : List ℕ)
+    → IsSealedPayload kind id key type iv p bytes
     → payload_iv bytes ≡ iv
 vector_is kind id key type iv p bytes s =
     ap (take 16) (behind-head kind id key type iv p bytes s) ∙ sealed-iv key (head kind id type) iv p s.sealed s.message
@@ -57,7 +62,8 @@ payload_of algorithm kind id key type iv p bytes s is v =
     }
 
 -- a payload has 18 bytes more than what is sealed
-pub payload-length : (kind : ℕ) (id key : List ℕ) (type : ℕ) (iv p bytes : List ℕ) → IsSealedPayload kind id key type iv p bytes
+pub payload-length : (kind : ℕ) (id key : List ℕ) (type : ℕ) (iv p bytes : List ℕ)
+    → IsSealedPayload kind id key type iv p bytes
     → length bytes ≡ 66 + 16 * (length p / 16 + 1)
 payload-length kind id key type iv p bytes s =
     ap length s.parts ∙ omega (
@@ -73,13 +79,19 @@ number-is_kind : (algorithm : Algorithm) → IsKind (algorithm_number algorithm)
 number-is_kind Deterministic = (omega arith, omega arith)
 number-is_kind Random = (omega arith, omega arith)
 
-pub has-kind : (algorithm : Algorithm) (id key : List ℕ) (type : ℕ) (p bytes : List ℕ) → IsPayload algorithm id key type p bytes → HasKind bytes
+pub has-kind : (algorithm : Algorithm) (id key : List ℕ) (type : ℕ) (p bytes : List ℕ)
+    → IsPayload algorithm id key type p bytes → HasKind bytes
 has-kind algorithm id key type p bytes s = subst HasKind (sym s.form.parts) (number-is_kind algorithm)
 
-pub has-length : (algorithm : Algorithm) (id key : List ℕ) (type : ℕ) (p bytes : List ℕ) → IsPayload algorithm id key type p bytes
+pub has-length : (algorithm : Algorithm) (id key : List ℕ) (type : ℕ) (p bytes : List ℕ)
+    → IsPayload algorithm id key type p bytes
     → IsPayloadLength (length bytes)
-has-length algorithm id key type p bytes s =
-    (length p / 16 + 1, omega arith, payload-length (algorithm_number algorithm) id key type (payload_iv bytes) p bytes s.form)
+has-length algorithm id key type p bytes s = (
+  length p / 16 + 1,
+  omega arith,
+  payload-length (algorithm_number algorithm) id key type
+      (payload_iv bytes) p bytes s.form,
+)
 
 -- the parts of a head
 head-determines : (kind kind' : ℕ) (id id' : List ℕ) (type type' : ℕ) → length id ≡ 16 → length id' ≡ 16
@@ -88,7 +100,8 @@ head-determines kind kind' id id' type type' long long' same =
     let rest : id ++ type ∷ [] ≡ id' ++ type' ∷ [] = ap (drop 1) same in (
       ap (λ (x : List ℕ). get_or x 0 0) same,
       sym (take_at id (type ∷ []) 16 long) ∙ ap (take 16) rest ∙ take_at id' (type' ∷ []) 16 long',
-      ap (λ (x : List ℕ). get_or x 0 0) (sym (drop_at id (type ∷ []) 16 long) ∙ ap (drop 16) rest ∙ drop_at id' (type' ∷ []) 16 long'),
+      ap (λ (x : List ℕ). get_or x 0 0) (sym (drop_at id (type ∷ []) 16 long) ∙ ap (drop 16) rest
+          ∙ drop_at id' (type' ∷ []) 16 long'),
     )
 
 -- bytes are parted in one way
@@ -98,8 +111,13 @@ parted-once kind kind' id id' type type' c c' long long' same =
     let size = head-size kind id type long in
     let size' = head-size kind' id' type' long' in
     let heads = head-determines kind kind' id id' type type' long long'
-    (sym (take_at (head kind id type) c 18 size) ∙ ap (take 18) same ∙ take_at (head kind' id' type') c' 18 size') in
-    (heads.0, heads.1, heads.2, sym (drop_at (head kind id type) c 18 size) ∙ ap (drop 18) same ∙ drop_at (head kind' id' type') c' 18 size')
+    (sym (take_at (head kind id type) c 18 size) ∙ ap (take 18) same ∙ take_at (head kind' id' type') c' 18 size') in (
+      heads.0,
+      heads.1,
+      heads.2,
+      sym (drop_at (head kind id type) c 18 size) ∙ ap (drop 18) same
+          ∙ drop_at (head kind' id' type') c' 18 size',
+    )
 
 pub payload-determines : (kind kind' : ℕ) (id id' key : List ℕ) (type type' : ℕ) (iv iv' p p' bytes : List ℕ)
     → IsSealedPayload kind id key type iv p bytes → IsSealedPayload kind' id' key type' iv' p' bytes
@@ -117,13 +135,15 @@ payload-determines kind kind' id id' key type type' iv iv' p p' bytes s t =
     (parts.0, parts.1, parts.2, inside.0, inside.1)
 
 -- equal plain texts have equal deterministic payloads
-pub equal-payloads : (id key : List ℕ) (type : ℕ) (p bytes bytes' : List ℕ) → IsPayload Deterministic id key type p bytes
+pub equal-payloads : (id key : List ℕ) (type : ℕ) (p bytes bytes' : List ℕ)
+    → IsPayload Deterministic id key type p bytes
     → IsPayload Deterministic id key type p bytes' → bytes ≡ bytes'
 equal-payloads id key type p bytes bytes' s t =
     let a : List ℕ = head 1 id type in
     let same : payload_iv bytes ≡ payload_iv bytes' = s.vector ∙ sym t.vector in
     let sealed : s.form.sealed ≡ t.form.sealed =
-    s.form.message.form ∙ ap (λ (iv : List ℕ). body key iv p ++ tag key a (body key iv p)) same ∙ sym t.form.message.form in
+    s.form.message.form ∙ ap (λ (iv : List ℕ). body key iv p ++ tag key a (body key iv p)) same
+    ∙ sym t.form.message.form in
     s.form.parts ∙ ap (λ (x : List ℕ). a ++ x) sealed ∙ sym t.form.parts
 
 -- ---- opening

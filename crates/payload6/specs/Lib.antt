@@ -1,3 +1,4 @@
 pub mod Payload
 pub mod Opening
+pub mod Verdicts
 pub mod Marking

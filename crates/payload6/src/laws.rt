@@ -1,10 +1,13 @@
 //! What holds of payloads whatever the key, as contracts of functions that do nothing: a proof calls
 //! one, or cites it, for the fact that it ensures.
 
-ghost use Rattle.std.specs.Prelude.{◌≡◌, ◌++◌, length, List, ℕ};
+ghost use Rattle.std.specs.Prelude.{◌≡◌, ◌<◌, ◌++◌, length, All, List, MatchBool, None, ℕ};
+ghost use Rattle.bson_codec.specs.Borrowed.{value_tree};
 ghost use Rattle.encrypt_schema.specs.declared.schema.policy.Algorithm.{Algorithm};
 ghost use Rattle.encrypt_schema.specs.declared.schema.policy.Algorithm.TheVariants.{Deterministic};
+ghost use Rattle.payload6.specs.Opening.{IsOriginal};
 ghost use Rattle.payload6.specs.Payload.{head, HasKind, IsPayload, IsPayloadLength, IsSealedPayload};
+ghost use Rattle.payload6.specs.Verdicts.{id_in, is_original, value_in, wrong};
 
 /// Bytes are joined of a head and what stands behind it in one way.
 pub fn parting()
@@ -26,4 +29,14 @@ pub fn sealing()
     ensures equal { (id key : List ℕ) (type : ℕ) (p bytes bytes' : List ℕ)
         → IsPayload Deterministic id key type p bytes → IsPayload Deterministic id key type p bytes'
         → bytes ≡ bytes' }
+{}
+
+/// What a payload opens to, as functions, is what the relations say: the test for values that may have been sealed
+/// tells them, and a payload of one of them is opened to it.
+pub fn judging()
+    ensures original { (levels type : ℕ) (p : List ℕ) → All (λ b. b < 256) p
+        → MatchBool (is_original levels type p) (IsOriginal levels type p) (IsOriginal levels type p → ⊥) }
+    ensures opens { (kind : ℕ) (id key : List ℕ) (type levels : ℕ) (iv p bytes : List ℕ)
+        → IsSealedPayload kind id key type iv p bytes → IsOriginal levels type p
+        → (wrong key levels bytes ≡ None) × (value_in key bytes ≡ value_tree type p) × (id_in bytes ≡ id) }
 {}

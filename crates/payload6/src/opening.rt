@@ -5,6 +5,7 @@ ghost use Rattle.std.specs.Prelude.{drop, IfOk, IsTrue, length, List, Ok, Err, t
 ghost use Rattle.fle_aead.specs.Sealed.{iv_of, IsTagged, IsWronglyPadded, IsWronglyTagged, opened};
 ghost use Rattle.payload6.specs.Opening.{is_single as single, IsNoOriginal, IsOriginal};
 ghost use Rattle.payload6.specs.Payload.{IsSealedPayload};
+ghost use Rattle.payload6.specs.Verdicts.{JudgesAs};
 
 use crate::payload::Payload;
 use bson_codec::check_value;
@@ -71,6 +72,7 @@ pub fn open_payload_into<B: Block256>(
         ↔ IsWronglyPadded key.now payload.now.head.now payload.now.sealed.now }
     ensures plain { (result ≡ Err PayloadFault.Plain) ↔ IsNoOriginal levels payload.now.tag key.now
         payload.now.head.now payload.now.sealed.now }
+    ensures judged { JudgesAs key.now levels (payload.now.head.now ++ payload.now.sealed.now) out.new result }
     ensures tag_unchanged { (computed found : List ℕ)
         → result ≡ Err (PayloadFault.Tag computed found) → out.new ≡ out.old }
     ensures blocks { IsTagged key.now payload.now.head.now payload.now.sealed.now

@@ -11,7 +11,13 @@ pub returns-then-size-clause-too_long : goal.returns-then-size-clause-too_long
 returns-then-size-clause-too_long c = λ _.
     let ss = sites_of c.args.rows.now c.args.marks.now in
     let size : length c.bytes.result.now + c.grown.result ≡ length (doc_bytes c.args.document.now.tree) + grown ss =
-    omega (arith, ap length c.bytes.ensures.spelling, c.grown.ensures.grown, ap grown c.deref.ensures.value, ap grown c.in-Ok.ensures.sites) in
+    omega (
+      arith,
+      ap length c.bytes.ensures.spelling,
+      c.grown.ensures.grown,
+      ap grown c.deref.ensures.value,
+      ap grown c.in-Ok.ensures.sites,
+    ) in
     let long : AreLong ss = subst (λ (xs : List Site). AreLong xs) c.in-Ok.ensures.sites c.in-Ok.ensures.long in
     (_, sealed_long ss c.args.document.now c.requires.stands.places _ size long, c.if-size.true)
 
@@ -20,11 +26,18 @@ returns-clause-stands c =
     let ss = sites_of c.args.rows.now c.args.marks.now in
     let is = c.in-Ok.ensures.sites in
     let size : length c.bytes.result.now + c.grown.result ≡ length (doc_bytes c.args.document.now.tree) + grown ss =
-    omega (arith, ap length c.bytes.ensures.spelling, c.grown.ensures.grown, ap grown c.deref.ensures.value, ap grown is) in
+    omega (
+      arith,
+      ap length c.bytes.ensures.spelling,
+      c.grown.ensures.grown,
+      ap grown c.deref.ensures.value,
+      ap grown is,
+    ) in
     let long : AreLong ss = subst (λ (xs : List Site). AreLong xs) is c.in-Ok.ensures.long in
     record {
       places = subst (λ (xs : List Site). StandsAt (spans_of xs) c.args.document.now) (sym is) c.requires.stands.places;
       size =
-          subst (λ (xs : List Site). IsSealedSize xs c.args.document.now (length c.bytes.result.now + c.grown.result)) (sym is)
+          subst (λ (xs : List Site). IsSealedSize xs c.args.document.now (length c.bytes.result.now + c.grown.result))
+          (sym is)
           (sealed_long ss c.args.document.now c.requires.stands.places _ size long);
     }

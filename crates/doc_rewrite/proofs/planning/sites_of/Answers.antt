@@ -16,7 +16,9 @@ loop-i-preserved c =
     record {
       made =
           ap (λ (ss : List Site). ss ++ sites_of c.args.rows.now (drop (c.loop-i.i + 1) c.args.marks.now)) pushed
-          ∙ one_site c.args.rows.now c.loop-i.sites.items _ c.in-Some.mark _ _ c.site_of.result inv.made first c.site_of.ensures.site;
+          ∙ one_site c.args.rows.now c.loop-i.sites.items _ c.in-Some.mark _ _ c.site_of.result inv.made first
+          c.site_of.ensures.site;
       ruled = ruled.1;
-      long = subst (λ (ss : List Site). AreLong ss) (sym pushed) (long_more c.loop-i.sites.items c.site_of.result inv.long c.site_of.ensures.long);
+      long = subst (λ (ss : List Site). AreLong ss) (sym pushed)
+          (long_more c.loop-i.sites.items c.site_of.result inv.long c.site_of.ensures.long);
     }

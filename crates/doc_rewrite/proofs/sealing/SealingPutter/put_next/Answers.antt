@@ -19,9 +19,22 @@ returns-in-Ok-clause-put g c =
     record {
       it = put_of keys s block;
       span = span_of s;
-      did = (record { site = s; first = c.in-Some.ensures.first; drawn = v.drawn; count = v.count; draws = v.draws; is = refl; long = size }, refl, refl);
+      did = (
+        record {
+          site = s;
+          first = c.in-Some.ensures.first;
+          drawn = v.drawn;
+          count = v.count;
+          draws = v.draws;
+          is = refl;
+          long = size;
+        },
+        refl,
+        refl,
+      );
       next = ap spans_of c.in-Some.ensures.first;
       fits = record { start = refl; end = refl; size = λ t. omega (arith, size t) };
-      written = element_is keys s block c.args.item.now.name c.args.item.now.tree c.key_of-key.result.now _ _ c.key_of-key.ensures.key (c.put_sealed-end.ensures.element block v.is);
+      written = element_is keys s block c.args.item.now.name c.args.item.now.tree c.key_of-key.result.now _ _
+          c.key_of-key.ensures.key (c.put_sealed-end.ensures.element block v.is);
       within = c.put_sealed-end.ensures.within;
     }

@@ -1,0 +1,73 @@
+-- MongoDB Client Side Encryption, decryption: a document opened, or the reason for which it isn't
+use Rattle.std.specs.Prelude.{ℕ, ◌+◌, ◌-◌, ◌%◌, ◌==◌, ◌&&◌, Bool, nat_lt, List, [], ◌∷◌, length, Option, Some, None}
+use Rattle.std.specs.Prelude.{Result, Ok, Err, if◌then◌else◌}
+use Rattle.bson_tree.specs.Tree.{Tree, Items}
+use Rattle.bson_codec.specs.Borrowed.{At}
+use Rattle.encrypt_schema.specs.Commands.Visits.{Refusal, or_else, refused_at}
+use Rattle.encrypt_schema.specs.declared.command.reason.Reason.{Reason}
+use Rattle.encrypt_schema.specs.declared.command.reason.Reason.TheVariants as reasons
+use Rattle.payload6.specs.Verdicts.{id_in, value_in, wrong}
+use Rattle.doc_rewrite.specs.Founds.{Place, payloads_of, opened_items}
+use Rattle.doc_rewrite.specs.Keys.{Lookup}
+
+-- which data key an id has, or why none
+abbrev pub Keyring : Type 0
+Keyring = List ℕ → Result (List ℕ) Reason
+
+abbrev pub reason_in : Result (List ℕ) Reason → Option Reason
+reason_in (Ok key) = None
+reason_in (Err reason) = Some reason
+
+abbrev pub key_or_none : Result (List ℕ) Reason → List ℕ
+key_or_none (Ok key) = key
+key_or_none (Err reason) = []
+
+-- keys by their ids, where a key that isn't there is missing
+abbrev pub found_or_missing : Option (List ℕ) → Result (List ℕ) Reason
+found_or_missing (Some key) = Ok key
+found_or_missing None = Err reasons.KeyMissing
+
+abbrev pub ring_of : Lookup → Keyring
+ring_of keys id = found_or_missing (keys id)
+
+-- the first payload for which there is a reason
+abbrev pub first_wrong : (Place → Option Reason) → List Place → Option Refusal
+first_wrong judge [] = None
+first_wrong judge (p ∷ ps) = or_else (refused_at p.start (judge p)) (first_wrong judge ps)
+
+-- BSON binary subtype 6: 18 bytes, and behind them a vector, one or more blocks of 16 bytes and a tag, 66 and 16 for
+-- each block
+abbrev pub is_payload_length : ℕ → Bool
+is_payload_length n = nat_lt 66 n && (n - 66) % 16 == 0
+
+abbrev pub misshapen : Place → Option Reason
+misshapen p = if is_payload_length (length p.contents) then None else Some reasons.PayloadShape
+
+-- the key of a payload's id isn't to be had
+abbrev pub keyless : Keyring → Place → Option Reason
+keyless keys p = reason_in (keys (id_in p.contents))
+
+-- a payload's tag, padding or value is wrong
+abbrev pub spoilt : Keyring → Place → Option Reason
+spoilt keys p = wrong (key_or_none (keys (id_in p.contents))) p.levels p.contents
+
+-- the value that the bytes of a payload open to
+abbrev pub value_of : Keyring → List ℕ → Tree
+value_of keys bytes = value_in (key_or_none (keys (id_in bytes))) bytes
+
+-- why payloads aren't opened: the lengths of all are judged, then the keys of all, then each payload
+abbrev pub opening_refusal : Keyring → List Place → Option Refusal
+opening_refusal keys ps =
+    or_else (first_wrong misshapen ps) (or_else (first_wrong (keyless keys) ps) (first_wrong (spoilt keys) ps))
+
+-- the document with each payload's value in its place
+abbrev pub opened_whole : Keyring → At → Items
+opened_whole keys d = opened_items (value_of keys) (d.start + 4) d.tree
+
+abbrev pub opened_unless : Items → Option Refusal → Result Items Refusal
+opened_unless is None = Ok is
+opened_unless is (Some refusal) = Err refusal
+
+-- a document opened under these keys, or why not
+unfoldable pub opened : Keyring → At → Result Items Refusal
+opened keys d = opened_unless (opened_whole keys d) (opening_refusal keys (payloads_of d))
