@@ -1,5 +1,5 @@
-//! Documents with protected values sealed (MongoDB Client Side Encryption): from a document and the marks of its
-//! values to the document with a payload in the place of each, by a splice of its bytes.
+//! Documents with protected values sealed and opened (MongoDB Client Side Encryption): from a document and the marks
+//! of its values to the document with a payload in the place of each, by a splice of its bytes; and back.
 //!
 //! [`plan_seal`] looks at the marks and tells how long the sealed document is; [`seal_through`] writes it, and draws a
 //! random block for each value of the random algorithm.
@@ -8,6 +8,14 @@
 //! let plan = plan_seal(alloc, &document, &marks, &rows)?;
 //! let mut out = vec![in alloc; 0; plan.output_len()]?;
 //! seal_through(&plan, &document, &keys, &hooks, &mut entropy, &mut out)?;
+//! ```
+//!
+//! [`find_payloads`] lists the payloads of a document, and [`open_through`] writes the document with each of them
+//! opened.
+//!
+//! ```text
+//! let found = find_payloads(alloc, &document)?;
+//! let n = open_through(&found, &document, &keys, &hooks, &mut out)?;
 //! ```
 //!
 //! It looks no key up in a vault and asks nothing of who may read what.
@@ -35,6 +43,12 @@ pub use sealing::seal_through;
 pub use site::Site;
 pub use unsealing::Spot;
 
+#[cfg(test)]
+mod keyed;
+#[cfg(test)]
+mod opening_tests;
+#[cfg(test)]
+mod payload_samples;
 #[cfg(test)]
 mod sample_bytes;
 #[cfg(test)]

@@ -4,6 +4,7 @@ use crate::sample_bytes::{AB, SALARY_7, SALARY_8, SALARY_70000, SSN, X, Y};
 use encrypt_schema::{Mark, Role};
 
 /// A command, the marks of its protected values, and what it is sealed to, texts and payloads one behind the other.
+#[derive(Drop)]
 pub(crate) struct Sample {
     pub(crate) collection: &'static [u8],
     pub(crate) command: &'static [&'static [u8]],

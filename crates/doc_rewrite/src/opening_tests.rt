@@ -1,0 +1,142 @@
+//! Documents with payloads that were made outside this repository: what they open to, and what is refused.
+
+use crate::keyed::has_keys;
+use crate::payload_samples::{
+    HELD, HOLDING, OTHER_VECTOR, OTHER_VECTOR_OPENED, TAG_AND_SHAPE, WRONG_PADDING, WRONG_PLAIN,
+};
+use crate::samples::{EQUAL_NAMES, ONE_INT, ONE_STRING, Sample, TWO_DOCUMENTS};
+use crate::{FindFault, KeyTable, Spot, find_payloads, open_through};
+use bson_codec::{RawDoc, check_bson};
+use crypto_hooks::Tables;
+use encrypt_schema::Reason;
+use fle_aead::DataKey;
+use fle_vectors::DATA_KEY;
+use std::alloc::{AllocError, Global};
+use std::test::Fail;
+
+/// The id of the data key, the UUID 00112233-4455-4677-8899-aabbccddeeff.
+const ID: [u8; 16] = [
+    0x00, 0x11, 0x22, 0x33, 0x44, 0x55, 0x46, 0x77, 0x88, 0x99, 0xaa, 0xbb, 0xcc, 0xdd, 0xee, 0xff,
+];
+
+/// Why a document isn't opened.
+#[derive(Drop, PartialEq, Eq)]
+enum Refused {
+    Shape(u32),
+    At(Spot),
+}
+
+/// Parts one behind the other.
+fn whole(alloc: Global, parts: &[&[u8]]) -> Result<Vec<u8>, AllocError> {
+    let mut bytes = Vec::new(alloc);
+    for part in parts {
+        bytes.extend_from_slice(part)?;
+    }
+    Ok(bytes)
+}
+
+/// What a document opens to, or why it doesn't.
+fn open(alloc: Global, document: &RawDoc<'_>) -> Result<Result<Vec<u8>, Refused>, Fail> {
+    let found = match find_payloads(alloc, document) {
+        Ok(found) => found,
+        Err(FindFault::Shape { at }) => return Ok(Err(Refused::Shape(at))),
+        Err(FindFault::Memory) => return Err("no memory".into()),
+    };
+    let mut keys = KeyTable::new(alloc);
+    keys.add(ID, DataKey::new(DATA_KEY))?;
+    if !has_keys(&found, &keys) {
+        return Err("keys".into());
+    }
+    let mut out = vec![in alloc; 0; document.bytes().len()]?;
+    match open_through(&found, document, &keys, &Tables, &mut out) {
+        Ok(n) => {
+            out.truncate(n);
+            Ok(Ok(out))
+        }
+        Err(spot) => Ok(Err(Refused::At(spot))),
+    }
+}
+
+/// The same of bytes that are given in parts.
+fn opened(alloc: Global, parts: &[&[u8]]) -> Result<Result<Vec<u8>, Refused>, Fail> {
+    let bytes = whole(alloc, parts)?;
+    if bytes.len() > 1000 {
+        return Err("too long".into());
+    }
+    let document = check_bson(&bytes)?;
+    open(alloc, &document)
+}
+
+/// Whether the document of these parts opens to that of those.
+fn opens_to(alloc: Global, parts: &[&[u8]], command: &[&[u8]]) -> Result<bool, Fail> {
+    let out = opened(alloc, parts)?;
+    let command = whole(alloc, command)?;
+    Ok(out == Ok(command))
+}
+
+/// Whether the document of these parts is refused for this reason at this offset.
+fn is_refused(alloc: Global, parts: &[&[u8]], reason: Reason, at: u32) -> Result<bool, Fail> {
+    let out = opened(alloc, parts)?;
+    Ok(out == Err(Refused::At(Spot { reason, at })))
+}
+
+/// Whether what a sample is sealed to opens to its command.
+fn opens_again(alloc: Global, sample: &Sample) -> Result<bool, Fail> {
+    opens_to(alloc, sample.sealed, sample.command)
+}
+
+#[test]
+fn sealed_commands_open_to_the_commands(rt: HostRuntime) -> Result<(), Fail> {
+    assert!(rt; opens_again(rt.alloc(), &ONE_STRING)?);
+    assert!(rt; opens_again(rt.alloc(), &ONE_INT)?);
+    assert!(rt; opens_again(rt.alloc(), &TWO_DOCUMENTS)?);
+    assert!(rt; opens_again(rt.alloc(), &EQUAL_NAMES)?);
+    Ok(())
+}
+
+#[test]
+fn what_was_opened_is_not_looked_into(rt: HostRuntime) -> Result<(), Fail> {
+    assert!(rt; opens_to(rt.alloc(), HOLDING, HELD)?);
+    assert!(rt; opened(rt.alloc(), HELD)? == Err(Refused::Shape(60)));
+    Ok(())
+}
+
+#[test]
+fn a_vector_need_not_be_the_derived_one(rt: HostRuntime) -> Result<(), Fail> {
+    assert!(rt; opens_to(rt.alloc(), OTHER_VECTOR, OTHER_VECTOR_OPENED)?);
+    Ok(())
+}
+
+#[test]
+fn shapes_come_before_tags(rt: HostRuntime) -> Result<(), Fail> {
+    assert!(rt; opened(rt.alloc(), TAG_AND_SHAPE)? == Err(Refused::Shape(153)));
+    Ok(())
+}
+
+#[test]
+fn a_wrong_padding_and_a_wrong_value_are_told(rt: HostRuntime) -> Result<(), Fail> {
+    assert!(rt; is_refused(rt.alloc(), WRONG_PADDING, Reason::Padding, 47)?);
+    assert!(rt; is_refused(rt.alloc(), WRONG_PLAIN, Reason::Plain, 47)?);
+    Ok(())
+}
+
+#[test]
+fn a_changed_byte_is_told_by_the_tag_and_another_number_passes(
+    rt: HostRuntime,
+) -> Result<(), Fail> {
+    let mut bytes = whole(rt.alloc(), ONE_STRING.sealed)?;
+    if bytes.len() != 175 {
+        return Err("length".into());
+    }
+    bytes[72] = 0x0E;
+    let answer = open(rt.alloc(), &check_bson(&bytes)?)?;
+    let spot = Spot {
+        reason: Reason::TagMismatch,
+        at: 50,
+    };
+    assert!(rt; answer == Err(Refused::At(spot)));
+    bytes[55] = 3;
+    let passed = open(rt.alloc(), &check_bson(&bytes)?)?;
+    assert!(rt; passed == Ok(bytes));
+    Ok(())
+}
