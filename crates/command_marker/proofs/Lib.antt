@@ -7,7 +7,8 @@ pub mod Planned
 pub mod Steps
 pub mod Replies
 pub mod Targets
-pub mod FieldReasons
+pub mod CommandVisits
 pub mod Unmarked
 pub mod MarkedPlaces
 pub mod ToldPlaces
+pub mod Judged

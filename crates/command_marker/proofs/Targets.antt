@@ -1,5 +1,5 @@
 -- Refusals of a command's fields.
-use Rattle.std.proofs.Common.{◌≡◌, ◌==◌, ℕ, ◌+◌, Bool, true, false, cond, ◌||◌, ◌&&◌, not, codes, List, [], ◌∷◌, ◌++◌, length, Option, Some, None, Err, refl, sym, ap, ap₂, ◌∙◌}
+use Rattle.std.proofs.Common.{◌≡◌, ◌==◌, ℕ, ◌+◌, Bool, true, false, cond, ◌||◌, ◌&&◌, not, codes, List, [], ◌∷◌, ◌++◌, length, Option, Some, None, Ok, Err, refl, sym, ap, ap₂, ◌∙◌}
 use Rattle.std.proofs.lemmas.Bool.{false≢true}
 use Rattle.std.proofs.lemmas.Slice.Eq.{bytes_eq-Decides}
 use Rattle.bson_tree.specs.Tree.{Tree, Items, leaf, no_items, item, tag_of}
@@ -7,15 +7,19 @@ use Rattle.bson_tree.specs.Spelling.{value_bytes}
 use Rattle.bson_codec.specs.Borrowed.{At, Elem}
 use Rattle.bson_codec.specs.Elements.{TakesElement}
 use Rattle.encrypt_schema.specs.declared.command.reason.Reason.{Reason}
-use Rattle.encrypt_schema.specs.declared.command.reason.Reason.TheVariants.{NotACommand, NotBuilt, BadField, WrongDb}
+use Rattle.encrypt_schema.specs.declared.command.reason.Reason.TheVariants.{NotACommand, BadField, WrongDb}
 use Rattle.encrypt_schema.specs.Language.Names.{named, is_among}
 use Rattle.encrypt_schema.specs.Commands.Stations.{Entry, Station, Insert, Update, Delete, Find, Passed, Unknown, is_passed, command_of}
 use Rattle.encrypt_schema.specs.Commands.Offences.{when, least, text_of, is_db, is_empty, is_marked, is_string, of_field, target_offence}
-use Rattle.encrypt_schema.specs.Commands.Visits.{names_of, entry, raw_of, command_visit, target_of, target_verdict, Refusal, refused_at, or_else}
+use Rattle.encrypt_schema.specs.Commands.Visits.{names_of, entry, raw_of, command_visit, command_visits, first_refusal, target_of, target_verdict, Refusal, refused_at, or_else}
 use Rattle.bson_codec.specs.Layout.{string_bytes}
 use Rattle.encrypt_schema.proofs.Language.Texts.{text_is}
-use Rattle.encrypt_schema.proofs.Commands.Fields.{fields_refusal, command_alone, target_shallow}
-use Rattle.command_marker.specs.Commands.{is_unbuilt, target_refusal, AimsAt, Refuses}
+use Rattle.encrypt_schema.proofs.Commands.Fields.{fields_refusal, command_alone, target_anyhow, target_shallow}
+use Rattle.command_marker.specs.Commands.{is_marked_command, passes, AimsAt, Refuses}
+use Rattle.command_marker.specs.declared.destination.Target.TheVariants as targets
+use Rattle.encrypt_schema.specs.Commands.Targets.{rows_of}
+use Rattle.encrypt_schema.proofs.Commands.Unmarked.{passed_command}
+use Rattle.command_marker.proofs.Unmarked.{passing_verdict}
 use Rattle.command_marker.specs.Fields.{is_marked_name, first_reasons, later_reasons, later_refusal}
 use Rattle.encrypt_schema.specs.declared.command.marks.MarkFault.{MarkFault}
 use Rattle.encrypt_schema.specs.declared.command.marks.MarkFault.TheVariants as faults
@@ -143,7 +147,7 @@ by_command : (db name : List ℕ) (t : Tree) (is : Items) (n m : ℕ) (i u d f p
     ≡ or_else
     (refused_at n
     (least
-    (when (not (is_marked (station_by i u d f p) || p)) NotACommand
+    (when (not (is_marked (station_by i u d f p))) NotACommand
     ++ when (is_marked (station_by i u d f p) && (not (is_string (entry name t)) || is_empty (text_of (entry name t).raw))) BadField)))
     (later_refusal db name false m is)
 unfolding target_offence
@@ -171,54 +175,62 @@ fields_told db at name t is h =
     ∙ by_command db name t is (at + 4 + (2 + length name)) (at + 4 + (2 + length name) + length (value_bytes t))
     (named name (codes "insert")) (named name (codes "update")) (named name (codes "delete")) (named name (codes "find")) (is_passed name) h
 
-first_false : (p q : Bool) → (p || q) ≡ false → q ≡ false
-first_false true q e = absurd (false≢true (sym e))
-first_false false q e = e
-
 -- the document without a field is no command
-pub target_none : (db : List ℕ) (at : ℕ) (c : Items) → c ≡ no_items → target_refusal db at c ≡ Some (record { reason = NotACommand; at = 0 })
+pub target_none : (db : List ℕ) (at : ℕ) (c : Items) → c ≡ no_items → target_verdict db at c ≡ Some (record { reason = NotACommand; at = 0 })
 unfolding target_offence
-target_none db at c e = ap (target_refusal db at) e
+target_none db at c e = ap (target_verdict db at) e
 
--- commands that aren't built are refused before all else
-pub target_unbuilt : (db : List ℕ) (at : ℕ) (c : Items) (left rest : At) (e : Elem) → TakesElement left (Some e) rest → c ≡ left.tree → is_unbuilt e.name ≡ true
-    → target_refusal db at c ≡ Some (record { reason = NotBuilt; at = 0 })
-target_unbuilt db at c left rest e taken is h =
-    ap (target_refusal db at) (is ∙ taken.0)
-    ∙ ap (λ (b : Bool). or_else (cond b (Some (record { reason = NotBuilt; at = 0 })) None) (target_verdict db at (item e.name e.tree rest.tree))) h
+first_none : (o later : Option Refusal) → or_else o later ≡ None → o ≡ None
+first_none None later e = refl
+first_none (Some r) later e = e
+
+passed_target : (db : List ℕ) (at : ℕ) (c : Items) → passes c ≡ true → target_verdict db at c ≡ None
+passed_target db at c h =
+    sym (target_anyhow db (rows_of [] c) at c)
+    ∙ first_none (first_refusal (target_of db) (command_visits (rows_of [] c) at c)) _ (passing_verdict db [] at c h)
+
+-- a command that passes is told as one, and nothing of it is refused
+pub target_passes : (db : List ℕ) (c : At) (left rest : At) (e : Elem) → TakesElement left (Some e) rest → c.tree ≡ left.tree → is_passed e.name ≡ true
+    → AimsAt db c (Ok targets.Pass)
+target_passes db c left rest e taken is h =
+    let passed : passes c.tree ≡ true = ap passes (is ∙ taken.0) ∙ h in
+    (passed_target db c.start c.tree passed, passed)
 
 -- the others by their fields
-pub target_built : (db : List ℕ) (at : ℕ) (c : Items) (left rest : At) (e : Elem) → TakesElement left (Some e) rest → c ≡ left.tree → left.start ≡ at + 4 → is_unbuilt e.name ≡ false
-    → target_refusal db at c
+pub target_read : (db : List ℕ) (at : ℕ) (c : Items) (left rest : At) (e : Elem) → TakesElement left (Some e) rest → c ≡ left.tree → left.start ≡ at + 4 → is_passed e.name ≡ false
+    → target_verdict db at c
     ≡ or_else (refused_at e.start (least (first_reasons (entry e.name e.tree)))) (later_refusal db e.name false rest.start rest.tree)
-target_built db at c left rest e taken is begun h =
+target_read db at c left rest e taken is begun h =
     let first = least (first_reasons (entry e.name e.tree)) in
     let start : at + 4 + (2 + length e.name) ≡ e.start = ap (λ (n : ℕ). n + (2 + length e.name)) (sym begun) ∙ sym taken.1 in
     let behind : at + 4 + (2 + length e.name) + length (value_bytes e.tree) ≡ rest.start = ap (λ (n : ℕ). n + length (value_bytes e.tree)) start ∙ sym taken.2 in
-    ap (target_refusal db at) (is ∙ taken.0)
-    ∙ ap (λ (b : Bool). or_else (cond b (Some (record { reason = NotBuilt; at = 0 })) None) (target_verdict db at (item e.name e.tree rest.tree))) h
-    ∙ fields_told db at e.name e.tree rest.tree (first_false _ _ h)
+    ap (target_verdict db at) (is ∙ taken.0)
+    ∙ fields_told db at e.name e.tree rest.tree h
     ∙ ap₂ (λ (n m : ℕ). or_else (refused_at n first) (later_refusal db e.name false m rest.tree)) start behind
 
--- a built command whose first field isn't refused is an insert
-pub insert_left : (marked insert passed form : Bool) → ((marked && not insert) || passed) ≡ false
-    → None ≡ least (when (not (marked || passed)) NotACommand ++ when form BadField) → insert ≡ true
-insert_left marked true passed form p q = refl
-insert_left true false passed form p q = absurd (false≢true (sym p))
-insert_left false false true form p q = absurd (false≢true (sym p))
-insert_left false false false true p q = absurd cc
-insert_left false false false false p q = absurd cc
+-- a command whose first field isn't refused is marked
+pub marked_left : (marked form : Bool) → None ≡ least (when (not marked) NotACommand ++ when form BadField) → marked ≡ true
+marked_left true form p = refl
+marked_left false true p = absurd cc
+marked_left false false p = absurd cc
 
 -- and its first field is a string
-pub string_left : (marked insert passed string empty : Bool) → ((marked && not insert) || passed) ≡ false
-    → None ≡ least (when (not (marked || passed)) NotACommand ++ when (marked && (not string || empty)) BadField) → string ≡ true
-string_left marked insert passed true empty p q = refl
-string_left true true passed false empty p q = absurd cc
-string_left true false passed false empty p q = absurd (false≢true (sym p))
-string_left false insert true false empty p q = absurd (false≢true (sym p))
-string_left false insert false false empty p q = absurd cc
+pub string_left : (marked string empty : Bool)
+    → None ≡ least (when (not marked) NotACommand ++ when (marked && (not string || empty)) BadField) → string ≡ true
+string_left marked true empty p = refl
+string_left true false empty p = absurd cc
+string_left false false empty p = absurd cc
+
+marked_name_read : (name : List ℕ) (names : List (List ℕ)) (b : Bool) → is_passed name ≡ b → is_marked (command_of (name ∷ names)) ≡ true → b ≡ false
+marked_name_read name names true p m = absurd (false≢true (ap is_marked (sym (passed_command name names p)) ∙ m))
+marked_name_read name names false p m = refl
+
+-- a marked command doesn't pass unchanged
+pub marked_read : (c : Items) → is_marked_command c ≡ true → passes c ≡ false
+marked_read no_items m = absurd (false≢true m)
+marked_read (item name t is) m = marked_name_read name (names_of is) (is_passed name) refl m
 
 -- a refusal of the later fields is the command's
-pub aims_err : (db : List ℕ) (c : At) (refusal : Option Refusal) (fault : MarkFault) → target_refusal db c.start c.tree ≡ refusal → Refuses refusal (Err fault) → AimsAt db c (Err fault)
+pub aims_err : (db : List ℕ) (c : At) (refusal : Option Refusal) (fault : MarkFault) → target_verdict db c.start c.tree ≡ refusal → Refuses refusal (Err fault) → AimsAt db c (Err fault)
 aims_err db c refusal (faults.Refused reason at) is told = is ∙ told
 aims_err db c refusal faults.Memory is told = told

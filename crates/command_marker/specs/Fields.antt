@@ -5,7 +5,7 @@ use Rattle.bson_tree.specs.Spelling.{value_bytes}
 use Rattle.encrypt_schema.specs.declared.command.reason.Reason.{Reason}
 use Rattle.encrypt_schema.specs.declared.command.reason.Reason.TheVariants.{NotACommand, BadField, WrongDb}
 use Rattle.encrypt_schema.specs.Language.Names.{named}
-use Rattle.encrypt_schema.specs.Commands.Stations.{Entry, is_passed, command_of}
+use Rattle.encrypt_schema.specs.Commands.Stations.{Entry, command_of}
 use Rattle.encrypt_schema.specs.Commands.Offences.{when, least, is_db, is_empty, is_marked, is_string, text_of}
 use Rattle.encrypt_schema.specs.Commands.Visits.{entry, Refusal, refused_at, or_else}
 
@@ -13,10 +13,11 @@ use Rattle.encrypt_schema.specs.Commands.Visits.{entry, Refusal, refused_at, or_
 abbrev pub is_marked_name : List ℕ → Bool
 is_marked_name name = is_marked (command_of (name ∷ []))
 
--- the first field: no command that is known; a marked command whose value is no string, or is the empty one
+-- the first field of a command that doesn't pass: no command that is known; a marked command whose value is no
+-- string, or is the empty one
 abbrev pub first_reasons : Entry → List Reason
 first_reasons e =
-    when (not (is_marked_name e.name || is_passed e.name)) NotACommand
+    when (not (is_marked_name e.name)) NotACommand
     ++ when (is_marked_name e.name && (not (is_string e) || is_empty (text_of e.raw))) BadField
 
 -- a later field of a command of this name, on the database `db`, where `$db` was seen before or not

@@ -8,3 +8,4 @@ pub mod Written
 pub mod Steps
 pub mod MarkedPlaces
 pub mod ToldPlaces
+pub mod Places

@@ -1,4 +1,4 @@
-//! Which values of inserts are marked, and where commands are refused.
+//! Which values of commands are marked, and where commands are refused.
 
 use crate::{Target, mark_command, target};
 use bson_codec::{RawDoc, check_bson};
@@ -74,6 +74,25 @@ const AGAIN: &[u8] =
 const TWO_DBS: &[u8] =
     b"0\x00\x00\x00\x02insert\x00\x07\x00\x00\x00people\x00\x02$db\x00\x03\x00\x00\x00hr\x00\x02$db\x00\x03\x00\x00\x00hr\x00\x00";
 
+/// `{find: "people", filter: {ssn: "x"}, $db: "hr"}`.
+const FIND: &[u8] =
+    b":\x00\x00\x00\x02find\x00\x07\x00\x00\x00people\x00\x03filter\x00\x10\x00\x00\x00\
+\x02ssn\x00\x02\x00\x00\x00x\x00\x00\x02$db\x00\x03\x00\x00\x00hr\x00\x00";
+
+/// `{delete: "people", deletes: [{q: {ssn: {$not: {$eq: "x"}}}, limit: int 1}], $db: "hr"}`.
+const DELETE: &[u8] =
+    b"m\x00\x00\x00\x02delete\x00\x07\x00\x00\x00people\x00\x04deletes\x00@\x00\x00\x00\
+\x030\x008\x00\x00\x00\x03q\x00%\x00\x00\x00\x03ssn\x00\x1b\x00\x00\x00\x03$not\x00\
+\x10\x00\x00\x00\x02$eq\x00\x02\x00\x00\x00x\x00\x00\x00\x00\x10limit\x00\x01\x00\
+\x00\x00\x00\x00\x02$db\x00\x03\x00\x00\x00hr\x00\x00";
+
+/// `{update: "staff", updates: [{q: {}, u: {$set: {"a.b": int 1}}}], $db: "hr"}`.
+const UPDATE: &[u8] =
+    b"]\x00\x00\x00\x02update\x00\x06\x00\x00\x00staff\x00\x04updates\x001\x00\x00\x00\x03\
+0\x00)\x00\x00\x00\x03q\x00\x05\x00\x00\x00\x00\x03u\x00\x19\x00\x00\x00\x03$set\x00\
+\x0e\x00\x00\x00\x10a.b\x00\x01\x00\x00\x00\x00\x00\x00\x00\x02$db\x00\x03\x00\x00\
+\x00hr\x00\x00";
+
 /// What becomes of a command.
 #[derive(Clone, Copy, Debug, PartialEq, Eq)]
 pub(crate) enum Outcome {
@@ -128,6 +147,17 @@ pub(crate) fn stored(start: u32, end: u32, tag: u8, policy: u32) -> Option<Mark>
     })
 }
 
+/// One mark of a compared value.
+fn compared(start: u32, end: u32, tag: u8, policy: u32) -> Option<Mark> {
+    Some(Mark {
+        start,
+        end,
+        tag,
+        policy,
+        role: Role::Compare,
+    })
+}
+
 #[test]
 fn protected_values_are_marked(rt: HostRuntime) -> Result<(), Fail> {
     let cases: [(&[u8], &[u8], Outcome); 3] = [
@@ -137,6 +167,20 @@ fn protected_values_are_marked(rt: HostRuntime) -> Result<(), Fail> {
     ];
     for (schema, command, expected) in cases {
         assert_eq!(rt; what_becomes(rt.alloc(), schema, command)?, expected);
+    }
+    Ok(())
+}
+
+#[test]
+fn compared_and_updated_values_are_marked(rt: HostRuntime) -> Result<(), Fail> {
+    let cases: [(&[u8], &[u8], Option<Mark>); 3] = [
+        (PEOPLE, FIND, compared(38, 44, 0x02, 0)),
+        (PEOPLE, DELETE, compared(74, 80, 0x02, 0)),
+        (STAFF, UPDATE, stored(72, 76, 0x10, 0)),
+    ];
+    for (schema, command, mark) in cases {
+        let marked = what_becomes(rt.alloc(), schema, command)?;
+        assert_eq!(rt; marked, Outcome::Marked(1, mark));
     }
     Ok(())
 }
@@ -162,9 +206,8 @@ fn contents_are_refused_where_they_stand(rt: HostRuntime) -> Result<(), Fail> {
 
 #[test]
 fn fields_are_refused_before_contents(rt: HostRuntime) -> Result<(), Fail> {
-    let cases: [(&[u8], Reason, u32); 7] = [
+    let cases: [(&[u8], Reason, u32); 6] = [
         (OTHER_DB, Reason::WrongDb, 44),
-        (PING, Reason::NotBuilt, 0),
         (AGGREGATE, Reason::NotACommand, 15),
         (b"\x05\x00\x00\x00\x00", Reason::NotACommand, 0),
         (NO_NAME, Reason::BadField, 12),
@@ -177,5 +220,11 @@ fn fields_are_refused_before_contents(rt: HostRuntime) -> Result<(), Fail> {
             Outcome::Refused(reason, at)
         );
     }
+    Ok(())
+}
+
+#[test]
+fn a_command_passes_whatever_its_database(rt: HostRuntime) -> Result<(), Fail> {
+    assert_eq!(rt; what_becomes(rt.alloc(), PEOPLE, PING)?, Outcome::Passed);
     Ok(())
 }

@@ -1,130 +1,96 @@
-//! The contents of commands: what their places are, and why one is refused.
+//! The contents of commands: which of their values are marked, and where one is refused.
 
-ghost use Rattle.std.specs.Prelude.{◌≡◌, ℕ, List, take};
+ghost use Rattle.std.specs.Prelude.{◌≡◌, codes, not, true};
 ghost use Rattle.encrypt_schema.specs.Language.Names.{is_among};
-ghost use Rattle.encrypt_schema.specs.Commands.Offences.{ruled_offence};
-ghost use Rattle.encrypt_schema.specs.Language.Row.{Row};
-ghost use Rattle.encrypt_schema.specs.Commands.Stations.{Insert, Inserts, station};
-ghost use Rattle.encrypt_schema.specs.Commands.Visits.{command_visits, entry, names_of};
-ghost use Rattle.encrypt_schema.specs.Views.Walking.{MarksPlaces, station_by};
-ghost use Rattle.command_marker.specs.Commands.{IsCovered, is_command};
-ghost use Rattle.std.specs.Prelude.{codes, true};
+ghost use Rattle.encrypt_schema.specs.declared.command.reason.Reason.TheVariants.{BadField};
+ghost use Rattle.encrypt_schema.specs.Commands.Offences.{command_lacks, when};
+ghost use Rattle.encrypt_schema.specs.Commands.Stations.{command_of};
+ghost use Rattle.encrypt_schema.specs.Commands.Visits.{command_visits, names_of};
+ghost use Rattle.encrypt_schema.specs.Views.Walking.{MarksPlaces};
+ghost use Rattle.command_marker.specs.Commands.{first_name, is_marked_command};
+ghost use Rattle.command_marker.specs.Places.{name_station};
 
-use crate::names::is_documents;
-use bson_codec::{RawDoc, RawItem};
-use bson_tree::types;
-use encrypt_schema::{
-    MarkFault, Marks, Place, Reason, Rows, Table, has_name, mark_elements, stands_before,
-};
-use update_rules::{offence_document, step_document};
+use crate::names::{is_delete, is_insert, is_update};
+use crate::places::{CommandName, CommandPlace};
+use bson_codec::RawDoc;
+use encrypt_schema::{MarkFault, Marks, Reason, Rows, has_name, mark_elements};
 
-/// What a field of an insert is.
-fn step_insert(item: &RawItem<'_>) -> Place
-    ensures station { (rows : List Row) → station_by rows result ≡ station rows Insert (entry item.now.name item.now.tree) }
-    ensures covered { (rows : List Row) → IsCovered rows result }
+/// The name of a command's first field; no byte where there is none.
+fn first_name<'a>(command: &RawDoc<'a>) -> &'a [u8]
+    ensures name { result.now ≡ first_name command.now.tree }
 {
-    if is_documents(item.name()) && item.tag() == types::ARRAY {
-        Place::Inserts
-    } else {
-        Place::Passed
+    match command.items().next() {
+        Some(first) => first.name(),
+        None => &[],
     }
 }
 
-/// Why field `k` of an insert is refused: `documents` stands for the second time, or is no array.
-#[tactic(auto, unfolding(encrypt_schema::specs::Commands::Offences::ruled_offence, encrypt_schema::specs::Commands::Offences::is_again), using(crate::proofs::FieldReasons::insert_reasons))]
-fn offence_insert(document: &RawDoc<'_>, k: usize, item: &RawItem<'_>) -> Option<Reason>
-    ensures offence { (rows : List Row) → result ≡ ruled_offence rows Insert (take k (names_of document.now.tree)) (entry item.now.name item.now.tree) }
+/// Which command it is.
+fn command_name(command: &RawDoc<'_>) -> CommandName
+    requires marked { is_marked_command command.now.tree ≡ true }
+    ensures name { name_station result ≡ command_of (names_of command.now.tree) }
 {
-    let name = item.name();
-    if !is_documents(name) {
-        return None;
+    let name = first_name(command);
+    if is_insert(name) {
+        return CommandName::Insert;
     }
-    if item.tag() != types::ARRAY || stands_before(document, k, name) {
-        return Some(Reason::BadField);
+    if is_update(name) {
+        return CommandName::Update;
     }
-    None
+    if is_delete(name) {
+        return CommandName::Delete;
+    }
+    CommandName::Find
 }
 
-/// What an element of `documents` is.
-fn step_inserts(rows: &Rows, item: &RawItem<'_>) -> Place
-    ensures station { station_by rows.now result ≡ station rows.now Inserts (entry item.now.name item.now.tree) }
-    ensures covered { IsCovered rows.now result }
+/// Whether an insert lacks `documents`.
+fn lacks_documents(command: &RawDoc<'_>) -> bool
+    ensures { result ≡ not (is_among (codes "documents") (names_of command.now.tree)) }
 {
-    if item.tag() == types::DOCUMENT {
-        Place::Document(rows.root())
-    } else {
-        Place::Passed
-    }
+    !has_name(command, b"documents")
 }
 
-/// Why an element of `documents` is refused: it is no document.
-#[tactic(auto, unfolding(encrypt_schema::specs::Commands::Offences::ruled_offence))]
-fn offence_inserts(item: &RawItem<'_>) -> Option<Reason>
-    ensures offence { (rows : List Row) (elder : List (List ℕ)) → result ≡ ruled_offence rows Inserts elder (entry item.now.name item.now.tree) }
+/// Whether an update lacks `updates`.
+fn lacks_updates(command: &RawDoc<'_>) -> bool
+    ensures { result ≡ not (is_among (codes "updates") (names_of command.now.tree)) }
 {
-    if item.tag() == types::DOCUMENT {
-        None
-    } else {
-        Some(Reason::BadField)
-    }
+    !has_name(command, b"updates")
 }
 
-/// The table of commands.
-struct Contents;
-
-impl Table for Contents {
-    ghost covers = { λ _ rows at. IsCovered rows at };
-
-    fn step(&self, rows: &Rows, at: Place, item: &RawItem<'_>) -> Place {
-        match at {
-            Place::Insert => step_insert(item),
-            Place::Inserts => step_inserts(rows, item),
-            Place::Document(cursor) => step_document(rows, cursor, item),
-            Place::Store(_) => Place::Passed,
-            Place::Passed => Place::Passed,
-        }
-    }
-
-    #[tactic(auto, unfolding(encrypt_schema::specs::Commands::Offences::ruled_offence))]
-    fn offence(
-        &self,
-        rows: &Rows,
-        at: Place,
-        document: &RawDoc<'_>,
-        k: usize,
-        item: &RawItem<'_>,
-    ) -> Option<Reason> {
-        match at {
-            Place::Insert => offence_insert(document, k, item),
-            Place::Inserts => offence_inserts(item),
-            Place::Document(cursor) => offence_document(rows, cursor, item),
-            Place::Store(_) => None,
-            Place::Passed => None,
-        }
-    }
-}
-
-/// Whether a command states `documents`.
-fn states_documents(command: &RawDoc<'_>) -> bool
-    ensures { result ≡ is_among (codes "documents") (names_of command.now.tree) }
+/// Whether a delete lacks `deletes`.
+fn lacks_deletes(command: &RawDoc<'_>) -> bool
+    ensures { result ≡ not (is_among (codes "deletes") (names_of command.now.tree)) }
 {
-    has_name(command, b"documents")
+    !has_name(command, b"deletes")
 }
 
-/// Appends the marks of an insert in reading order, or tells the first value that is refused.
+/// Whether a command lacks a field that it must have.
+fn lacks_required(name: CommandName, command: &RawDoc<'_>) -> bool
+    ensures lacks { when result BadField ≡ command_lacks (name_station name) (names_of command.now.tree) }
+{
+    match name {
+        CommandName::Insert => lacks_documents(command),
+        CommandName::Update => lacks_updates(command),
+        CommandName::Delete => lacks_deletes(command),
+        CommandName::Find => false,
+    }
+}
+
+/// Appends the marks of a command in reading order, or tells the first value that is refused.
 pub(crate) fn mark_contents(
     marks: &mut Marks,
     rows: &Rows,
     command: &RawDoc<'_>,
 ) -> Result<(), MarkFault>
-    requires insert { is_command (codes "insert") command.now.tree ≡ true }
+    requires marked { is_marked_command command.now.tree ≡ true }
     ensures marked { MarksPlaces rows.now (command_visits rows.now command.now.start command.now.tree) marks.old marks.new result }
 {
-    if !states_documents(command) {
+    let name = command_name(command);
+    if lacks_required(name, command) {
         return Err(MarkFault::Refused {
             reason: Reason::BadField,
             at: 0,
         });
     }
-    mark_elements(marks, rows, &Contents, Place::Insert, command)
+    mark_elements(marks, rows, CommandPlace::Command(name), command)
 }

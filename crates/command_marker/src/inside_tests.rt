@@ -1,8 +1,7 @@
 //! Commands that stand inside another document: offsets are those of the bytes that were checked.
 
 use crate::command_tests::{
-    AGGREGATE, NESTED, NO_DOCUMENTS, NULL, OTHER_DB, Outcome, PEOPLE, PING, STAFF, outcome_of,
-    stored,
+    AGGREGATE, NESTED, NO_DOCUMENTS, NULL, OTHER_DB, Outcome, PEOPLE, STAFF, outcome_of, stored,
 };
 use crate::tests::{NESTED_REPLY, reply_of};
 use bson_codec::{RawDoc, check_bson};
@@ -69,9 +68,8 @@ fn values_are_refused_by_the_offsets_of_what_was_checked(rt: HostRuntime) -> Res
 
 #[test]
 fn a_command_itself_is_refused_at_0_wherever_it_begins(rt: HostRuntime) -> Result<(), Fail> {
-    let cases: [(&[u8], Reason); 3] = [
+    let cases: [(&[u8], Reason); 2] = [
         (NO_DOCUMENTS, Reason::BadField),
-        (PING, Reason::NotBuilt),
         (b"\x05\x00\x00\x00\x00", Reason::NotACommand),
     ];
     for (command, reason) in cases {

@@ -1,11 +1,15 @@
 //! A marking service: which values of a command are protected, and the command with their markings.
 #![tactic(auto)]
 
+mod commands;
 mod contents;
 mod destination;
+mod fields;
+mod items;
 pub mod laws;
 mod marked;
 mod names;
+mod places;
 mod replying;
 mod sizes;
 mod splicing;

@@ -1,8 +1,8 @@
 //! Commands with the marks of their protected values.
 
-ghost use Rattle.std.specs.Prelude.{◌≡◌, None, codes, false, true};
+ghost use Rattle.std.specs.Prelude.{◌≡◌, None, false, true};
 ghost use Rattle.encrypt_schema.specs.Commands.Visits.{content_verdict, roles};
-ghost use Rattle.command_marker.specs.Commands.{MarksAs, TellsMarks, is_command, passes};
+ghost use Rattle.command_marker.specs.Commands.{MarksAs, TellsMarks, is_marked_command, passes};
 
 use crate::contents::mark_contents;
 use bson_codec::RawDoc;
@@ -63,16 +63,17 @@ impl<'a> Marked<'a> {
     }
 }
 
-/// Marks the protected values of an insert under the rules of its collection; else the first place that is
+/// Marks the protected values of a command under the rules of its collection; else the first place that is
 /// refused, by the contents of the command. Without rules nothing is marked and nothing is refused.
 ///
-/// The command is an insert, as `target` tells; it may stand inside another document. `Memory` may come at any time.
+/// The command is an insert, an update, a delete or a find, as `target` tells with `Target::Collection`; it may stand
+/// inside another document. `Memory` may come at any time.
 pub fn mark_command<'a>(
     alloc: Global,
     rows: &'a Rows,
     command: RawDoc<'a>,
 ) -> Result<Marked<'a>, MarkFault>
-    requires insert { is_command (codes "insert") command.tree ≡ true }
+    requires marked { is_marked_command command.tree ≡ true }
     ensures marks { MarksAs rows.now command.entry result }
 {
     match marks_of(alloc, rows, &command) {
@@ -85,9 +86,9 @@ pub fn mark_command<'a>(
     }
 }
 
-/// The marks of the protected values of an insert.
+/// The marks of the protected values of a command.
 fn marks_of(alloc: Global, rows: &Rows, command: &RawDoc<'_>) -> Result<Marks, MarkFault>
-    requires insert { is_command (codes "insert") command.now.tree ≡ true }
+    requires marked { is_marked_command command.now.tree ≡ true }
     ensures marks { TellsMarks rows.now command.now result }
 {
     let mut marks = Marks::new(alloc);

@@ -1,13 +1,15 @@
 //! Names of commands and of their fields.
 
 ghost use Rattle.std.specs.Prelude.{◌≡◌, codes};
-ghost use Rattle.encrypt_schema.specs.Language.Names.{named};
+ghost use Rattle.bson_tree.specs.Tree.{kids_of};
+ghost use Rattle.encrypt_schema.specs.Language.Names.{is_among, named};
+ghost use Rattle.encrypt_schema.specs.Commands.Visits.{names_of};
 ghost use Rattle.encrypt_schema.specs.Commands.Offences.{is_db};
 ghost use Rattle.encrypt_schema.specs.Commands.Stations.{is_passed};
-ghost use Rattle.command_marker.specs.Commands.{is_unbuilt};
 ghost use Rattle.command_marker.specs.Fields.{is_marked_name};
 
-use encrypt_schema::is_named;
+use bson_codec::RawItem;
+use encrypt_schema::{has_name, is_named};
 
 /// Whether this is the name of the command `insert`.
 pub(crate) fn is_insert(name: &[u8]) -> bool
@@ -16,15 +18,33 @@ pub(crate) fn is_insert(name: &[u8]) -> bool
     is_named(name, b"insert")
 }
 
+/// Whether this is the name of the command `update`.
+pub(crate) fn is_update(name: &[u8]) -> bool
+    ensures { result ≡ named name.now (codes "update") }
+{
+    is_named(name, b"update")
+}
+
+/// Whether this is the name of the command `delete`.
+pub(crate) fn is_delete(name: &[u8]) -> bool
+    ensures { result ≡ named name.now (codes "delete") }
+{
+    is_named(name, b"delete")
+}
+
+/// Whether this is the name of the command `find`.
+fn is_find(name: &[u8]) -> bool
+    ensures { result ≡ named name.now (codes "find") }
+{
+    is_named(name, b"find")
+}
+
 /// Whether this is the name of a command whose values are protected.
 #[tactic(auto, using(crate::proofs::Targets::marked_name))]
 pub(crate) fn is_marked(name: &[u8]) -> bool
     ensures { result ≡ is_marked_name name.now }
 {
-    is_insert(name)
-        || is_named(name, b"update")
-        || is_named(name, b"delete")
-        || is_named(name, b"find")
+    is_insert(name) || is_update(name) || is_delete(name) || is_find(name)
 }
 
 /// Whether this is the name of a command that passes unchanged.
@@ -59,13 +79,6 @@ pub(crate) fn is_passed(name: &[u8]) -> bool
     false
 }
 
-/// Whether this is the name of a command that isn't built yet.
-pub(crate) fn is_unbuilt(name: &[u8]) -> bool
-    ensures { result ≡ is_unbuilt name.now }
-{
-    (is_marked(name) && !is_insert(name)) || is_passed(name)
-}
-
 /// Whether this is the name of the database's field.
 #[tactic(auto, unfolding(encrypt_schema::specs::Commands::Offences::is_db))]
 pub(crate) fn is_db(name: &[u8]) -> bool
@@ -79,4 +92,115 @@ pub(crate) fn is_documents(name: &[u8]) -> bool
     ensures { result ≡ named name.now (codes "documents") }
 {
     is_named(name, b"documents")
+}
+
+/// Whether this is the name of an update's items.
+pub(crate) fn is_updates(name: &[u8]) -> bool
+    ensures { result ≡ named name.now (codes "updates") }
+{
+    is_named(name, b"updates")
+}
+
+/// Whether this is the name of a delete's items.
+pub(crate) fn is_deletes(name: &[u8]) -> bool
+    ensures { result ≡ named name.now (codes "deletes") }
+{
+    is_named(name, b"deletes")
+}
+
+/// Whether this is the name of a find's filter.
+pub(crate) fn is_filter(name: &[u8]) -> bool
+    ensures { result ≡ named name.now (codes "filter") }
+{
+    is_named(name, b"filter")
+}
+
+/// Whether this is the name of a find's projection.
+pub(crate) fn is_projection(name: &[u8]) -> bool
+    ensures { result ≡ named name.now (codes "projection") }
+{
+    is_named(name, b"projection")
+}
+
+/// Whether this is the name of a command's variables.
+pub(crate) fn is_let(name: &[u8]) -> bool
+    ensures { result ≡ named name.now (codes "let") }
+{
+    is_named(name, b"let")
+}
+
+/// Whether this is the name of a find's lower bound.
+pub(crate) fn is_min(name: &[u8]) -> bool
+    ensures { result ≡ named name.now (codes "min") }
+{
+    is_named(name, b"min")
+}
+
+/// Whether this is the name of a find's upper bound.
+pub(crate) fn is_max(name: &[u8]) -> bool
+    ensures { result ≡ named name.now (codes "max") }
+{
+    is_named(name, b"max")
+}
+
+/// Whether this is the name of an item's filter.
+pub(crate) fn is_query(name: &[u8]) -> bool
+    ensures { result ≡ named name.now (codes "q") }
+{
+    is_named(name, b"q")
+}
+
+/// Whether this is the name of an item's update.
+pub(crate) fn is_change(name: &[u8]) -> bool
+    ensures { result ≡ named name.now (codes "u") }
+{
+    is_named(name, b"u")
+}
+
+/// Whether this is the name of an item's array filters.
+pub(crate) fn is_array_filters(name: &[u8]) -> bool
+    ensures { result ≡ named name.now (codes "arrayFilters") }
+{
+    is_named(name, b"arrayFilters")
+}
+
+/// Whether this is the name of an item's constants.
+pub(crate) fn is_constants(name: &[u8]) -> bool
+    ensures { result ≡ named name.now (codes "c") }
+{
+    is_named(name, b"c")
+}
+
+/// Whether this is the operator that cuts an array.
+pub(crate) fn is_slice(name: &[u8]) -> bool
+    ensures { result ≡ named name.now (codes "$slice") }
+{
+    is_named(name, b"$slice")
+}
+
+/// Whether this is the operator that shows what a search tells.
+pub(crate) fn is_meta(name: &[u8]) -> bool
+    ensures { result ≡ named name.now (codes "$meta") }
+{
+    is_named(name, b"$meta")
+}
+
+/// Whether a value states a filter.
+pub(crate) fn states_query(item: &RawItem<'_>) -> bool
+    ensures { result ≡ is_among (codes "q") (names_of (kids_of item.now.tree)) }
+{
+    match item.child() {
+        Some(inside) => has_name(&inside, b"q"),
+        None => false,
+    }
+}
+
+/// Whether a value states an update.
+pub(crate) fn states_change(item: &RawItem<'_>) -> bool
+    ensures { result ≡ is_among (codes "u") (names_of (kids_of item.now.tree)) }
+{
+    match item.child() {
+        Some(inside) => has_name(&inside, b"u"),
+        None => false,
+    }
 }

@@ -8,7 +8,7 @@ ghost use Rattle.command_marker.specs.Commands.{AimsAt, Refuses};
 ghost use Rattle.command_marker.specs.Fields.{first_reasons, later_reasons, later_refusal};
 
 use crate::destination::Target;
-use crate::names::{is_db, is_marked, is_passed, is_unbuilt};
+use crate::names::{is_db, is_marked, is_passed};
 use bson_codec::{RawDoc, RawItem, RawIter};
 use bson_tree::types;
 use encrypt_schema::{MarkFault, Reason, is_named};
@@ -16,9 +16,9 @@ use encrypt_schema::{MarkFault, Reason, is_named};
 /// Where a command on this database goes; else the first of its fields that is refused, by themselves:
 /// `NotACommand` for no field and for a name that isn't known, `BadField` for a collection's name that is no
 /// string or the empty one, for the command's name again, for `$db` again and for a `$db` that is no string,
-/// and `WrongDb` for another database. `NotBuilt` at 0, before all else, for every command but `insert` that is
-/// known. Whether the collection is a view is the caller's to ask. The command may stand inside another document. It
-/// takes no memory, and never tells `Memory`.
+/// and `WrongDb` for another database. `Target::Pass` exactly for the commands that pass unchanged, whose other fields
+/// nothing looks at, `$db` among them. Whether the collection is a view is the caller's to ask. The command may stand
+/// inside another document. It takes no memory, and never tells `Memory`.
 pub fn target<'a>(db: &[u8], command: &RawDoc<'a>) -> Result<Target<'a>, MarkFault>
     ensures aims { AimsAt db.now command.now result }
 {
@@ -30,11 +30,8 @@ pub fn target<'a>(db: &[u8], command: &RawDoc<'a>) -> Result<Target<'a>, MarkFau
         });
     };
     let name = first.name();
-    if is_unbuilt(name) {
-        return Err(MarkFault::Refused {
-            reason: Reason::NotBuilt,
-            at: 0,
-        });
+    if is_passed(name) {
+        return Ok(Target::Pass);
     }
     let _ = first.value();
     if let Some(reason) = first_reason(&first) {
@@ -49,16 +46,14 @@ pub fn target<'a>(db: &[u8], command: &RawDoc<'a>) -> Result<Target<'a>, MarkFau
     }
 }
 
-/// Why the first field of a command is refused.
+/// Why the first field of a command that doesn't pass is refused.
 fn first_reason(field: &RawItem<'_>) -> Option<Reason>
     ensures { result ≡ least (first_reasons (entry field.now.name field.now.tree)) }
 {
-    let name = field.name();
-    let marked = is_marked(name);
-    if !(marked || is_passed(name)) {
+    if !is_marked(field.name()) {
         return Some(Reason::NotACommand);
     }
-    if marked && names_nothing(field) {
+    if names_nothing(field) {
         return Some(Reason::BadField);
     }
     None

@@ -1,7 +1,7 @@
 //! Replies, byte for byte. The expected bytes were made from the layout of commands and markings, outside this
 //! code.
 
-use crate::command_tests::{NESTED, PEOPLE, STAFF};
+use crate::command_tests::{NESTED, PEOPLE, PING, STAFF};
 use crate::{Target, mark_command, reply, reply_clear, target};
 use bson_codec::{RawDoc, check_bson};
 use encrypt_schema::Rows;
@@ -38,6 +38,12 @@ const NOTES: &[u8] =
 /// Its reply, 146 bytes: no rule, so no flag and nothing marked.
 const NOTES_REPLY: &[u8] =
     b"\x92\x00\x00\x00\x08hasEncryptionPlaceholders\x00\x00\x08schemaRequiresEncryption\x00\x00\x03result\x00B\x00\x00\x00\x02insert\x00\x06\x00\x00\x00notes\x00\x04documents\x00\x14\x00\x00\x00\x030\x00\x0c\x00\x00\x00\x10p\x00\x01\x00\x00\x00\x00\x00\x02$db\x00\x03\x00\x00\x00hr\x00\x00\x01ok\x00\x00\x00\x00\x00\x00\x00\xf0?\x00";
+
+/// The reply to `PING`, 110 bytes.
+const PING_REPLY: &[u8] =
+    b"n\x00\x00\x00\x08hasEncryptionPlaceholders\x00\x00\x08schemaRequiresEncryption\x00\
+\x00\x03result\x00\x1e\x00\x00\x00\x10ping\x00\x01\x00\x00\x00\x02$db\x00\x06\x00\
+\x00\x00admin\x00\x00\x01ok\x00\x00\x00\x00\x00\x00\x00\xf0?\x00";
 
 /// The reply to an insert of the database `hr` under these rules.
 pub(crate) fn reply_of(alloc: Global, rows: &Rows, command: RawDoc<'_>) -> Result<Vec<u8>, Fail> {
@@ -92,9 +98,15 @@ fn without_rules_nothing_is_marked(rt: HostRuntime) -> Result<(), Fail> {
 
 #[test]
 fn a_clear_reply_holds_the_command(rt: HostRuntime) -> Result<(), Fail> {
-    match reply_clear(rt.alloc(), &check_bson(NOTES)?) {
-        Ok(bytes) => assert!(rt; bytes.as_slice() == NOTES_REPLY),
-        Err(_) => assert!(rt; false),
+    let cases: [(&[u8], &[u8]); 2] = [(NOTES, NOTES_REPLY), (PING, PING_REPLY)];
+    for (command, reply) in cases {
+        if command.len() > 1000 {
+            return Err("a test's document is too long".into());
+        }
+        match reply_clear(rt.alloc(), &check_bson(command)?) {
+            Ok(bytes) => assert!(rt; bytes.as_slice() == reply),
+            Err(_) => assert!(rt; false),
+        }
     }
     Ok(())
 }

@@ -1,8 +1,8 @@
--- A marked command is an insert of which nothing is refused.
-use Rattle.command_marker.proofs.FieldReasons.{insert_read}
+-- A marked command is one of which nothing is refused.
+use Rattle.command_marker.proofs.Targets.{marked_read}
 use Rattle.command_marker.proofs.marked.mark_command.Goals as goal
 
 pub invariant_of-result : goal.invariant_of-result
 invariant_of-result c =
     let told = c.in-Ok.ensures.marks in
-    (told.0, told.1, insert_read c.args.command.tree c.requires.insert)
+    (told.0, told.1, marked_read c.args.command.tree c.requires.marked)

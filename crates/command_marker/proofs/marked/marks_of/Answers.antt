@@ -1,5 +1,5 @@
 use Rattle.std.proofs.Common.{◌≡◌, ◌<◌, ◌∙◌, length, arith}
-use Rattle.command_marker.proofs.FieldReasons.{no_rows, refused_contents}
+use Rattle.command_marker.proofs.CommandVisits.{no_rows, refused_contents}
 use Rattle.command_marker.proofs.marked.marks_of.Goals as goal
 
 pub returns-then-len-eq0 : goal.returns-then-len-eq0

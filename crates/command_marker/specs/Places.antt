@@ -1,0 +1,73 @@
+-- MongoDB commands: what the places of commands stand for, and what the judge of an element answers
+use Rattle.std.specs.Prelude.{◌≡◌, ℕ, Bool, false, List, Option, Some, None, Result, Ok, Err, ⊤, refl, if◌then◌else◌}
+use Rattle.encrypt_schema.specs.declared.command.reason.Reason.{Reason}
+use Rattle.encrypt_schema.specs.declared.command.reason.Reason.TheVariants.{BadField, FieldNotAllowed}
+use Rattle.encrypt_schema.specs.Language.Row.{Row}
+use Rattle.encrypt_schema.specs.Commands.Offences.{ruled_offence}
+use Rattle.encrypt_schema.specs.Commands.Stations.{Entry, Station, Insert, Update, Delete, Find, Inserts, Updates, Deletes, UpdateItem, DeleteItem, Projection, station, has_role}
+use Rattle.encrypt_schema.specs.Views.Walking.{station_next, StandsNext}
+use Rattle.encrypt_schema.specs.declared.command.walking.Next.{Next}
+use Rattle.encrypt_schema.specs.declared.command.walking.Next.TheVariants as nexts
+use Rattle.filter_rules.specs.Places as filters
+use Rattle.update_rules.specs.UpdatePlaces.{UpdateStands, update_station, update_unprotected}
+use Rattle.command_marker.specs.declared.places.CommandName.{CommandName}
+use Rattle.command_marker.specs.declared.places.CommandName.TheVariants as names
+use Rattle.command_marker.specs.declared.places.CommandPlace.{CommandPlace}
+use Rattle.command_marker.specs.declared.places.CommandPlace.TheVariants as places
+
+-- the station of a command
+abbrev pub name_station : CommandName → Station
+name_station names.Insert = Insert
+name_station names.Update = Update
+name_station names.Delete = Delete
+name_station names.Find = Find
+
+-- the station for which a place of a command stands, under these rules
+abbrev pub command_station : CommandPlace → List Row → Station
+command_station (places.Command name) rows = name_station name
+command_station places.Inserts rows = Inserts
+command_station places.Updates rows = Updates
+command_station places.Deletes rows = Deletes
+command_station places.UpdateItem rows = UpdateItem
+command_station places.DeleteItem rows = DeleteItem
+command_station places.Projection rows = Projection
+command_station (places.Filter at) rows = filters.station_by at rows
+command_station (places.Update at) rows = update_station at rows
+
+-- it is a place under these rules: its cursor is one of them
+abbrev pub CommandStands : CommandPlace → List Row → Type 0
+CommandStands (places.Update at) rows = UpdateStands at rows
+CommandStands _ rows = ⊤
+
+-- no place of a command is a protected value itself
+pub command_unprotected : (place : CommandPlace) (rows : List Row) → has_role (command_station place rows) ≡ false
+command_unprotected (places.Command names.Insert) rows = refl
+command_unprotected (places.Command names.Update) rows = refl
+command_unprotected (places.Command names.Delete) rows = refl
+command_unprotected (places.Command names.Find) rows = refl
+command_unprotected places.Inserts rows = refl
+command_unprotected places.Updates rows = refl
+command_unprotected places.Deletes rows = refl
+command_unprotected places.UpdateItem rows = refl
+command_unprotected places.DeleteItem rows = refl
+command_unprotected places.Projection rows = refl
+command_unprotected (places.Filter at) rows = filters.unprotected at rows
+command_unprotected (places.Update at) rows = update_unprotected at rows
+
+-- an element is this, by its station, and isn't refused; or it is refused for the reason
+abbrev pub Answers : List Row → Station → Option Reason → Result (Next CommandPlace) Reason → Type 0
+Answers rows s offence (Ok next) =
+    (station_next command_station rows next ≡ s) × StandsNext CommandStands rows next × (None ≡ offence)
+Answers rows s offence (Err reason) = Some reason ≡ offence
+
+-- an element of a document of this station, behind elder siblings of these names, is judged right
+abbrev pub Judges : List Row → Station → List (List ℕ) → Entry → Result (Next CommandPlace) Reason → Type 0
+Judges rows s elder e result = Answers rows (station rows s e) (ruled_offence rows s elder e) result
+
+-- a field that is read, as what it has to be; BadField where it isn't, or stands for the second time
+abbrev pub read_as : Bool → CommandPlace → Result (Next CommandPlace) Reason
+read_as right place = if right then Ok (nexts.Inside place) else Err BadField
+
+-- why a field that can't be used is refused: also where it stands for the second time
+abbrev pub unusable_reason : Bool → Reason
+unusable_reason again = if again then BadField else FieldNotAllowed
