@@ -31,7 +31,8 @@ pub(crate) fn collection_filter(alloc: Global, name: &[u8]) -> Result<Vec<u8>, M
 /// Appends the field `name`.
 fn put_collection(out: &mut Vec<u8>, name: &[u8]) -> Result<(), Memory>
     requires short { length name.now ≤ 100000000 }
-    ensures put { OnOk result (out.new.items ≡ out.old.items ++ items_bytes (item (codes "name") (text name.now) no_items)) }
+    ensures put { OnOk result (out.new.items ≡ out.old.items
+        ++ items_bytes (item (codes "name") (text name.now) no_items)) }
     ensures size { OnOk result (length out.new.items ≡ length out.old.items + (length name.now + 11)) }
 {
     put_string(out, b"name", name)
@@ -40,8 +41,10 @@ fn put_collection(out: &mut Vec<u8>, name: &[u8]) -> Result<(), Memory>
 /// Appends a string under a name.
 fn put_string(out: &mut Vec<u8>, field: &[u8], string: &[u8]) -> Result<(), Memory>
     requires short { length string.now ≤ 100000000 }
-    ensures put { OnOk result (out.new.items ≡ out.old.items ++ items_bytes (item field.now (text string.now) no_items)) }
-    ensures size { OnOk result (length out.new.items ≡ length out.old.items + (length field.now + length string.now + 7)) }
+    ensures put { OnOk result (out.new.items
+        ≡ out.old.items ++ items_bytes (item field.now (text string.now) no_items)) }
+    ensures size { OnOk result (length out.new.items
+        ≡ length out.old.items + (length field.now + length string.now + 7)) }
 {
     put_name(out, types::STRING, field)?;
     append(out, &(string.len() as u32 + 1).to_le_bytes())?;

@@ -1,6 +1,7 @@
 //! The filter by which a caller asks for keys.
 
-ghost use Rattle.std.specs.Prelude.{◌≡◌, ◌+◌, ◌*◌, ◌<◌, ◌≤◌, ◌^◌, ◌++◌, ◌∷◌, [], codes, decimal, length, map, IfOk, OnOk};
+ghost use Rattle.std.specs.Prelude.{◌≡◌, ◌+◌, ◌*◌, ◌<◌, ◌≤◌, ◌^◌, ◌++◌, ◌∷◌, [], codes, decimal, length, map, IfOk};
+ghost use Rattle.std.specs.Prelude.{OnOk};
 ghost use Rattle.bson_tree.specs.Spelling.{doc_bytes, items_bytes, value_bytes};
 ghost use Rattle.bson_tree.specs.Tree.{item, no_items, node};
 ghost use Rattle.context_machine.specs.Asks.{among, by_id, by_name, choices, key_filter, numbered, uuid};
@@ -35,7 +36,8 @@ pub(crate) fn key_filter(alloc: Global, needs: &[Need]) -> Result<Vec<u8>, Memor
 fn put_or(out: &mut Vec<u8>, needs: &[Need]) -> Result<(), Memory>
     requires few { length needs.now ≤ 10000000 }
     requires room { length out.old.items ≤ 100 }
-    ensures put { OnOk result (out.new.items ≡ out.old.items ++ items_bytes (item (codes "$or") (node 4 (choices (ids_of needs.now))) no_items)) }
+    ensures put { OnOk result (out.new.items ≡ out.old.items
+        ++ items_bytes (item (codes "$or") (node 4 (choices (ids_of needs.now))) no_items)) }
     ensures size { OnOk result (length out.new.items ≤ length out.old.items + (74 + 63 * length needs.now)) }
 {
     put_name(out, types::ARRAY, b"$or")?;
@@ -75,7 +77,8 @@ fn put_by_name(out: &mut Vec<u8>) -> Result<(), Memory>
 fn put_by_id(out: &mut Vec<u8>, needs: &[Need]) -> Result<(), Memory>
     requires few { length needs.now ≤ 10000000 }
     requires room { length out.old.items ≤ 110 }
-    ensures put { OnOk result (out.new.items ≡ out.old.items ++ items_bytes (item (codes "0") (node 3 (by_id (ids_of needs.now))) no_items)) }
+    ensures put { OnOk result (out.new.items ≡ out.old.items
+        ++ items_bytes (item (codes "0") (node 3 (by_id (ids_of needs.now))) no_items)) }
     ensures size { OnOk result (length out.new.items ≤ length out.old.items + (28 + 63 * length needs.now)) }
 {
     put_name(out, types::DOCUMENT, b"0")?;
@@ -90,7 +93,8 @@ fn put_by_id(out: &mut Vec<u8>, needs: &[Need]) -> Result<(), Memory>
 fn put_id(out: &mut Vec<u8>, needs: &[Need]) -> Result<(), Memory>
     requires few { length needs.now ≤ 10000000 }
     requires room { length out.old.items ≤ 120 }
-    ensures put { OnOk result (out.new.items ≡ out.old.items ++ items_bytes (item (codes "_id") (node 3 (among (numbered 0 (ids_of needs.now)))) no_items)) }
+    ensures put { OnOk result (out.new.items ≡ out.old.items
+        ++ items_bytes (item (codes "_id") (node 3 (among (numbered 0 (ids_of needs.now)))) no_items)) }
     ensures size { OnOk result (length out.new.items ≤ length out.old.items + (20 + 63 * length needs.now)) }
 {
     put_name(out, types::DOCUMENT, b"_id")?;
@@ -105,7 +109,8 @@ fn put_id(out: &mut Vec<u8>, needs: &[Need]) -> Result<(), Memory>
 fn put_in(out: &mut Vec<u8>, needs: &[Need]) -> Result<(), Memory>
     requires few { length needs.now ≤ 10000000 }
     requires room { length out.old.items ≤ 130 }
-    ensures put { OnOk result (out.new.items ≡ out.old.items ++ items_bytes (item (codes "$in") (node 4 (numbered 0 (ids_of needs.now))) no_items)) }
+    ensures put { OnOk result (out.new.items ≡ out.old.items
+        ++ items_bytes (item (codes "$in") (node 4 (numbered 0 (ids_of needs.now))) no_items)) }
     ensures size { OnOk result (length out.new.items ≤ length out.old.items + (10 + 63 * length needs.now)) }
 {
     put_name(out, types::ARRAY, b"$in")?;

@@ -15,6 +15,8 @@ pub fn kept_answer()
 
 /// The keys of a vault, asked for by one need after another: those kept are the vault's for the needs asked for so far.
 pub fn asked_answer()
-    ensures next { (vault : List KeyDoc) (needs asked : List Need) (kept : List KeyDoc) (n : Need) → is_needed n.id needs ≡ true
-        → AreFedFrom vault asked kept → AreFedFrom vault (asked ++ n ∷ []) (fed_some needs kept (key_by_id vault n.id)) }
+    ensures next { (vault : List KeyDoc) (needs asked : List Need) (kept : List KeyDoc) (n : Need)
+        → is_needed n.id needs ≡ true
+        → AreFedFrom vault asked kept → AreFedFrom vault (asked ++ n ∷ [])
+        (fed_some needs kept (key_by_id vault n.id)) }
 {}

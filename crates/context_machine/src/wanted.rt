@@ -1,6 +1,7 @@
 //! The keys that are needed, and those that are kept.
 
-ghost use Rattle.std.specs.Prelude.{◌≡◌, ◌<◌, ◌∷◌, [], ◌++◌, false, true, drop, length, map, option_copied, option_map, slice_get, IfOk, OnOk};
+ghost use Rattle.std.specs.Prelude.{◌≡◌, ◌<◌, ◌∷◌, [], ◌++◌, false, true, drop, length, map, option_copied, option_map};
+ghost use Rattle.std.specs.Prelude.{slice_get, IfOk, OnOk};
 ghost use Rattle.key_vault.specs.Keys.{key_by_id};
 ghost use Rattle.context_machine.specs.Kept.{fed, is_kept};
 ghost use Rattle.context_machine.specs.Needs.{first_needs, is_needed, put_new};
@@ -27,7 +28,8 @@ impl<'a> Model for Wanted<'a> {
 
     ghost view = { λ w. record { needs = w.needs.items; kept = map (λ k. k.now) w.kept.items } };
 
-    ghost invariant = { λ w. vec_len w.kept + lacking (map (λ k. k.now) w.kept.items) w.needs.items ≤ vec_capacity w.kept };
+    ghost invariant = { λ w. vec_len w.kept + lacking (map (λ k. k.now) w.kept.items) w.needs.items
+        ≤ vec_capacity w.kept };
 }
 
 impl<'a> Wanted<'a> {

@@ -9,6 +9,7 @@ unfolding collection_filter
 returns c =
     let four : c.open.new.out.items ≡ 0 ∷ (0 ∷ (0 ∷ (0 ∷ []))) = search rules in
     record {
-      filter = whole c.open.new.out.items c.put_collection.new.out.items c.close.new.out.items (item (codes "name") (text c.args.name.now) no_items) four
+      filter = whole c.open.new.out.items c.put_collection.new.out.items c.close.new.out.items
+          (item (codes "name") (text c.args.name.now) no_items) four
           c.in_ok-put_collection.ensures.put c.in_ok-close.ensures.closed;
     }

@@ -10,6 +10,7 @@ unfolding key_filter
 returns c =
     let four : c.open.new.out.items ≡ 0 ∷ (0 ∷ (0 ∷ (0 ∷ []))) = search rules in
     record {
-      filter = whole c.open.new.out.items c.put_or.new.out.items c.close.new.out.items (item (codes "$or") (node 4 (choices (ids_of c.args.needs.now))) no_items) four
+      filter = whole c.open.new.out.items c.put_or.new.out.items c.close.new.out.items
+          (item (codes "$or") (node 4 (choices (ids_of c.args.needs.now))) no_items) four
           c.in_ok-put_or.ensures.put c.in_ok-close.ensures.closed;
     }

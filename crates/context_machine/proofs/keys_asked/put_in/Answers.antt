@@ -8,10 +8,13 @@ pub returns : goal.returns
 returns c =
     let at : length c.put_name.new.out.items ≡ c.len-at.result = search rules in
     let wide =
-    grown c.args.out.now.items c.put_name.new.out.items c.open.new.out.items 4 (codes "$in") c.in_ok-put_name.ensures.named c.in_ok-open.ensures.opened in
+    grown c.args.out.now.items c.put_name.new.out.items c.open.new.out.items 4
+    (codes "$in") c.in_ok-put_name.ensures.named c.in_ok-open.ensures.opened in
     let all =
-    nested c.args.out.now.items c.put_name.new.out.items c.open.new.out.items c.put_ids.new.out.items c.close.new.out.items 4 (codes "$in") (numbered 0 (ids_of c.args.needs.now)) c.len-at.result at
-    c.in_ok-put_name.ensures.named c.in_ok-open.ensures.opened c.in_ok-put_ids.ensures.put c.in_ok-close.ensures.closed in
+    nested c.args.out.now.items c.put_name.new.out.items c.open.new.out.items c.put_ids.new.out.items
+    c.close.new.out.items 4 (codes "$in") (numbered 0 (ids_of c.args.needs.now)) c.len-at.result at
+    c.in_ok-put_name.ensures.named c.in_ok-open.ensures.opened c.in_ok-put_ids.ensures.put c.in_ok-close.ensures.closed
+    in
     record {
       put = all.put;
       size = omega (arith, wide, all.size, c.in_ok-put_ids.ensures.size);

@@ -26,8 +26,17 @@ invariant_of-self c =
     let put : c.push.new.self.items ≡ c.self.inside.kept.items ++ c.args.key ∷ [] = search rules in
     let long : vec_len c.push.new.self ≡ vec_len c.self.inside.kept + 1 = search rules in
     let now : map (λ (k : Bor KeyDoc). k.now) c.push.new.self.items ≡ keys ++ c.args.key.now ∷ [] =
-    ap (map (λ (k : Bor KeyDoc). k.now)) put ∙ map-append (λ (k : Bor KeyDoc). k.now) c.self.inside.kept.items (c.args.key ∷ []) in
+    ap (map (λ (k : Bor KeyDoc). k.now)) put ∙ map-append (λ (k : Bor KeyDoc). k.now) c.self.inside.kept.items
+    (c.args.key ∷ []) in
     let less = lacks_less keys c.args.key.now needs needed off in
-    let room : vec_len c.push.new.self + lacking (map (λ (k : Bor KeyDoc). k.now) c.push.new.self.items) needs ≤ vec_capacity c.push.new.self =
-    omega (arith, less, ap (λ (ks : List KeyDoc). lacking ks needs) now, long, c.push.ensures.capacity, c.self.invariant) in
+    let room : vec_len c.push.new.self + lacking (map (λ (k : Bor KeyDoc). k.now) c.push.new.self.items) needs
+    ≤ vec_capacity c.push.new.self =
+    omega (
+      arith,
+      less,
+      ap (λ (ks : List KeyDoc). lacking ks needs) now,
+      long,
+      c.push.ensures.capacity,
+      c.self.invariant,
+    ) in
     room

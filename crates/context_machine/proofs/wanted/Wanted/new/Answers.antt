@@ -13,7 +13,8 @@ invariant_of-result c =
     let empty : vec_len c.in-Ok.kept ≡ 0 = search rules in
     let wide : vec_capacity c.in-Ok.kept ≡ c.len.result = search rules in
     let number : length needs ≡ c.len.result = search rules in
-    let room : vec_len c.in-Ok.kept + lacking (map (λ (k : Bor KeyDoc). k.now) c.in-Ok.kept.items) needs ≤ vec_capacity c.in-Ok.kept =
+    let room : vec_len c.in-Ok.kept + lacking (map (λ (k : Bor KeyDoc). k.now) c.in-Ok.kept.items) needs
+    ≤ vec_capacity c.in-Ok.kept =
     omega (
       arith,
       ap (λ (ks : List (Bor KeyDoc)). lacking (map (λ (k : Bor KeyDoc). k.now) ks) needs) none,
