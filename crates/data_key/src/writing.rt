@@ -104,7 +104,8 @@ fn put_texts(out: &mut Vec<u8>, names: &[Bytes]) -> Result<(), Memory>
 /// Appends element `i` of an array, a string.
 fn put_numbered(out: &mut Vec<u8>, i: u32, name: &[u8]) -> Result<(), Memory>
     requires { length name.now ≤ 16000000 }
-    ensures put { OnOk result (out.new.items ≡ out.old.items ++ items_bytes (item (decimal i) (text name.now) no_items)) }
+    ensures put { OnOk result (out.new.items
+        ≡ out.old.items ++ items_bytes (item (decimal i) (text name.now) no_items)) }
 {
     let mut buffer = Buffer::new();
     put_name(out, types::STRING, buffer.format(i).as_bytes())?;

@@ -12,8 +12,8 @@
 //! let code: [u8; 64] = running.finish();
 //! ```
 //!
-//! It doesn't compare codes and doesn't wipe what it leaves in memory. How long it runs depends on
-//! the lengths of key and message alone, by its form: no clause says so.
+//! It doesn't compare codes and doesn't wipe what it leaves in memory. No clause says how long it runs: it has no
+//! table that is read at a secret place, and docs/SECURITY.md says what a test of its traces showed.
 #![tactic(auto)]
 
 pub use keyed::KeyedMac;

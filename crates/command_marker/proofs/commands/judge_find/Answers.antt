@@ -21,9 +21,10 @@ returns-then-is_projection c =
     let name = c.args.item.now.name in
     let t = c.args.item.now.tree in
     record {
-      judged = λ rows. projection_read rows elder name t c.read_document-then-is_projection.result
-          (ap (λ (n : List ℕ). named n (codes "projection")) (sym c.name-name.ensures.name) ∙ sym c.is_projection.ensures
-          ∙ c.if-is_projection.true) c.read_document-then-is_projection.ensures.read;
+      judged = λ rows. projection_read rows elder name t
+          c.read_document-then-is_projection.result
+          (ap (λ (n : List ℕ). named n (codes "projection")) (sym c.name-name.ensures.name)
+          ∙ sym c.is_projection.ensures ∙ c.if-is_projection.true) c.read_document-then-is_projection.ensures.read;
     }
 
 pub returns-then-is_unusable : goal.returns-then-is_unusable
