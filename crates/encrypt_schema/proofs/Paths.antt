@@ -2,6 +2,7 @@ pub mod Paths
 pub mod Numbers
 pub mod Fronts
 pub mod Trees
+pub mod Sieves
 pub mod Written
 pub mod Walked
 pub mod Growth

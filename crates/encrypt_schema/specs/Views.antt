@@ -2,6 +2,7 @@ pub mod Borrowed
 pub mod Seen
 pub mod Fronts
 pub mod Trees
+pub mod Below
 pub mod Spots
 pub mod Landing
 pub mod Cursors

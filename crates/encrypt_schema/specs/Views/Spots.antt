@@ -6,6 +6,7 @@ use Rattle.std.specs.Global.{Global}
 use Rattle.encrypt_schema.specs.declared.path.spots.Spot.{Spot}
 use Rattle.encrypt_schema.specs.declared.path.rows.Rule.{Rule}
 use Rattle.encrypt_schema.specs.Language.Row.{Row, paths}
+use Rattle.encrypt_schema.specs.Views.Below.{led}
 use Rattle.encrypt_schema.specs.Views.Fronts.{fronts}
 use Rattle.encrypt_schema.specs.Views.Trees.{IsTree, HasRules}
 
@@ -15,7 +16,7 @@ numbered below name = get_by (λ k. bytes_eq name k.items) below
 
 -- the number of the spot to which a name leads from a spot
 abbrev pub child_at : List Spot → ℕ → List ℕ → Option ℕ
-child_at spots i = get_or (map (λ spot. numbered spot.below) spots) i (λ _. None)
+child_at spots i = get_or (map (λ spot. led spot.below) spots) i (λ _. None)
 
 -- the number of the first rule that ends at a spot
 abbrev pub rule_at : List Spot → ℕ → Option ℕ

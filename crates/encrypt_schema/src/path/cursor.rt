@@ -44,7 +44,7 @@ impl Rows {
         }
     }
 
-    /// The cursor of a path with one name more. It takes one look-up by the name's hash, and no memory.
+    /// The cursor of a path with one name more. It takes at most one look-up by the name's hash, and no memory.
     pub fn step(&self, at: Cursor, name: &[u8]) -> Cursor
         requires cursor { (path : List (List ℕ)) × Stands self.now at path }
         ensures steps { (path : List (List ℕ)) → Stands self.now at path
