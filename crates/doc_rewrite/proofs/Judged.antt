@@ -27,7 +27,7 @@ mutual
   none_in at (leaf tag bytes) ps = raw at tag bytes ps
   none_in at (node tag is) ps = inside at tag is ps ps (none_among (at + 4) is ps)
 
-  none_among : (at : ℕ) (is : Items) (ps : List Put) → Takes at is ps ps
+  pub none_among : (at : ℕ) (is : Items) (ps : List Put) → Takes at is ps ps
   none_among at no_items ps = done at ps
   none_among at (item name t is) ps =
       next at name t is ps ps ps (none_in (at + (2 + length name)) t ps)

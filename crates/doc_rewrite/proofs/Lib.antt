@@ -20,3 +20,11 @@ pub mod Unsealed
 pub mod OneLeaf
 pub mod Opens
 pub mod Wholes
+pub mod Clear
+pub mod GivesBack
+pub mod RightPayloads
+pub mod Sealable
+pub mod LaidOut
+pub mod OpensAgain
+pub mod FreePlaces
+pub mod RuleKeys

@@ -150,7 +150,7 @@ module _ (S : ℕ → Tree → Tree → Type 0) (rows : List Row) where
   none_if false false false false true = refl
   none_if false false false false false = refl
 
-  command_none : (names : List (List ℕ)) → rule_of (command_of names) ≡ None
+  pub command_none : (names : List (List ℕ)) → rule_of (command_of names) ≡ None
   command_none [] = refl
   command_none (name ∷ names) =
       none_if (named name (codes "insert")) (named name (codes "update")) (named name (codes "delete"))

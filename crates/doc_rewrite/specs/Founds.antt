@@ -21,6 +21,7 @@ has_number (number ∷ bytes) = number == 1 || number == 2
 unfoldable pub is_sealed : ℕ → List ℕ → Bool
 is_sealed tag bytes = is_payload tag bytes && has_number (drop 5 bytes)
 
+-- a value is a payload
 abbrev pub opens_here : Tree → Bool
 opens_here (leaf tag bytes) = is_sealed tag bytes
 opens_here (node tag is) = false
@@ -32,6 +33,7 @@ pub record Place : Type 0 where
   pub levels : ℕ
   pub contents : List ℕ
 
+-- the place of a value that begins at `at`
 abbrev pub place_of : ℕ → ℕ → Tree → Place
 place_of levels at t =
     record { start = at; end = at + length (value_bytes t); levels = levels; contents = contents_of t }

@@ -9,6 +9,7 @@ pub mod Standing
 pub mod SealedTrees
 pub mod SealedCommand
 pub mod Founds
+pub mod PayloadFree
 pub mod Opened
 pub mod Leaves
 pub mod Finding

@@ -1,6 +1,6 @@
 -- MongoDB Client Side Encryption, decryption: a document opened, or the reason for which it isn't
-use Rattle.std.specs.Prelude.{ℕ, ◌+◌, ◌-◌, ◌%◌, ◌==◌, ◌&&◌, Bool, nat_lt, List, [], ◌∷◌, length, Option, Some, None}
-use Rattle.std.specs.Prelude.{Result, Ok, Err, if◌then◌else◌}
+use Rattle.std.specs.Prelude.{◌≡◌, ℕ, ◌+◌, ◌-◌, ◌%◌, ◌==◌, ◌&&◌, Bool, nat_lt, List, [], ◌∷◌, length, Option}
+use Rattle.std.specs.Prelude.{Some, None, Result, Ok, Err, if◌then◌else◌}
 use Rattle.bson_tree.specs.Tree.{Tree, Items}
 use Rattle.bson_codec.specs.Borrowed.{At}
 use Rattle.encrypt_schema.specs.Commands.Visits.{Refusal, or_else, refused_at}
@@ -14,10 +14,12 @@ use Rattle.doc_rewrite.specs.Keys.{Lookup}
 abbrev pub Keyring : Type 0
 Keyring = List ℕ → Result (List ℕ) Reason
 
+-- why an id has no key
 abbrev pub reason_in : Result (List ℕ) Reason → Option Reason
 reason_in (Ok key) = None
 reason_in (Err reason) = Some reason
 
+-- the key of an id; no bytes where it has none
 abbrev pub key_or_none : Result (List ℕ) Reason → List ℕ
 key_or_none (Ok key) = key
 key_or_none (Err reason) = []
@@ -27,8 +29,13 @@ abbrev pub found_or_missing : Option (List ℕ) → Result (List ℕ) Reason
 found_or_missing (Some key) = Ok key
 found_or_missing None = Err reasons.KeyMissing
 
+-- a look-up as a keyring
 abbrev pub ring_of : Lookup → Keyring
 ring_of keys id = found_or_missing (keys id)
+
+-- each key that may be looked up is had, under its id
+abbrev pub HasAll : Keyring → Lookup → Type 0
+HasAll ring keys = (id key : List ℕ) → keys id ≡ Some key → ring id ≡ Ok key
 
 -- the first payload for which there is a reason
 abbrev pub first_wrong : (Place → Option Reason) → List Place → Option Refusal
@@ -40,6 +47,7 @@ first_wrong judge (p ∷ ps) = or_else (refused_at p.start (judge p)) (first_wro
 abbrev pub is_payload_length : ℕ → Bool
 is_payload_length n = nat_lt 66 n && (n - 66) % 16 == 0
 
+-- a payload has a length that none has
 abbrev pub misshapen : Place → Option Reason
 misshapen p = if is_payload_length (length p.contents) then None else Some reasons.PayloadShape
 
@@ -64,6 +72,7 @@ opening_refusal keys ps =
 abbrev pub opened_whole : Keyring → At → Items
 opened_whole keys d = opened_items (value_of keys) (d.start + 4) d.tree
 
+-- the opened document, where nothing is refused
 abbrev pub opened_unless : Items → Option Refusal → Result Items Refusal
 opened_unless is None = Ok is
 opened_unless is (Some refusal) = Err refusal

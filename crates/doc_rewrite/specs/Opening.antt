@@ -25,16 +25,19 @@ OpensAs keys ps made old new at most (Ok end) =
 OpensAs keys ps made old new at most (Err spot) =
     first_wrong (spoilt keys) ps ≡ Some (record { reason = spot.reason; at = spot.at })
 
--- the bytes of an element, and what an element, elements, a document become
+-- the bytes of an element
 abbrev pub element_bytes : Elem → List ℕ
 element_bytes e = items_bytes (item e.name e.tree no_items)
 
+-- the bytes of an element with its payloads opened
 abbrev pub element_opened : Keyring → Elem → List ℕ
 element_opened keys e = items_bytes (item e.name (fill_tree (opened_value (value_of keys)) e.start e.tree) no_items)
 
+-- those of elements that begin at an offset
 abbrev pub elements_opened : Keyring → ℕ → Items → List ℕ
 elements_opened keys at is = items_bytes (opened_items (value_of keys) at is)
 
+-- those of a document
 abbrev pub document_opened : Keyring → At → List ℕ
 document_opened keys d = doc_bytes (opened_whole keys d)
 

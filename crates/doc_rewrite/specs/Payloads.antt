@@ -26,5 +26,6 @@ abbrev pub site_vector : Site → List ℕ → Tree → Block → List ℕ
 site_vector s key t block =
     vector s.algorithm key (head (algorithm_number s.algorithm) s.key_id (tag_of t)) (value_bytes t) block
 
+-- the payload of a value at a site
 abbrev pub site_payload : Site → List ℕ → Tree → Block → List ℕ
 site_payload s key t block = payload s.algorithm s.key_id key (tag_of t) (value_bytes t) block

@@ -16,6 +16,7 @@ use Rattle.doc_rewrite.specs.Payloads.{site_payload}
 unfoldable pub sealed_value : Lookup → Site → Block → Tree → Tree
 sealed_value keys s block t = binary 6 (site_payload s (unwrap_or (keys s.key_id) []) t block)
 
+-- the same at the place of its site
 abbrev pub put_of : Lookup → Site → Block → Put
 put_of keys s block = record { start = s.start; end = s.end; value = sealed_value keys s block }
 
@@ -23,6 +24,7 @@ put_of keys s block = record { start = s.start; end = s.end; value = sealed_valu
 abbrev pub any_block : Block
 any_block = replicate 16 0
 
+-- the block that the next value takes
 abbrev pub first_block : Algorithm → List Block → Block
 first_block Deterministic blocks = any_block
 first_block Random [] = any_block

@@ -31,10 +31,11 @@ pub record IsFilledCommand (S : ℕ → Tree → Tree → Type 0) (rows : List R
 abbrev pub IsSealedCommand : Lookup → List Row → Items → Items → Type 0
 IsSealedCommand keys rows c d = IsFilledCommand (λ i t u. IsSealedValue keys (policy_at i rows) t u) rows c d
 
--- the key of an id of 16 bytes is there; that of the rule of each mark
+-- the key of an id of 16 bytes is there
 abbrev pub HasKey : Lookup → List ℕ → Type 0
 HasKey keys id = (key : List ℕ) × (keys id ≡ Some key) × (length id ≡ 16)
 
+-- the key of the rule of each mark is there
 abbrev pub HasRuleKeys : Lookup → List Row → List Mark → Type 0
 HasRuleKeys keys rows [] = Unit {0}
 HasRuleKeys keys rows (m ∷ ms) = HasKey keys (key_id (policy_at m.policy rows).key) × HasRuleKeys keys rows ms

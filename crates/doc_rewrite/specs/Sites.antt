@@ -19,6 +19,7 @@ site_of rows m = record {
   key_id = key_id (policy_at m.policy rows).key;
 }
 
+-- the sites of marks, in their order
 abbrev pub sites_of : List Row → List Mark → List Site
 sites_of rows ms = map (site_of rows) ms
 
@@ -31,6 +32,7 @@ sealed_width n = 71 + 16 * (n / 16 + 1)
 abbrev pub span_of : Site → Span
 span_of s = record { start = s.start; end = s.end; most = λ t. sealed_width (length (value_bytes t)) }
 
+-- the places of sites
 abbrev pub spans_of : List Site → List Span
 spans_of ss = map span_of ss
 
@@ -39,11 +41,12 @@ abbrev pub grown : List Site → ℕ
 grown [] = 0
 grown (s ∷ ss) = (sealed_width (s.end - s.start) - (s.end - s.start)) + grown ss
 
--- how many random blocks are drawn: one for each value that is sealed by the random algorithm
+-- how many random blocks are drawn for a value: one where it is sealed by the random algorithm
 abbrev pub draw : Algorithm → ℕ
 draw Deterministic = 0
 draw Random = 1
 
+-- those of all sites
 abbrev pub draws_of : List Site → ℕ
 draws_of [] = 0
 draws_of (s ∷ ss) = draw s.algorithm + draws_of ss

@@ -26,6 +26,7 @@ pub record DrawFails (algorithm : Algorithm) (before after : EntropySeen) : Type
   pub unassured : before.assured ≡ 0
   pub rose : Rose before.faults after.faults
 
+-- the vector of a value was made, or the draw for it failed
 abbrev pub TellsVector : Site → List ℕ → Tree → EntropySeen → EntropySeen → Result (List ℕ) Failed → Type 0
 TellsVector s key t before after (Ok iv) = IsDrawnVector s key t before after iv
 TellsVector s key t before after (Err _) = DrawFails s.algorithm before after

@@ -1,18 +1,23 @@
 //! Laws of documents that are sealed. The functions do nothing; their clauses are the laws.
 
-ghost use Rattle.std.specs.Prelude.{◌<◌, ℕ, List};
+ghost use Rattle.std.specs.Prelude.{◌≡◌, ◌<◌, ◌^◌, ℕ, List, length, None, Ok};
 ghost use Rattle.std.specs.List.{All};
 ghost use Rattle.bson_codec.specs.Borrowed.{At};
-ghost use Rattle.bson_tree.specs.Spelling.{items_bytes};
+ghost use Rattle.bson_codec.specs.Layout.{IsDoc};
+ghost use Rattle.bson_tree.specs.Spelling.{doc_bytes, items_bytes};
 ghost use Rattle.bson_tree.specs.Tree.{Items};
-ghost use Rattle.encrypt_schema.specs.Commands.Visits.{roles};
+ghost use Rattle.encrypt_schema.specs.declared.command.marks.Mark.{Mark};
+ghost use Rattle.encrypt_schema.specs.Commands.Visits.{content_verdict, roles};
 ghost use Rattle.encrypt_schema.specs.Language.Row.{Row};
 ghost use Rattle.fle_outside.specs.Blocks.{AreBlocks, Block};
 ghost use Rattle.doc_rewrite.specs.Keys.{Lookup};
-ghost use Rattle.doc_rewrite.specs.Plans.{AreMarksOf};
+ghost use Rattle.doc_rewrite.specs.Opened.{HasAll, Keyring, opened};
+ghost use Rattle.doc_rewrite.specs.PayloadFree.{IsPayloadFree, IsPayloadFreeByPlaces};
+ghost use Rattle.doc_rewrite.specs.Plans.{AreLong, AreMarksOf};
 ghost use Rattle.doc_rewrite.specs.Sealed.{sealed};
 ghost use Rattle.doc_rewrite.specs.SealedCommand.{HasRuleKeys, IsSealedCommand};
 ghost use Rattle.doc_rewrite.specs.SealedTrees.{IsSealedByStations};
+ghost use Rattle.doc_rewrite.specs.Sealing.{HasKeys};
 ghost use Rattle.doc_rewrite.specs.Sites.{sites_of};
 
 /// The marks of a command's protected values are what `plan_seal` asks of marks.
@@ -28,10 +33,53 @@ pub fn one_reading()
         → IsSealedByStations keys rows c d → IsSealedCommand keys rows c d }
 {}
 
+/// A command with no payload outside its protected values, read by its places, is one read by their stations, and the
+/// other way round.
+pub fn free_reading()
+    ensures stations { (rows : List Row) (c : Items) → IsPayloadFreeByPlaces rows c → IsPayloadFree rows c }
+    ensures places { (rows : List Row) (c : Items) → IsPayloadFree rows c → IsPayloadFreeByPlaces rows c }
+{}
+
 /// A command of bytes, sealed at its protected values under keys that are there and any blocks, is a sealed command.
 pub fn sealed_as_stated()
     ensures sealed { (keys : Lookup) (rows : List Row) (d : At) (blocks : List Block)
         → All (λ b. b < 256) (items_bytes d.tree) → AreBlocks blocks
         → HasRuleKeys keys rows (roles rows d.start d.tree)
         → IsSealedCommand keys rows d.tree (sealed keys (sites_of rows (roles rows d.start d.tree)) blocks d) }
+{}
+
+/// Sites with keys that are there, each under an id of 16 bytes, as those of a plan are: then the rules of their marks
+/// have their keys.
+pub fn sites_have_rule_keys()
+    ensures keyed { (keys : Lookup) (rows : List Row) (marks : List Mark) → HasKeys keys (sites_of rows marks)
+        → AreLong (sites_of rows marks) → HasRuleKeys keys rows marks }
+{}
+
+/// A sealed command opens to the command, under any keys that have those that it was sealed under: where the command
+/// has a spelling, no place of it has an offence of the content pass, and no payload stands outside its protected
+/// values. It may begin at any offset of its bytes, and so may the sealed one.
+pub fn opening_undoes_sealing()
+    ensures opens { (keys : Lookup) (ring : Keyring) (rows : List Row) (c d : At) → IsDoc c.tree
+        → content_verdict rows c.start c.tree ≡ None → IsPayloadFree rows c.tree → HasAll ring keys
+        → IsSealedCommand keys rows c.tree d.tree → opened ring d ≡ Ok c.tree }
+    ensures stations { (keys : Lookup) (ring : Keyring) (rows : List Row) (c d : At) → IsDoc c.tree
+        → content_verdict rows c.start c.tree ≡ None → IsPayloadFree rows c.tree → HasAll ring keys
+        → IsSealedByStations keys rows c.tree d.tree → opened ring d ≡ Ok c.tree }
+    ensures places { (keys : Lookup) (ring : Keyring) (rows : List Row) (c d : At) → IsDoc c.tree
+        → content_verdict rows c.start c.tree ≡ None → IsPayloadFreeByPlaces rows c.tree → HasAll ring keys
+        → IsSealedCommand keys rows c.tree d.tree → opened ring d ≡ Ok c.tree }
+    ensures sealed { (keys : Lookup) (ring : Keyring) (rows : List Row) (c : At) (blocks : List Block) → IsDoc c.tree
+        → content_verdict rows c.start c.tree ≡ None → IsPayloadFree rows c.tree → HasAll ring keys
+        → All (λ b. b < 256) (items_bytes c.tree) → AreBlocks blocks
+        → HasRuleKeys keys rows (roles rows c.start c.tree)
+        → opened ring (record {
+          tree = sealed keys (sites_of rows (roles rows c.start c.tree)) blocks c;
+          start = c.start;
+        }) ≡ Ok c.tree }
+{}
+
+/// A sealed command has a spelling, of as many levels of nesting as the command, where it has fewer than 2^31 bytes.
+pub fn sealing_is_spelled()
+    ensures spelled { (keys : Lookup) (rows : List Row) (c d : Items) → IsDoc c → IsSealedCommand keys rows c d
+        → length (doc_bytes d) < 2 ^ 31 → IsDoc d }
 {}

@@ -1,8 +1,8 @@
 //! Documents with protected values sealed and opened (MongoDB Client Side Encryption): from a document and the marks
 //! of its values to the document with a payload in the place of each, by a splice of its bytes; and back.
 //!
-//! [`plan_seal`] looks at the marks and tells how long the sealed document is; [`seal_through`] writes it, and draws a
-//! random block for each value of the random algorithm.
+//! [`plan_seal`] looks at the marks and tells how long the sealed document is, and [`plan_clear`] does where nothing is
+//! sealed; [`seal_through`] writes it, and draws a random block for each value of the random algorithm.
 //!
 //! ```text
 //! let plan = plan_seal(alloc, &document, &marks, &rows)?;
@@ -38,11 +38,13 @@ pub use finding::{FindFault, find_payloads};
 pub use found::{Found, FoundAt};
 pub use key_table::{KeyEntry, KeyTable};
 pub use opening::open_through;
-pub use planning::{Plan, PlanFault, plan_seal};
+pub use planning::{Plan, PlanFault, plan_clear, plan_seal, sites_of};
 pub use sealing::seal_through;
 pub use site::Site;
 pub use unsealing::Spot;
 
+#[cfg(test)]
+mod deep_samples;
 #[cfg(test)]
 mod keyed;
 #[cfg(test)]

@@ -1,10 +1,13 @@
 //! Documents with payloads that were made outside this repository: what they open to, and what is refused.
 
+use crate::deep_samples::{DEEP, DEEP_OPENED, TOO_DEEP};
 use crate::keyed::has_keys;
 use crate::payload_samples::{
     HELD, HOLDING, OTHER_VECTOR, OTHER_VECTOR_OPENED, TAG_AND_SHAPE, WRONG_PADDING, WRONG_PLAIN,
 };
-use crate::samples::{EQUAL_NAMES, ONE_INT, ONE_STRING, Sample, TWO_DOCUMENTS};
+use crate::samples::{
+    DOTTED, EQUAL_NAMES, FROM_A_DRIVER, IN_LIST, NESTED, ONE_INT, ONE_STRING, Sample, TWO_DOCUMENTS,
+};
 use crate::{FindFault, KeyTable, Spot, find_payloads, open_through};
 use bson_codec::{RawDoc, check_bson};
 use crypto_hooks::Tables;
@@ -91,6 +94,24 @@ fn sealed_commands_open_to_the_commands(rt: HostRuntime) -> Result<(), Fail> {
     assert!(rt; opens_again(rt.alloc(), &ONE_INT)?);
     assert!(rt; opens_again(rt.alloc(), &TWO_DOCUMENTS)?);
     assert!(rt; opens_again(rt.alloc(), &EQUAL_NAMES)?);
+    Ok(())
+}
+
+#[test]
+fn filters_updates_and_an_insert_from_a_driver_open_again(rt: HostRuntime) -> Result<(), Fail> {
+    assert!(rt; opens_again(rt.alloc(), &IN_LIST)?);
+    assert!(rt; opens_again(rt.alloc(), &DOTTED)?);
+    assert!(rt; opens_again(rt.alloc(), &NESTED)?);
+    assert!(rt; opens_again(rt.alloc(), &FROM_A_DRIVER)?);
+    Ok(())
+}
+
+#[test]
+fn at_level_47_a_value_of_53_levels_opens_and_one_of_54_is_refused(
+    rt: HostRuntime,
+) -> Result<(), Fail> {
+    assert!(rt; opens_to(rt.alloc(), DEEP, DEEP_OPENED)?);
+    assert!(rt; is_refused(rt.alloc(), TOO_DEEP, Reason::Plain, 282)?);
     Ok(())
 }
 

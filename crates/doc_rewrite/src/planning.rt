@@ -1,6 +1,7 @@
 //! What is known of a document before its values are sealed: which they are, and how long it gets.
 
-ghost use Rattle.std.specs.Prelude.{◌≡◌, ◌+◌, ◌*◌, ◌<◌, ◌≤◌, ◌^◌, ◌∷◌, [], drop, length, Err, IfOk, MatchOption};
+ghost use Rattle.std.specs.Prelude.{◌≡◌, ◌+◌, ◌*◌, ◌<◌, ◌≤◌, ◌^◌, ◌∷◌, [], drop, length, Err, IfErr, IfOk, MatchOption};
+ghost use Rattle.bson_tree.specs.Spelling.{doc_bytes};
 ghost use Rattle.payload6.specs.Marking.{key_id};
 ghost use Rattle.doc_rewrite.specs.Plans.{AreLong, AreMarksOf, AreRuled, IsTooLong, StandsFor};
 ghost use Rattle.doc_rewrite.specs.Sites.{grown, site_of as site_by, sites_of as sites_by};
@@ -27,19 +28,20 @@ pub enum PlanFault {
 /// The values of a document that are to be sealed, and how many bytes the sealed document has.
 #[derive(Drop)]
 pub struct Plan {
-    sites: Vec<Site>,
+    /// None where no value is sealed: such a plan takes no memory.
+    sites: Option<Vec<Site>>,
     size: u32,
 }
 
 impl Model for Plan {
-    ghost use Rattle.std.specs.Prelude.{◌≤◌};
+    ghost use Rattle.std.specs.Prelude.{◌≤◌, [], option_map, unwrap_or};
     ghost use Rattle.doc_rewrite.specs.Plans.{AreLong, Planned, longest_sealed};
 
     ghost Value = { Planned };
 
-    ghost view = { λ p. record { sites = p.sites.items; size = p.size } };
+    ghost view = { λ p. record { sites = unwrap_or (option_map (λ v. v.items) p.sites) []; size = p.size } };
 
-    ghost invariant = { λ p. AreLong p.sites.items × (p.size ≤ longest_sealed) };
+    ghost invariant = { λ p. AreLong (unwrap_or (option_map (λ v. v.items) p.sites) []) × (p.size ≤ longest_sealed) };
 }
 
 impl Plan {
@@ -57,7 +59,10 @@ impl Plan {
         ensures long { AreLong self.now.sites }
         ensures small { self.now.size ≤ 48000000 }
     {
-        &self.sites
+        match &self.sites {
+            Some(sites) => sites,
+            None => &[],
+        }
     }
 }
 
@@ -71,9 +76,14 @@ pub fn plan_seal(
 ) -> Result<Plan, PlanFault>
     requires stands { AreMarksOf rows.now marks.now document.now }
     ensures sites { IfOk result (λ plan. plan.sites ≡ sites_by rows.now marks.now) }
+    ensures long { IfOk result (λ plan. AreLong plan.sites) }
     ensures stands { IfOk result (λ plan. StandsFor plan document.now) }
+    ensures size { IfOk result (λ plan. plan.size
+        ≡ length (doc_bytes document.now.tree) + grown (sites_by rows.now marks.now)) }
     ensures most { IfOk result (λ plan. plan.size ≤ 48000000) }
-    ensures too_long { result ≡ Err PlanFault.TooLong → IsTooLong (sites_by rows.now marks.now) document.now }
+    ensures too_long { result ≡ Err PlanFault.TooLong
+        → 48000000 < length (doc_bytes document.now.tree) + grown (sites_by rows.now marks.now) }
+    ensures above { result ≡ Err PlanFault.TooLong → IsTooLong (sites_by rows.now marks.now) document.now }
 {
     let Ok(sites) = sites_of(alloc, marks, rows) else {
         return Err(PlanFault::Memory);
@@ -83,13 +93,33 @@ pub fn plan_seal(
         return Err(PlanFault::TooLong);
     }
     Ok(Plan {
-        sites,
+        sites: Some(sites),
+        size: size as u32,
+    })
+}
+
+/// The plan of a document of which no value is sealed. `TooLong` exactly where the document has more than 48,000,000
+/// bytes; `Memory` never comes. It takes no memory.
+pub fn plan_clear(document: &RawDoc<'_>) -> Result<Plan, PlanFault>
+    ensures sites { IfOk result (λ plan. plan.sites ≡ []) }
+    ensures stands { IfOk result (λ plan. StandsFor plan document.now) }
+    ensures size { IfOk result (λ plan. plan.size ≡ length (doc_bytes document.now.tree)) }
+    ensures most { IfOk result (λ plan. plan.size ≤ 48000000) }
+    ensures too_long { IfErr result (λ fault. (fault ≡ PlanFault.TooLong)
+        × (48000000 < length (doc_bytes document.now.tree))) }
+{
+    let size = document.bytes().len();
+    if size > LONGEST as usize {
+        return Err(PlanFault::TooLong);
+    }
+    Ok(Plan {
+        sites: None,
         size: size as u32,
     })
 }
 
 /// The sites of marks, in their order.
-pub(crate) fn sites_of(alloc: Global, marks: &Marks, rows: &Rows) -> Result<Vec<Site>, Memory>
+pub fn sites_of(alloc: Global, marks: &Marks, rows: &Rows) -> Result<Vec<Site>, Memory>
     requires ruled { AreRuled (length rows.now) marks.now }
     ensures sites { IfOk result (λ v. v.items ≡ sites_by rows.now marks.now) }
     ensures long { IfOk result (λ v. AreLong v.items) }

@@ -5,7 +5,7 @@ use crate::samples::{
     DOTTED, EQUAL_NAMES, FROM_A_DRIVER, IN_LIST, NESTED, ONE_INT, ONE_STRING, Sample, TWO_DOCUMENTS,
 };
 use crate::standing::{keys_there, stand};
-use crate::{KeyTable, plan_seal, seal_through};
+use crate::{KeyTable, plan_clear, plan_seal, seal_through};
 use bson_codec::{RawDoc, check_bson};
 use crypto_hooks::Tables;
 use encrypt_schema::{Infos, Marks, Rows};
@@ -78,6 +78,22 @@ fn is_sealed(alloc: Global, sample: &Sample) -> Result<bool, Fail> {
     Ok(out == Some(whole))
 }
 
+/// What a document becomes of which nothing is sealed.
+fn copied(alloc: Global, bytes: &[u8]) -> Result<Vec<u8>, Fail> {
+    if bytes.len() > 1000 {
+        return Err("too long".into());
+    }
+    let document = check_bson(bytes)?;
+    let plan = plan_clear(&document).map_err(|_| "no plan")?;
+    let keys = KeyTable::new(alloc);
+    let mut entropy = MemEntropy::new(Vec::new(alloc), Vec::new(alloc));
+    let mut out = vec![in alloc; 0; plan.output_len()]?;
+    match seal_through(&plan, &document, &keys, &Tables, &mut entropy, &mut out) {
+        Ok(()) => Ok(out),
+        Err(_) => Err("a block was drawn".into()),
+    }
+}
+
 #[test]
 fn commands_are_sealed_as_elsewhere(rt: HostRuntime) -> Result<(), Fail> {
     let alloc = rt.alloc();
@@ -97,5 +113,13 @@ fn two_random_values_need_two_blocks(rt: HostRuntime) -> Result<(), Fail> {
     let alloc = rt.alloc();
     assert!(rt; sealed(alloc, &TWO_DOCUMENTS, &[[1; 16]])?.is_none());
     assert!(rt; sealed(alloc, &TWO_DOCUMENTS, &[[1; 16], [2; 16]])?.is_some());
+    Ok(())
+}
+
+#[test]
+fn a_document_of_which_nothing_is_sealed_is_copied(rt: HostRuntime) -> Result<(), Fail> {
+    let alloc = rt.alloc();
+    let whole = joined(alloc, FROM_A_DRIVER.command)?;
+    assert!(rt; copied(alloc, &whole)? == whole);
     Ok(())
 }

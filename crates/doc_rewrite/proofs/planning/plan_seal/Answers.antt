@@ -7,8 +7,8 @@ use Rattle.doc_rewrite.specs.Sites.{grown, sites_of, spans_of}
 use Rattle.doc_rewrite.proofs.Growth.{sealed_long}
 use Rattle.doc_rewrite.proofs.planning.plan_seal.Goals as goal
 
-pub returns-then-size-clause-too_long : goal.returns-then-size-clause-too_long
-returns-then-size-clause-too_long c = λ _.
+pub returns-then-size-clause-above : goal.returns-then-size-clause-above
+returns-then-size-clause-above c = λ _.
     let ss = sites_of c.args.rows.now c.args.marks.now in
     let size : length c.bytes.result.now + c.grown.result ≡ length (doc_bytes c.args.document.now.tree) + grown ss =
     omega (
