@@ -1,2 +1,13 @@
-mod Kept
+pub mod Kept
 mod Frames
+pub mod Waits
+mod Tables
+mod Decrypting
+pub mod Readies
+pub mod Infos
+mod Blanked
+mod EqualNeeds
+mod FoundKeys
+mod EqualOutputs
+pub mod Keyed
+pub mod Alike

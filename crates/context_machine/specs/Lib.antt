@@ -1,3 +1,12 @@
 pub mod Needs
 pub mod Kept
 pub mod Asks
+pub mod Rings
+pub mod States
+pub mod Tables
+pub mod SealingCodes
+pub mod Beginning
+pub mod Waiting
+pub mod Decrypting
+pub mod Ready
+pub mod Blanked

@@ -26,6 +26,11 @@ const ONE_KEY: [u8; 103] = [
     0x00, 0x00, 0x00, 0x00, 0x00, 0x00, 0x00,
 ];
 
+/// Whether these bytes are that filter.
+pub(crate) fn is_filter_of_one(bytes: &[u8]) -> bool {
+    bytes == ONE_KEY.as_slice()
+}
+
 #[test]
 fn the_filter_of_a_collection(rt: HostRuntime) {
     let filter = collection_filter(rt.alloc(), b"people");

@@ -1,0 +1,210 @@
+//! Opening a document, while its keys are asked for (libmongocrypt's state NEED_MONGO_KEYS).
+
+ghost use Rattle.std.specs.Prelude.{◌≡◌, ◌+◌, ◌∷◌, [], drop, length, map, option_map, slice_get, IfErr, IfOk};
+ghost use Rattle.std.specs.Prelude.{MatchOption, None};
+ghost use Rattle.bson_tree.specs.Spelling.{doc_bytes};
+ghost use Rattle.doc_rewrite.specs.Founds.{payloads_of};
+ghost use Rattle.doc_rewrite.specs.Opened.{first_wrong, misshapen};
+ghost use Rattle.context_machine.specs.Asks.{key_filter};
+ghost use Rattle.context_machine.specs.Decrypting.{IsMisshapen, need_found};
+ghost use Rattle.context_machine.specs.Kept.{fed};
+ghost use Rattle.context_machine.specs.Needs.{first_needs, ids_of};
+ghost use Rattle.context_machine.specs.Rings.{AreOpened, needs_in, ring};
+ghost use Rattle.context_machine.specs.Tables.{KeysFail};
+
+use crate::decrypt_ready::DecryptReady;
+use crate::keys_asked::key_filter;
+use crate::need::Need;
+use crate::opened_keys::{KeysStop, open_keys, open_keys_cached};
+use crate::wanted::Wanted;
+use bson_codec::RawDoc;
+use crypto_hooks::Block256;
+use data_key::KeyDoc;
+use doc_rewrite::{FindFault, Found, FoundAt, find_payloads};
+use encrypt_schema::{MarkFault, Reason};
+use fle_outside::Memory;
+use key_vault::KeyCache;
+use local_kms::MasterKey;
+use std::alloc::Global;
+use std::marker::Model;
+
+/// A document whose payloads need keys, and the keys kept so far.
+#[derive(Drop)]
+pub struct DecryptNeedKeys<'a> {
+    pub(crate) document: RawDoc<'a>,
+    pub(crate) found: Found,
+    wanted: Wanted<'a>,
+}
+
+impl<'a> Model for DecryptNeedKeys<'a> {
+    ghost use Rattle.std.specs.Prelude.{◌≡◌};
+    ghost use Rattle.doc_rewrite.specs.Finding.{IsFoundIn};
+    ghost use Rattle.context_machine.specs.Needs.{first_needs};
+    ghost use Rattle.context_machine.specs.Rings.{needs_in};
+    ghost use Rattle.std.specs.Coded.{codes};
+    ghost use Rattle.bson_tree.specs.Code.{coded_items};
+    ghost use Rattle.context_machine.specs.States.{Opens};
+
+    ghost Value = { Opens };
+
+    ghost coded = { Prim.hlevel (codes, coded_items) };
+
+    ghost view = { λ s. record { document = s.document; kept = s.wanted.kept } };
+
+    ghost invariant = { λ s. IsFoundIn s.document s.found × (s.wanted.needs ≡ first_needs (needs_in s.document)) };
+}
+
+impl<'a> DecryptNeedKeys<'a> {
+    /// Begins to open a document. `Refused` exactly where one of its payloads has a length that none has, at the first
+    /// of them. No key is asked for yet.
+    pub fn begin(alloc: Global, document: RawDoc<'a>) -> Result<DecryptNeedKeys<'a>, MarkFault>
+        ensures begun { IfOk result (λ k. k ≡ record { document = document.entry; kept = [] }) }
+        ensures shaped { IfOk result (λ _. first_wrong misshapen (payloads_of document.entry) ≡ None) }
+        ensures refused { IfErr result (IsMisshapen document.entry) }
+    {
+        match find_payloads(alloc, &document) {
+            Ok(found) => match wanted_of(alloc, &found) {
+                Ok(wanted) => Ok(DecryptNeedKeys {
+                    document,
+                    found,
+                    wanted,
+                }),
+                Err(_) => Err(MarkFault::Memory),
+            },
+            Err(FindFault::Shape { at }) => Err(MarkFault::Refused {
+                reason: Reason::PayloadShape,
+                at,
+            }),
+            Err(FindFault::Memory) => Err(MarkFault::Memory),
+        }
+    }
+
+    /// The filter by which the caller asks its key vault for the keys that are needed. `Memory` where there is none for
+    /// it.
+    pub fn op(&self, alloc: Global) -> Result<Vec<u8>, Memory>
+        ensures filter { IfOk result (λ out. out.items
+            ≡ doc_bytes (key_filter (ids_of (first_needs (needs_in self.now.document))))) }
+    {
+        key_filter(alloc, self.wanted.needs())
+    }
+
+    /// The id of key `i` of those that are needed, in the order in which the document needs them first, counted from 0;
+    /// `None` past the last.
+    pub fn needed(&self, i: usize) -> Option<[u8; 16]>
+        ensures id { result ≡ option_map (λ n. n.id) (slice_get (first_needs (needs_in self.now.document)) i) }
+    {
+        self.wanted.needed(i)
+    }
+
+    /// Keeps a key where its id is needed and no key of this id is kept. It takes no memory.
+    pub fn feed(&mut self, key: &'a KeyDoc)
+        ensures fed { self.new ≡ record {
+          document = self.old.document;
+          kept = fed (first_needs (needs_in self.old.document)) self.old.kept key.entry.now;
+        } }
+    {
+        self.wanted.feed(key)
+    }
+
+    /// Ends the asking: the keys kept are opened under a master key, and there is room for the opened document.
+    ///
+    /// `Refused` exactly where the key of a payload isn't to be had, with the first such payload. It is never
+    /// `TooLong`. This state comes back then, as it was.
+    pub fn done<B: Block256>(
+        self,
+        alloc: Global,
+        master: &MasterKey,
+        hooks: &B,
+    ) -> Result<DecryptReady<'a>, (DecryptNeedKeys<'a>, KeysStop)>
+        requires hooks { B.answers hooks.now }
+        ensures ready { IfOk result (λ r. r
+            ≡ record { document = self.entry.document; kept = self.entry.kept; table = r.table }) }
+        ensures opened { IfOk result (λ r.
+            AreOpened (ring self.entry.kept master.now) (needs_in self.entry.document) r.table) }
+        ensures back { IfErr result (λ e. e.0 ≡ self.entry) }
+        ensures refused { IfErr result (λ e.
+            KeysFail (ring self.entry.kept master.now) (needs_in self.entry.document) e.1) }
+    {
+        let Ok(out) = self.room(alloc) else {
+            return Err((self, KeysStop::Memory));
+        };
+        match open_keys(alloc, &self.wanted, master, hooks) {
+            Ok(table) => Ok(DecryptReady::new(self, table, out)),
+            Err(stop) => Err((self, stop)),
+        }
+    }
+
+    /// The same under the master key of a cache, which may have some of the keys opened already.
+    pub fn done_cached<B: Block256>(
+        self,
+        alloc: Global,
+        cache: &mut KeyCache,
+        hooks: &B,
+    ) -> Result<DecryptReady<'a>, (DecryptNeedKeys<'a>, KeysStop)>
+        requires hooks { B.answers hooks.now }
+        ensures master { cache.new.master ≡ cache.old.master }
+        ensures ready { IfOk result (λ r. r
+            ≡ record { document = self.entry.document; kept = self.entry.kept; table = r.table }) }
+        ensures opened { IfOk result (λ r.
+            AreOpened (ring self.entry.kept cache.old.master) (needs_in self.entry.document) r.table) }
+        ensures back { IfErr result (λ e. e.0 ≡ self.entry) }
+        ensures refused { IfErr result (λ e.
+            KeysFail (ring self.entry.kept cache.old.master) (needs_in self.entry.document) e.1) }
+    {
+        let Ok(out) = self.room(alloc) else {
+            return Err((self, KeysStop::Memory));
+        };
+        match open_keys_cached(alloc, &self.wanted, cache, hooks) {
+            Ok(table) => Ok(DecryptReady::new(self, table, out)),
+            Err(stop) => Err((self, stop)),
+        }
+    }
+
+    /// Room for the opened document, which is no longer than this one.
+    fn room(&self, alloc: Global) -> Result<Vec<u8>, Memory>
+        ensures long { IfOk result (λ out. length out.items ≡ length (doc_bytes self.now.document.tree)) }
+    {
+        match vec![in alloc; 0; self.document.bytes().len()] {
+            Ok(out) => Ok(out),
+            Err(_) => Err(Memory),
+        }
+    }
+}
+
+/// The keys that payloads need, none of them kept yet.
+fn wanted_of<'a>(alloc: Global, found: &Found) -> Result<Wanted<'a>, Memory>
+    ensures wanted { IfOk result (λ w. w ≡ record { needs = first_needs (map need_found found.now); kept = [] }) }
+{
+    match uses_of(alloc, found) {
+        Ok(uses) => Wanted::new(alloc, &uses),
+        Err(Memory) => Err(Memory),
+    }
+}
+
+/// The needs of payloads, in their order.
+fn uses_of(alloc: Global, found: &Found) -> Result<Vec<Need>, Memory>
+    ensures uses { IfOk result (λ v. v.items ≡ map need_found found.now) }
+{
+    let mut uses = Vec::new(alloc);
+    for i in 0..found.len() {
+        match payload_at(found, i) {
+            Some(payload) => {
+                let id = payload.key_id;
+                let at = payload.start;
+                if uses.push(Need { id, at }).is_err() {
+                    return Err(Memory);
+                }
+            }
+            None => unreachable!(),
+        }
+    }
+    Ok(uses)
+}
+
+/// The payload of this number, counted from 0.
+fn payload_at(found: &Found, i: usize) -> Option<FoundAt>
+    ensures first { MatchOption result (drop i found.now ≡ [])
+        (λ f. drop i found.now ≡ f ∷ drop (i + 1) found.now) }
+{
+    found.get(i)
+}

@@ -1,0 +1,203 @@
+//! A command that waits for keys (libmongocrypt's state NEED_MONGO_KEYS).
+
+ghost use Rattle.std.specs.Prelude.{◌≡◌, ◌<◌, ◌≤◌, ℕ, option_copied, option_map, slice_get, Err, IfErr, IfOk};
+ghost use Rattle.bson_tree.specs.Spelling.{doc_bytes};
+ghost use Rattle.context_machine.specs.Asks.{key_filter};
+ghost use Rattle.context_machine.specs.Needs.{ids_of};
+ghost use Rattle.context_machine.specs.Ready.{IsPlanOf, IsTooLong, StopsWaiting, readied, sealed_size, values_of};
+ghost use Rattle.context_machine.specs.Rings.{AreOpened, needs_of, ring};
+ghost use Rattle.context_machine.specs.Waiting.{IsMarked, IsWaiting, fed_key, wanted_of};
+ghost use Rattle.doc_rewrite.specs.Keys.{key_in};
+ghost use Rattle.doc_rewrite.specs.Sealing.{HasKeys};
+ghost use Rattle.encrypt_schema.specs.Commands.Targets.{rows_in};
+
+use crate::keys_asked;
+use crate::opened_keys::{KeysStop, open_keys, open_keys_cached};
+use crate::ready::Ready;
+use crate::wanted::Wanted;
+use bson_codec::RawDoc;
+use command_marker::Marked;
+use crypto_hooks::Block256;
+use data_key::KeyDoc;
+use doc_rewrite::{KeyTable, Plan, PlanFault, plan_clear, plan_seal};
+use encrypt_schema::Info;
+use fle_outside::Memory;
+use key_vault::KeyCache;
+use local_kms::MasterKey;
+use std::alloc::Global;
+use std::marker::Model;
+
+/// A command with the marks of its protected values, of which nothing is refused, and the keys that are kept.
+#[derive(Drop)]
+pub struct NeedKeys<'a> {
+    command: RawDoc<'a>,
+    info: Option<&'a Info>,
+    /// None where the collection has no info: nothing of the command is protected.
+    marked: Option<Marked<'a>>,
+    wanted: Wanted<'a>,
+}
+
+impl<'a> Model for NeedKeys<'a> {
+    ghost use Rattle.std.specs.Prelude.{option_copied};
+    ghost use Rattle.context_machine.specs.SealingCodes.{coded_waits};
+    ghost use Rattle.context_machine.specs.States.{Waits};
+    ghost use Rattle.context_machine.specs.Waiting.{IsWaiting};
+
+    ghost Value = { Waits };
+
+    ghost coded = { coded_waits };
+
+    ghost view = { λ s. record { command = s.command; info = option_copied s.info; kept = s.wanted.kept } };
+
+    ghost invariant = { λ s. IsWaiting (option_copied s.info) s.command s.marked s.wanted };
+}
+
+impl<'a> NeedKeys<'a> {
+    /// A command that is marked under the rules of its info, and the keys that its values need.
+    pub(crate) fn new(
+        command: RawDoc<'a>,
+        info: Option<&'a Info>,
+        marked: Option<Marked<'a>>,
+        wanted: Wanted<'a>,
+    ) -> NeedKeys<'a>
+        requires waiting { IsWaiting (option_copied info) command marked wanted }
+        ensures waits { result ≡ record {
+          command = command.entry;
+          info = option_copied info.entry;
+          kept = wanted.entry.kept;
+        } }
+    {
+        NeedKeys {
+            command,
+            info,
+            marked,
+            wanted,
+        }
+    }
+
+    /// The filter `{$or: [{_id: {$in: [ids]}}, {keyAltNames: {$in: []}}]}` by which a caller asks for the keys.
+    /// `Memory` where there is none for it.
+    pub fn op(&self, alloc: Global) -> Result<Vec<u8>, Memory>
+        ensures filter { IfOk result (λ out. out.items
+            ≡ doc_bytes (key_filter (ids_of (wanted_of self.now.info self.now.command)))) }
+    {
+        keys_asked::key_filter(alloc, self.wanted.needs())
+    }
+
+    /// The id of key `i` of those that the command needs, counted from 0, in order of first use; `None` past the last.
+    pub fn needed(&self, i: usize) -> Option<[u8; 16]>
+        ensures id { result ≡ option_map (λ n. n.id) (slice_get (wanted_of self.now.info self.now.command) i) }
+    {
+        self.wanted.needed(i)
+    }
+
+    /// Keeps a key where the command needs it and no key of its id is kept. It takes no memory.
+    pub fn feed(&mut self, key: &'a KeyDoc)
+        ensures fed { self.new ≡ fed_key self.old key.entry.now }
+    {
+        self.wanted.feed(key)
+    }
+
+    /// Gets the command ready: the data key of each value is opened under the master key, the sealed command's length
+    /// is computed, and the memory for it taken. Refused is the first value whose key isn't to be had; else `TooLong`
+    /// comes exactly where the sealed command would have more than 48,000,000 bytes. After a fault the state is given
+    /// back as it was: more keys may be handed in. `Memory` may come at any time.
+    pub fn done<B: Block256>(
+        self,
+        alloc: Global,
+        master: &MasterKey,
+        hooks: &B,
+    ) -> Result<Ready<'a>, (NeedKeys<'a>, KeysStop)>
+        requires hooks { B.answers hooks.now }
+        ensures ready { IfOk result (λ r. r ≡ readied self.entry r.table) }
+        ensures opened { IfOk result (λ r. AreOpened (ring self.entry.kept master.now)
+            (needs_of (rows_in self.entry.info) self.entry.command) r.table) }
+        ensures fits { IfOk result (λ _. sealed_size self.entry.info self.entry.command ≤ 48000000) }
+        ensures back { IfErr result (λ e. e.0 ≡ self.entry) }
+        ensures stop { IfErr result (λ e. StopsWaiting (ring self.entry.kept master.now) self.entry e.1) }
+    {
+        match open_keys(alloc, &self.wanted, master, hooks) {
+            Ok(table) => self.with_keys(alloc, table),
+            Err(stop) => Err((self, stop)),
+        }
+    }
+
+    /// The same under the master key of a cache, where keys that were opened before are found.
+    pub fn done_cached<B: Block256>(
+        self,
+        alloc: Global,
+        cache: &mut KeyCache,
+        hooks: &B,
+    ) -> Result<Ready<'a>, (NeedKeys<'a>, KeysStop)>
+        requires hooks { B.answers hooks.now }
+        ensures master { cache.new.master ≡ cache.old.master }
+        ensures ready { IfOk result (λ r. r ≡ readied self.entry r.table) }
+        ensures opened { IfOk result (λ r. AreOpened (ring self.entry.kept cache.old.master)
+            (needs_of (rows_in self.entry.info) self.entry.command) r.table) }
+        ensures fits { IfOk result (λ _. sealed_size self.entry.info self.entry.command ≤ 48000000) }
+        ensures back { IfErr result (λ e. e.0 ≡ self.entry) }
+        ensures stop { IfErr result (λ e. StopsWaiting (ring self.entry.kept cache.old.master) self.entry e.1) }
+    {
+        match open_keys_cached(alloc, &self.wanted, cache, hooks) {
+            Ok(table) => self.with_keys(alloc, table),
+            Err(stop) => Err((self, stop)),
+        }
+    }
+
+    /// The command with the data key of each value; or it would be too long.
+    fn with_keys(
+        self,
+        alloc: Global,
+        table: KeyTable,
+    ) -> Result<Ready<'a>, (NeedKeys<'a>, KeysStop)>
+        requires keyed { HasKeys (key_in table) (values_of self.info self.command) }
+        ensures ready { IfOk result (λ r. r ≡ readied self.entry table) }
+        ensures fits { IfOk result (λ _. sealed_size self.entry.info self.entry.command ≤ 48000000) }
+        ensures back { IfErr result (λ e. e.0 ≡ self.entry) }
+        ensures stop { IfErr result (λ e. IsTooLong (sealed_size self.entry.info self.entry.command) e.1) }
+    {
+        match plan_of(alloc, self.info, &self.command, &self.marked) {
+            Ok(plan) => match vec![in alloc; 0; plan.output_len()] {
+                Ok(out) => {
+                    let ready = Ready::new(self.command, self.info, self.wanted, plan, table, out);
+                    Ok(ready)
+                }
+                Err(_) => Err((self, KeysStop::Memory)),
+            },
+            Err(fault) => Err((self, stop_of(fault))),
+        }
+    }
+}
+
+/// The plan of a command, by its marks; of one without marks nothing is sealed.
+fn plan_of(
+    alloc: Global,
+    info: Option<&Info>,
+    command: &RawDoc<'_>,
+    marked: &Option<Marked<'_>>,
+) -> Result<Plan, PlanFault>
+    requires marked { IsMarked (option_copied info) command.now marked.now }
+    ensures plan { IfOk result (λ plan. IsPlanOf (option_copied info.entry) command.now plan) }
+    ensures too_long { result ≡ Err PlanFault.TooLong → 48000000 < sealed_size (option_copied info.entry) command.now }
+{
+    match marked {
+        Some(marked) => match plan_seal(alloc, command, marked.marks(), marked.rows()) {
+            Ok(plan) => Ok(plan),
+            Err(fault) => Err(fault),
+        },
+        None => match plan_clear(command) {
+            Ok(plan) => Ok(plan),
+            Err(fault) => Err(fault),
+        },
+    }
+}
+
+/// Why a command that has its keys isn't ready.
+fn stop_of(fault: PlanFault) -> KeysStop
+    ensures stop { (size : ℕ) → (fault ≡ PlanFault.TooLong → 48000000 < size) → IsTooLong size result }
+{
+    match fault {
+        PlanFault::TooLong => KeysStop::TooLong,
+        PlanFault::Memory => KeysStop::Memory,
+    }
+}

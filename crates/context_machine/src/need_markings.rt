@@ -1,0 +1,135 @@
+//! A command that waits for its marks (libmongocrypt's state NEED_MONGO_MARKINGS).
+
+ghost use Rattle.std.specs.Prelude.{◌≡◌, [], false, true, None, Some, option_copied, IfErr, IfOk};
+ghost use Rattle.bson_tree.specs.Spelling.{doc_bytes};
+ghost use Rattle.command_marker.specs.Commands.{is_marked_command};
+ghost use Rattle.context_machine.specs.Needs.{first_needs};
+ghost use Rattle.context_machine.specs.Rings.{needs_of};
+ghost use Rattle.context_machine.specs.Waiting.{IsRefusal};
+ghost use Rattle.encrypt_schema.specs.Commands.Offences.{is_view};
+ghost use Rattle.encrypt_schema.specs.Commands.Targets.{rows_in};
+ghost use Rattle.encrypt_schema.specs.Commands.Visits.{content_verdict};
+
+use crate::command_needs::needs_of;
+use crate::need_keys::NeedKeys;
+use crate::wanted::Wanted;
+use bson_codec::RawDoc;
+use command_marker::{Marked, mark_command};
+use encrypt_schema::{Info, MarkFault};
+use fle_outside::Memory;
+use std::alloc::Global;
+use std::marker::Model;
+
+/// An insert, an update, a delete or a find, and the info of its collection, if there is one. It is no view.
+#[derive(Drop)]
+pub struct NeedMarkings<'a> {
+    command: RawDoc<'a>,
+    info: Option<&'a Info>,
+}
+
+impl<'a> Model for NeedMarkings<'a> {
+    ghost use Rattle.std.specs.Prelude.{◌≡◌, false, option_copied, true};
+    ghost use Rattle.command_marker.specs.Commands.{is_marked_command};
+    ghost use Rattle.context_machine.specs.States.{Asks};
+    ghost use Rattle.encrypt_schema.specs.Commands.Offences.{is_view};
+    ghost use Rattle.context_machine.specs.SealingCodes.{coded_asks};
+
+    ghost Value = { Asks };
+
+    ghost coded = { coded_asks };
+
+    ghost view = { λ s. record { command = s.command; info = option_copied s.info } };
+
+    ghost invariant = { λ s. (is_marked_command s.command.tree ≡ true) × (is_view (option_copied s.info) ≡ false) };
+}
+
+impl<'a> NeedMarkings<'a> {
+    /// A command of a collection that is no view.
+    pub(crate) fn new(command: RawDoc<'a>, info: Option<&'a Info>) -> NeedMarkings<'a>
+        requires marked { is_marked_command command.tree ≡ true }
+        requires real { is_view (option_copied info) ≡ false }
+        ensures asks { result ≡ record { command = command.entry; info = option_copied info.entry } }
+    {
+        NeedMarkings { command, info }
+    }
+
+    /// What is to be marked: the bytes of the command.
+    pub fn op(&self) -> &'a [u8]
+        ensures command { result.now ≡ doc_bytes self.now.command.tree }
+    {
+        self.command.bytes()
+    }
+    /// Marks the command's protected values under the rules of its collection, as `command_marker::mark_command` does,
+    /// and asks for their keys; else the first place that is refused by its contents. Without an info nothing is
+    /// marked and nothing refused. After a fault the state is given back as it was; `Memory` may come at any time.
+    pub fn mark_here(self, alloc: Global) -> Result<NeedKeys<'a>, (NeedMarkings<'a>, MarkFault)>
+        ensures waits { IfOk result (λ k.
+            k ≡ record { command = self.entry.command; info = self.entry.info; kept = [] }) }
+        ensures accepted { IfOk result (λ _. content_verdict (rows_in self.entry.info) self.entry.command.start
+            self.entry.command.tree ≡ None) }
+        ensures back { IfErr result (λ e. e.0 ≡ self.entry) }
+        ensures refused { IfErr result (λ e. IsRefusal (content_verdict (rows_in self.entry.info)
+            self.entry.command.start self.entry.command.tree) e.1) }
+    {
+        match wait(alloc, &self.command, self.info) {
+            Ok(waits) => Ok(waits),
+            Err(fault) => Err((self, fault)),
+        }
+    }
+}
+
+/// A command that waits for its keys, or why it is refused.
+fn wait<'a>(
+    alloc: Global,
+    command: &RawDoc<'a>,
+    info: Option<&'a Info>,
+) -> Result<NeedKeys<'a>, MarkFault>
+    requires marked { is_marked_command command.now.tree ≡ true }
+    requires real { is_view (option_copied info) ≡ false }
+    ensures waits { IfOk result (λ k.
+        k ≡ record { command = command.now; info = option_copied info.entry; kept = [] }) }
+    ensures accepted { IfOk result (λ _. content_verdict (rows_in (option_copied info.entry)) command.now.start
+        command.now.tree ≡ None) }
+    ensures refused { IfErr result (IsRefusal (content_verdict (rows_in (option_copied info.entry)) command.now.start
+        command.now.tree)) }
+{
+    match info {
+        Some(info) => wait_marked(alloc, command, info),
+        None => match Wanted::new(alloc, &[]) {
+            Ok(wanted) => Ok(NeedKeys::new(command.again(), None, None, wanted)),
+            Err(Memory) => Err(MarkFault::Memory),
+        },
+    }
+}
+
+/// The same for a command of a collection that has an info and is no view.
+fn wait_marked<'a>(
+    alloc: Global,
+    command: &RawDoc<'a>,
+    info: &'a Info,
+) -> Result<NeedKeys<'a>, MarkFault>
+    requires marked { is_marked_command command.now.tree ≡ true }
+    requires real { info.now.view ≡ false }
+    ensures waits { IfOk result (λ k. k ≡ record { command = command.now; info = Some info.entry.now; kept = [] }) }
+    ensures accepted { IfOk result (λ _. content_verdict (rows_in (Some info.entry.now)) command.now.start
+        command.now.tree ≡ None) }
+    ensures refused { IfErr result (IsRefusal (content_verdict (rows_in (Some info.entry.now)) command.now.start
+        command.now.tree)) }
+{
+    match mark_command(alloc, info.rows(), command.again()) {
+        Ok(marked) => match wanted_by(alloc, &marked) {
+            Ok(wanted) => Ok(NeedKeys::new(command.again(), Some(info), Some(marked), wanted)),
+            Err(Memory) => Err(MarkFault::Memory),
+        },
+        Err(fault) => Err(fault),
+    }
+}
+
+/// The keys that the values of a marked command need, none of them kept yet.
+fn wanted_by<'a>(alloc: Global, marked: &Marked<'_>) -> Result<Wanted<'a>, Memory>
+    ensures wanted { IfOk result (λ w.
+        w ≡ record { needs = first_needs (needs_of marked.now.rows marked.now.command); kept = [] }) }
+{
+    let needs = needs_of(alloc, marked)?;
+    Wanted::new(alloc, &needs)
+}
