@@ -5,6 +5,7 @@ pub mod Layouts
 pub mod Escapes
 pub mod Threes
 pub mod Walk
+pub mod OneWalk
 pub mod Scopes
 pub mod Tested
 pub mod Members

@@ -4,6 +4,7 @@ pub mod Quoted
 pub mod Parts
 pub mod Text
 pub mod BadText
+pub mod Showing
 pub mod Binaries
 pub mod JsonTrees
 pub mod Bounds

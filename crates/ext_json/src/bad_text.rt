@@ -89,7 +89,7 @@ fn bad_leaf(levels: u32, item: &RawItem<'_>) -> Option<u32>
 }
 
 #[cycle(bad)]
-fn is_bad(levels: u32, item: &RawItem<'_>) -> bool
+pub(crate) fn is_bad(levels: u32, item: &RawItem<'_>) -> bool
     ensures { result ≡ is_bad_leaf (λ start is. is_some (inside_bad levels start is)) item.now.start
         (form_of_type (tag_of item.now.tree)) (value_bytes item.now.tree) }
 {
@@ -122,7 +122,7 @@ fn is_bad_plain(item: &RawItem<'_>, value: &[u8]) -> bool
 }
 
 #[tactic(auto, using(crate::proofs::Layouts::string_long, crate::proofs::Layouts::pointer_long))]
-fn is_bad_form(form: Form, value: &[u8]) -> bool
+pub(crate) fn is_bad_form(form: Form, value: &[u8]) -> bool
     requires { IsRaw (IsItems (level_limit - 1)) (form_layout form) value.now }
     ensures { (B : ℕ → Items → Bool) (at : ℕ) → (form ≡ Form.Scope → ⊥)
         → result ≡ is_bad_raw B at form value.now }
@@ -144,14 +144,14 @@ fn is_bad_regex(form: Form, value: &[u8]) -> bool
     !is_text(pattern) || !is_text(options)
 }
 
-fn offset_of(item: &RawItem<'_>) -> u32
+pub(crate) fn offset_of(item: &RawItem<'_>) -> u32
     ensures { result ≡ item.now.start }
 {
     let _value = item.value();
     item.start() as u32
 }
 
-fn is_text(bytes: &[u8]) -> bool
+pub(crate) fn is_text(bytes: &[u8]) -> bool
     ensures { result ≡ is_utf8 bytes.now }
 {
     simdutf8::is_utf8(bytes)

@@ -66,7 +66,8 @@ fn binaries_stand_in_wrappers(rt: HostRuntime) -> Result<(), Fail> {
             b"\x0E\x00\x00\x00\x05a\x00\x01\x00\x00\x00\xFF\xFB\x00",
         ),
         (
-            br#"[{"a":{"$uuid":"00112233-4455-4677-8899-aabbccddeeff"},"b":{"$uuid":"{00112233-4455-4677-8899-AABBCCDDEEFF}"}}]"#,
+            b"[{\"a\":{\"$uuid\":\"00112233-4455-4677-8899-aabbccddeeff\"},\
+              \"b\":{\"$uuid\":\"{00112233-4455-4677-8899-AABBCCDDEEFF}\"}}]",
             b"5\x00\x00\x00\x05a\x00\x10\x00\x00\x00\x04\x00\x11\"3DUFw\x88\x99\xAA\xBB\xCC\xDD\xEE\
              \xFF\x05b\x00\x10\x00\x00\x00\x04\x00\x11\"3DUFw\x88\x99\xAA\xBB\xCC\xDD\xEE\xFF\x00",
         ),

@@ -1,13 +1,14 @@
 //! Documents as text, after MongoDB Extended JSON v2 in its canonical form (RFC 8259), and collection infos from JSON.
 //!
-//! `write_text` writes a checked document into a sink, and `first_bad_text` says where one has a name or a text that
-//! isn't UTF-8; neither takes memory. `infos_from_json` makes the BSON of collection infos from the text of an array
-//! of documents, or tells the first fault.
+//! `write_text` writes a checked document into a sink, `first_bad_text` says where one has a name or a text that isn't
+//! UTF-8, and `show_text` does both in one walk; none takes memory. `infos_from_json` makes the BSON of collection
+//! infos from the text of an array of documents, or tells the first fault.
 //!
 //! ```text
-//! match first_bad_text(&document) {
-//!     None => write_text(&document, &mut out)?,
-//!     Some(at) => .. the value at this offset ..
+//! match show_text(&document, &mut out) {
+//!     Shown::Written => ..
+//!     Shown::Bad(at) => .. the value at this offset ..
+//!     Shown::Failed => ..
 //! }
 //! let infos = infos_from_json(alloc, &text)?;      // the bytes of a BSON file
 //! ```
@@ -28,12 +29,14 @@ pub mod laws;
 mod parts;
 mod quoted;
 mod raw_text;
+mod showing;
 mod stop;
 mod text;
 
 pub use bad_text::{NOT_TEXT, first_bad_text};
 pub use fault::JsonFault;
 pub use infos::infos_from_json;
+pub use showing::{Shown, show_text};
 pub use text::write_text;
 
 #[cfg(test)]

@@ -111,7 +111,7 @@ fn put_value<O: Sink>(levels: u32, item: &RawItem<'_>, out: &mut O) -> Result<()
 
 // A value that is no document and no array.
 #[cycle(text)]
-fn put_leaf<O: Sink>(levels: u32, item: &RawItem<'_>, out: &mut O) -> Result<(), Failed>
+pub(crate) fn put_leaf<O: Sink>(levels: u32, item: &RawItem<'_>, out: &mut O) -> Result<(), Failed>
     ensures { WritesWhole (O.seen out.old) (O.seen out.new) result
         (leaf_text (inside_text levels true) (form_of_type (tag_of item.now.tree)) (value_bytes item.now.tree)) }
 {
@@ -176,7 +176,7 @@ fn put_plain<O: Sink>(item: &RawItem<'_>, value: &[u8], out: &mut O) -> Result<(
     }
 }
 
-fn put_name<O: Sink>(named: bool, name: &[u8], out: &mut O) -> Result<(), Failed>
+pub(crate) fn put_name<O: Sink>(named: bool, name: &[u8], out: &mut O) -> Result<(), Failed>
     ensures { WritesWhole (O.seen out.old) (O.seen out.new) result (name_text named name.now) }
 {
     if named {

@@ -1,7 +1,7 @@
 //! Each type of BSON 1.1 as text. The expected texts are written by hand in Extended JSON, and are those that Python's
 //! `json.dumps` gives without spaces.
 
-use crate::{first_bad_text, write_text};
+use crate::{Shown, first_bad_text, show_text, write_text};
 use bson_codec::check_bson;
 use fle_outside::MemSink;
 use std::alloc::Global;
@@ -16,6 +16,9 @@ fn expect_text(rt: &impl Abort, alloc: Global, bytes: &[u8], text: &[u8]) -> Res
     for step in [1usize, 7, 200] {
         let mut out = MemSink::new(alloc, 200, step, Vec::new(alloc))?;
         assert!(rt; write_text(&document, &mut out).is_ok());
+        assert_eq!(rt; out.written(), text);
+        let mut out = MemSink::new(alloc, 200, step, Vec::new(alloc))?;
+        assert_eq!(rt; show_text(&document, &mut out), Shown::Written);
         assert_eq!(rt; out.written(), text);
     }
     Ok(())
@@ -227,6 +230,12 @@ fn the_first_place_that_is_not_utf8_is_told(rt: HostRuntime) -> Result<(), Fail>
         assert!(rt; bytes.len() < 100);
         let document = check_bson(bytes)?;
         assert_eq!(rt; first_bad_text(&document), at);
+        let mut out = MemSink::new(rt.alloc(), 200, 200, Vec::new(rt.alloc()))?;
+        let shown = show_text(&document, &mut out);
+        match at {
+            Some(at) => assert_eq!(rt; shown, Shown::Bad(at)),
+            None => assert_eq!(rt; shown, Shown::Written),
+        }
     }
     Ok(())
 }
@@ -237,6 +246,9 @@ fn a_full_sink_holds_a_front_of_the_text(rt: HostRuntime) -> Result<(), Fail> {
     let document = check_bson(b"\x08\x00\x00\x00\x0Aa\x00\x00")?;
     let mut out = MemSink::new(alloc, 9, 4, Vec::new(alloc))?;
     assert!(rt; write_text(&document, &mut out).is_err());
+    assert_eq!(rt; out.written(), br#"{"a":null"#.as_slice());
+    let mut out = MemSink::new(alloc, 9, 4, Vec::new(alloc))?;
+    assert_eq!(rt; show_text(&document, &mut out), Shown::Failed);
     assert_eq!(rt; out.written(), br#"{"a":null"#.as_slice());
     Ok(())
 }
