@@ -8,10 +8,11 @@ use Rattle.ext_json.specs.Infos.{json_infos}
 use Rattle.ext_json.proofs.Wants.{json_never}
 use Rattle.ext_json.specs.declared.fault.JsonFault.{JsonFault}
 use Rattle.ext_json.specs.declared.fault.JsonFault.TheVariants as json_faults
-use Rattle.fle_stream.specs.Task.{fails}
+use Rattle.fle_stream.specs.Task.{Task, each, fails}
 use Rattle.fle_stream.specs.declared.why.Finish.TheVariants as finishes
 use Rattle.fle_stream.specs.declared.why.SetupFault.TheVariants as setups
-use Rattle.fle_runner.specs.Mark.{infos_limit, infos_task, mark_task}
+use Rattle.fle_runner.specs.Mark.{mark_task, mark_verdict}
+use Rattle.fle_runner.specs.Setup.{infos_limit, infos_or}
 use Rattle.fle_runner.specs.Infos.{ReadsAs, bson_read, infos_read, is_json, json_read}
 use Rattle.fle_runner.specs.declared.infos.InfosFault.{InfosFault}
 use Rattle.fle_runner.specs.declared.infos.InfosFault.TheVariants as infos_faults
@@ -42,16 +43,21 @@ bson_is : (bson : List ℕ) → is_json bson ≡ false → infos_read bson ≡ b
 unfolding infos_read
 bson_is bson is = ap (λ (b : Bool). cond b (json_read (json_infos bson)) (bson_read (collections bson))) is
 
-loaded : (db bytes : List ℕ) → length bytes ≤ infos_limit → mark_task db (Some bytes) ≡ infos_task db (infos_read bytes)
+-- what is marked under the infos that were read
+abbrev marked_under : List ℕ → Result (List Collection) InfosFault → Task
+marked_under db read = infos_or 1 (λ infos. each (mark_verdict infos db)) read
+
+loaded : (db bytes : List ℕ) → length bytes ≤ infos_limit
+    → mark_task db (Some bytes) ≡ marked_under db (infos_read bytes)
 loaded db bytes fits =
     let short : nat_lt infos_limit (length bytes) ≡ false = grind (arith, nat_tests) in
-    ap (λ (b : Bool). cond b (fails (finishes.Setup 1 setups.TooLong 0)) (infos_task db (infos_read bytes))) short
+    ap (λ (b : Bool). cond b (fails (finishes.Setup 1 setups.TooLong 0)) (marked_under db (infos_read bytes))) short
 
 pub json_marks : (db json bson : List ℕ) → length json ≤ infos_limit → length bson ≤ infos_limit → is_json json ≡ true
     → is_json bson ≡ false
     → json_infos json ≡ Ok bson → mark_task db (Some json) ≡ mark_task db (Some bson)
 json_marks db json bson fits fits2 is isnt gives =
-    loaded db json fits ∙ (ap (infos_task db) (json_is json bson is gives ∙ sym (bson_is bson isnt))
+    loaded db json fits ∙ (ap (marked_under db) (json_is json bson is gives ∙ sym (bson_is bson isnt))
     ∙ sym (loaded db bson fits2))
 
 -- ---- no file comes to want of memory

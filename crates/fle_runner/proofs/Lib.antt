@@ -7,3 +7,15 @@ pub mod Shows
 pub mod InfosRead
 pub mod Vaults
 pub mod NewKeys
+pub mod Loaded
+pub mod Backs
+pub mod HeadlineReads
+pub mod Headline
+pub mod HeadlineBack
+pub mod HeadlineKeys
+pub mod HeadlineFiles
+pub mod HeadlineWorlds
+pub mod TwoStreams
+pub mod Fed
+pub mod Seals
+pub mod Unseals

@@ -1,51 +1,26 @@
--- A file of collection infos is at fault, or there was no memory for it; and what a reply makes of a judgement.
-use Rattle.std.proofs.Common.{◌≡◌, ◌<◌, ◌≤◌, ℕ, Bool, true, false, nat_lt, cond, Option, Some, None, Result, Err, List}
-use Rattle.std.proofs.Common.{[], length, Vec, Global, refl, ◌∙◌, ap, arith}
+-- What a reply makes of a judgement.
+use Rattle.std.proofs.Common.{◌≡◌, ◌<◌, ◌≤◌, ℕ, Bool, true, false, nat_lt, cond, Option, Some, None, List}
+use Rattle.std.proofs.Common.{[], length, Vec, Global, refl, arith}
 use Rattle.std.proofs.lemmas.Bool.Decides.{nat_tests}
 use Rattle.bson_tree.specs.Tree.{Items}
 use Rattle.command_marker.specs.Reply.{reply_limit, reply_to}
 use Rattle.encrypt_schema.specs.Language.Collection.{Collection}
 use Rattle.encrypt_schema.specs.Commands.Targets.{rows_of, verdict}
 use Rattle.encrypt_schema.specs.Commands.Visits.{Refusal}
-use Rattle.fle_outside.specs.Seen.{EntropySeen, SinkSeen}
+use Rattle.fle_outside.specs.Seen.{EntropySeen}
 use Rattle.fle_outside.proofs.Drawings.{draws_none}
-use Rattle.fle_runner.specs.Mark.{infos_task, infos_why, mark_verdict, plain_plan, sized, verdict_by}
-use Rattle.fle_runner.specs.Infos.{ReadsAs}
-use Rattle.fle_runner.specs.declared.infos.InfosFault.{InfosFault}
-use Rattle.fle_runner.specs.declared.infos.InfosFault.TheVariants as faults
-use Rattle.fle_stream.specs.Did.{Did}
-use Rattle.fle_stream.specs.Ended.{EndsAs}
+use Rattle.fle_runner.specs.Mark.{mark_verdict, sized}
+use Rattle.fle_runner.specs.Verdicts.{by_refusal, plain_plan}
 use Rattle.fle_stream.specs.Judge.{JudgeIs}
 use Rattle.fle_stream.specs.Plan.{DrawsNone, Verdict, writes, refused, too_long, draws_in}
-use Rattle.fle_stream.specs.Task.{Task}
 use Rattle.fle_stream.specs.declared.judging.Judged.TheVariants as judgements
-use Rattle.fle_stream.specs.declared.why.Finish.TheVariants as finishes
-use Rattle.fle_stream.specs.declared.why.SetupFault.TheVariants as setups
-use Rattle.fle_stream.specs.declared.why.Why.TheVariants as whys
-use Rattle.fle_stream.proofs.Programs.{did_task, did_fail, did_memory, ends_task}
-
-pub did_infos : (t : Task) (db : List ℕ) (read : Result (List Collection) InfosFault) (fault : InfosFault)
-    (told : List ℕ) (after : Option (List ℕ)) (entropy : EntropySeen) (out : SinkSeen)
-    → t ≡ infos_task db read → ReadsAs read (Err fault) → after ≡ Some told
-    → Did t told after entropy entropy out out 0 (infos_why fault)
-did_infos t db read (faults.Bad number document) told after entropy out from is left =
-    did_task (from ∙ ap (λ (x : Result (List Collection) InfosFault). infos_task db x) is)
-    (did_fail (finishes.Setup 1 (setups.Contents number) document) told after entropy out left)
-did_infos t db read faults.Memory told after entropy out from is left = did_memory t told after entropy out left
-
-pub ends_infos : (t : Task) (db : List ℕ) (read : Result (List Collection) InfosFault) (fault : InfosFault)
-    → t ≡ infos_task db read → ReadsAs read (Err fault) → EndsAs t (infos_why fault)
-ends_infos t db read (faults.Bad number document) from is =
-    ends_task (whys.Finished (finishes.Setup 1 (setups.Contents number) document))
-    (from ∙ ap (λ (x : Result (List Collection) InfosFault). infos_task db x) is) refl
-ends_infos t db read faults.Memory from is = tt
 
 -- no reply draws a block
 sized_draws : (b : Bool) (bytes : List ℕ) → draws_in (cond b too_long (writes (plain_plan bytes))) ≡ 0
 sized_draws true bytes = refl
 sized_draws false bytes = refl
 
-verdict_draws : (c : Items) (reply : List ℕ) (r : Option Refusal) → draws_in (verdict_by c reply r) ≡ 0
+verdict_draws : (c : Items) (reply : List ℕ) (r : Option Refusal) → draws_in (by_refusal c r (sized reply)) ≡ 0
 verdict_draws c reply (Some r) = refl
 verdict_draws c reply None = sized_draws (nat_lt reply_limit (length reply)) reply
 

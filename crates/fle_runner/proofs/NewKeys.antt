@@ -1,26 +1,19 @@
 -- New keys: how long their documents are, and that they can be written.
-use Rattle.std.proofs.Common.{◌≡◌, ℕ, ◌+◌, ◌*◌, ◌/◌, ◌<◌, ◌≤◌, Option, Some, Result, Err, List, [], ◌∷◌, ◌++◌, length}
-use Rattle.std.proofs.Common.{refl, sym, ◌∙◌, ap, subst, arith, length-append}
-use Rattle.std.specs.Prelude.{codes, decimal}
-use Rattle.bson_tree.specs.Tree.{Tree, Items, node, no_items, item}
-use Rattle.bson_tree.specs.Spelling.{doc_bytes, items_bytes, value_bytes}
+use Rattle.std.proofs.Common.{◌≡◌, ℕ, List, [], ◌∷◌, length}
+use Rattle.std.proofs.Common.{◌∙◌, ap, arith}
+use Rattle.std.specs.Prelude.{codes}
+use Rattle.bson_tree.specs.Tree.{Items, node, item}
+use Rattle.bson_tree.specs.Spelling.{doc_bytes, items_bytes}
 use Rattle.data_key.specs.Written.{binary, history, key_fields, names_field, numbered}
 use Rattle.data_key.specs.declared.key_doc.KeyDoc.{KeyDoc}
 use Rattle.data_key.proofs.Sizes.{binary_size, element_size, framed_size}
-use Rattle.fle_outside.specs.Seen.{EntropySeen, SinkSeen}
-use Rattle.fle_runner.specs.Keygen.{IsOfKey, blank_key, document_size, keygen_plan, master_number, master_task}
-use Rattle.fle_runner.specs.Keygen.{master_why}
-use Rattle.fle_stream.specs.Did.{Did}
+use Rattle.fle_runner.specs.Keygen.{IsOfKey, blank_key, document_size, keygen_plan}
 use Rattle.fle_stream.specs.Ended.{EndsAs}
 use Rattle.fle_stream.specs.Plan.{Plan, draws_of, size_of as outputs_size}
 use Rattle.fle_stream.specs.Task.{Task, makes, outcome_of}
 use Rattle.fle_stream.specs.declared.why.Cut.TheVariants as cuts
-use Rattle.fle_stream.specs.declared.why.Finish.TheVariants as finishes
-use Rattle.fle_stream.specs.declared.why.SetupFault.TheVariants as setups
 use Rattle.fle_stream.specs.declared.why.Why.{Why}
 use Rattle.fle_stream.specs.declared.why.Why.TheVariants as whys
-use Rattle.fle_stream.proofs.Programs.{did_task, did_fail, ends_task}
-use Rattle.local_kms.specs.declared.master.MasterFault.{MasterFault}
 
 -- names stand before fields of one length or another
 names_size : (names : List (List ℕ)) (is js : Items) → length (items_bytes is) ≡ length (items_bytes js)
@@ -63,21 +56,6 @@ document_long key now sixteen long =
       framed_size (items_bytes (key_fields key now now 0)),
       framed_size (items_bytes (key_fields blank now now 0)),
     )
-
--- a master key's file is at fault
-pub did_master : (t : Task) (names : List (List ℕ)) (now : ℕ) (read : Result (List ℕ) MasterFault) (fault : MasterFault)
-    (told : List ℕ) (after : Option (List ℕ)) (entropy : EntropySeen) (out : SinkSeen)
-    → t ≡ master_task names now read → Err fault ≡ read → after ≡ Some told
-    → Did t told after entropy entropy out out 0 (master_why fault)
-did_master t names now read fault told after entropy out from is left =
-    did_task (from ∙ ap (λ (r : Result (List ℕ) MasterFault). master_task names now r) (sym is))
-    (did_fail (finishes.Setup 1 (setups.Contents (master_number fault)) 0) told after entropy out left)
-
-pub ends_master : (t : Task) (names : List (List ℕ)) (now : ℕ) (read : Result (List ℕ) MasterFault)
-    (fault : MasterFault) → t ≡ master_task names now read → Err fault ≡ read → EndsAs t (master_why fault)
-ends_master t names now read fault from is =
-    ends_task (master_why fault) (from ∙ ap (λ (r : Result (List ℕ) MasterFault). master_task names now r) (sym is))
-    refl
 
 -- a key was made
 pub ends_key : (plan : Plan) (why : Why) → IsOfKey why → EndsAs (makes plan) why

@@ -1,8 +1,9 @@
 -- What a document that is shown comes to.
-use Rattle.std.proofs.Common.{◌≡◌, ℕ, Option, Some, None, List, [], ◌++◌, Vec, Global, refl, sym, ◌∙◌, ap, subst}
+use Rattle.std.proofs.Common.{◌≡◌, ℕ, Option, Some, None, List, [], ◌∷◌, ◌++◌, Vec, Global, refl, sym, ◌∙◌, ap, subst}
 use Rattle.bson_tree.specs.Tree.{Items}
 use Rattle.bson_tree.specs.Places.{place_of}
 use Rattle.ext_json.specs.BadText.{first_bad}
+use Rattle.ext_json.specs.Text.{text}
 use Rattle.fle_outside.specs.Seen.{EntropySeen}
 use Rattle.fle_outside.specs.Writing.{Gains}
 use Rattle.fle_outside.proofs.Drawings.{draws_none}
@@ -41,10 +42,13 @@ line_told is start line e whole found same =
     subst (λ (bad : Option ℕ). JudgeIs (shown_by is bad) e e (judgements.Written line))
     (bad_at is start None whole found) ([], refl, draws_none e, same, refl)
 
--- what was gathered from nothing is the two pieces
-pub gathered : (empty now last first second : List ℕ) → empty ≡ [] → Gains (Some empty) (Some now) first
-    → Gains (Some now) (Some last) second → last ≡ first ++ second
-gathered empty now last first second is one two =
-    some_is last (now ++ second) (two now refl)
-    ∙ ap (λ (x : List ℕ). x ++ second) (some_is now (empty ++ first) (one empty refl)
-    ∙ ap (λ (x : List ℕ). x ++ first) is)
+-- what was gathered behind what there was
+pub gathered : (empty now text : List ℕ) → Gains (Some empty) (Some now) text → now ≡ empty ++ text
+gathered empty now text gains = some_is now (empty ++ text) (gains empty refl)
+
+-- the text that was gathered from nothing, and the line feed
+pub line_is : (is : Items) (empty now line : List ℕ) → empty ≡ [] → Gains (Some empty) (Some now) (text is)
+    → line ≡ now ++ 10 ∷ [] → line ≡ text_line is
+line_is is empty now line none gains ended =
+    let whole : now ≡ text is = gathered empty now (text is) gains ∙ ap (λ (x : List ℕ). x ++ text is) none in
+    ended ∙ ap (λ (x : List ℕ). x ++ 10 ∷ []) whole

@@ -1,5 +1,5 @@
 -- `keygen MASTER NAME*`: a new key document with these alternate names.
-use Rattle.std.specs.Prelude.{◌≡◌, ℕ, Option, Result, Ok, Err, List, length, replicate}
+use Rattle.std.specs.Prelude.{◌≡◌, ℕ, Option, List, length, replicate}
 use Rattle.bson_tree.specs.Spelling.{doc_bytes}
 use Rattle.data_key.specs.Written.{key_fields}
 use Rattle.data_key.specs.declared.key_doc.KeyDoc.{KeyDoc}
@@ -8,17 +8,13 @@ use Rattle.fle_outside.specs.Blocks.{Block}
 use Rattle.fle_outside.specs.Drawing.{Draws}
 use Rattle.fle_outside.specs.Seen.{EntropySeen}
 use Rattle.fle_stream.specs.Plan.{Plan}
-use Rattle.fle_stream.specs.Task.{Task, fails, makes, with_file}
-use Rattle.fle_stream.specs.declared.why.Number.{Number}
+use Rattle.fle_runner.specs.Setup.{with_master}
+use Rattle.fle_stream.specs.Task.{Task, makes}
 use Rattle.fle_stream.specs.declared.why.Why.{Why}
 use Rattle.fle_stream.specs.declared.why.Why.TheVariants as whys
 use Rattle.fle_stream.specs.declared.why.Finish.TheVariants as finishes
 use Rattle.fle_stream.specs.declared.why.Cut.TheVariants as cuts
-use Rattle.fle_stream.specs.declared.why.SetupFault.TheVariants as setups
 use Rattle.local_kms.specs.Made.{key_of_blocks}
-use Rattle.local_kms.specs.Master.{master_in}
-use Rattle.local_kms.specs.declared.master.MasterFault.{MasterFault}
-use Rattle.local_kms.specs.declared.master.MasterFault.TheVariants as faults
 
 -- the document of the key that eight blocks make: made and changed now, its status 0
 abbrev pub new_document : List ℕ → List (List ℕ) → ℕ → List Block → List ℕ
@@ -38,30 +34,9 @@ keygen_plan names now master = record {
   bytes = new_document master names now;
 }
 
--- the number of a fault of a master key's file
-abbrev pub master_code : MasterFault → ℕ
-master_code faults.Length = 10
-master_code faults.Base64 = 11
-
-abbrev pub master_number : MasterFault → Number
-master_number fault = record { value = master_code fault }
-
--- why a run ends whose master key, the first file of the words, is at fault
-abbrev pub master_why : MasterFault → Why
-master_why fault = whys.Finished (finishes.Setup 1 (setups.Contents (master_number fault)) 0)
-
--- a new key under the master key that the file has, or the file is at fault
-abbrev pub master_task : List (List ℕ) → ℕ → Result (List ℕ) MasterFault → Task
-master_task names now (Ok master) = makes (keygen_plan names now master)
-master_task names now (Err fault) = fails (finishes.Setup 1 (setups.Contents (master_number fault)) 0)
-
--- a master key's file has at most 129 bytes
-abbrev pub master_limit : ℕ
-master_limit = 129
-
--- the master key is the first file of the words
+-- a new key under the master key that the first file of the words has
 abbrev pub keygen_task : List (List ℕ) → ℕ → Option (List ℕ) → Task
-keygen_task names now file = with_file 1 master_limit file (λ bytes. master_task names now (master_in bytes))
+keygen_task names now file = with_master 1 file (λ master. makes (keygen_plan names now master))
 
 -- the eight blocks of a key were drawn
 pub record DrawsEight (before after : EntropySeen) : Type 0 where

@@ -6,6 +6,10 @@ use Rattle.encrypt_schema.specs.declared.schema.faults.InfoKind.{InfoKind}
 use Rattle.encrypt_schema.specs.declared.schema.faults.InfoKind.TheVariants as kinds
 use Rattle.encrypt_schema.specs.declared.schema.faults.SchemaFault.{SchemaFault}
 use Rattle.encrypt_schema.specs.declared.schema.faults.SchemaFault.TheVariants as schemas
+use Rattle.key_vault.specs.declared.faults.VaultKind.{VaultKind}
+use Rattle.key_vault.specs.declared.faults.VaultKind.TheVariants as vaults
+use Rattle.local_kms.specs.declared.master.MasterFault.{MasterFault}
+use Rattle.local_kms.specs.declared.master.MasterFault.TheVariants as masters
 use Rattle.fle_stream.specs.declared.why.Number.{Number}
 
 -- the number of a reason
@@ -36,3 +40,25 @@ infos_code (kinds.Schema fault) = 40 + schema_code fault
 
 abbrev pub infos_number : InfoKind → Number
 infos_number kind = record { value = infos_code kind }
+
+-- the number of a fault of a master key's file
+abbrev pub master_code : MasterFault → ℕ
+master_code masters.Length = 10
+master_code masters.Base64 = 11
+
+abbrev pub master_number : MasterFault → Number
+master_number fault = record { value = master_code fault }
+
+-- the number of a fault of a document of a vault
+abbrev pub vault_code : VaultKind → ℕ
+vault_code vaults.Bson = 20
+vault_code vaults.Id = 21
+vault_code vaults.AltNames = 22
+vault_code vaults.Material = 23
+vault_code vaults.Provider = 24
+vault_code vaults.IdTwice = 25
+vault_code vaults.NameTwice = 26
+vault_code vaults.TooMany = 27
+
+abbrev pub vault_number : VaultKind → Number
+vault_number kind = record { value = vault_code kind }

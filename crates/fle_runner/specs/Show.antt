@@ -7,7 +7,7 @@ use Rattle.ext_json.specs.Text.{text}
 use Rattle.fle_stream.specs.Plan.{Verdict, writes, refused}
 use Rattle.fle_stream.specs.Task.{Task, each}
 use Rattle.fle_stream.specs.declared.why.Number.{Number}
-use Rattle.fle_runner.specs.Mark.{plain_plan}
+use Rattle.fle_runner.specs.Verdicts.{plain_plan}
 
 -- the number of the reason of a document that has no text
 abbrev pub not_text : Number

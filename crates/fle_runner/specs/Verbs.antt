@@ -2,11 +2,13 @@
 use Rattle.std.specs.Prelude.{ℕ, Option, Some, None, List}
 use Rattle.fle_outside.specs.Files.{Files, file_of}
 use Rattle.fle_stream.specs.Task.{Task, fails}
-use Rattle.fle_runner.specs.Words.{Form, mark, show, keys, keygen, form_of}
+use Rattle.fle_runner.specs.Words.{Form, mark, show, keys, keygen, encrypt, decrypt, form_of}
 use Rattle.fle_runner.specs.Mark.{mark_task}
 use Rattle.fle_runner.specs.Show.{show_task}
 use Rattle.fle_runner.specs.Keys.{keys_task}
 use Rattle.fle_runner.specs.Keygen.{keygen_task}
+use Rattle.fle_runner.specs.Encrypt.{encrypt_task}
+use Rattle.fle_runner.specs.Decrypt.{decrypt_task}
 use Rattle.fle_stream.specs.declared.why.Finish.TheVariants as finishes
 
 abbrev pub task_for : ℕ → Form → Files → Task
@@ -14,6 +16,9 @@ task_for now (mark db schemas) files = mark_task db (file_of files schemas)
 task_for now show files = show_task
 task_for now (keys vault) files = keys_task (file_of files vault)
 task_for now (keygen master names) files = keygen_task names now (file_of files master)
+task_for now (encrypt db vault schemas master) files =
+    encrypt_task db (file_of files vault) (file_of files schemas) (file_of files master)
+task_for now (decrypt vault master) files = decrypt_task (file_of files vault) (file_of files master)
 
 abbrev pub task_of : ℕ → Option Form → Files → Task
 task_of now None files = fails finishes.Words

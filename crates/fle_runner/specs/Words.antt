@@ -12,11 +12,23 @@ pub data Form : Type 0 where
   show : Form
   keys : List ℕ → Form
   keygen : List ℕ → List (List ℕ) → Form
+  encrypt : List ℕ → List ℕ → List ℕ → List ℕ → Form
+  decrypt : List ℕ → List ℕ → Form
 
 -- `mark DB SCHEMAS`: DB has 1 to 63 bytes, SCHEMAS isn't empty
 abbrev pub mark_form : List ℕ → List ℕ → Option Form
 mark_form db schemas = if (length db == 0 || nat_lt 63 (length db) || length schemas == 0) then None else Some
     (mark db schemas)
+
+-- `encrypt DB KEYS SCHEMAS MASTER`: DB has 1 to 63 bytes, KEYS, SCHEMAS and MASTER aren't empty
+abbrev pub encrypt_form : List ℕ → List ℕ → List ℕ → List ℕ → Option Form
+encrypt_form db vault schemas master =
+    if (length db == 0 || nat_lt 63 (length db) || length vault == 0 || length schemas == 0 || length master == 0)
+    then None else Some (encrypt db vault schemas master)
+
+-- `decrypt KEYS MASTER`: neither is empty
+abbrev pub decrypt_form : List ℕ → List ℕ → Option Form
+decrypt_form vault master = if (length vault == 0 || length master == 0) then None else Some (decrypt vault master)
 
 -- whether a word is this verb
 abbrev pub is_verb : List ℕ → List ℕ → Bool
@@ -61,13 +73,23 @@ abbrev pub show_words : List (List ℕ) → Option Form
 show_words [] = Some show
 show_words _ = None
 
+abbrev pub encrypt_words : List (List ℕ) → Option Form
+encrypt_words (db ∷ vault ∷ schemas ∷ master ∷ []) = encrypt_form db vault schemas master
+encrypt_words _ = None
+
+abbrev pub decrypt_words : List (List ℕ) → Option Form
+decrypt_words (vault ∷ master ∷ []) = decrypt_form vault master
+decrypt_words _ = None
+
 -- the form of a verb and the words behind it
 abbrev pub verb_form : List ℕ → List (List ℕ) → Option Form
 verb_form verb words =
     if is_verb verb (codes "mark") then mark_words words
     else (if is_verb verb (codes "show") then show_words words
     else (if is_verb verb (codes "keys") then keys_words words
-    else (if is_verb verb (codes "keygen") then keygen_words words else None)))
+    else (if is_verb verb (codes "keygen") then keygen_words words
+    else (if is_verb verb (codes "encrypt") then encrypt_words words
+    else (if is_verb verb (codes "decrypt") then decrypt_words words else None)))))
 
 abbrev pub form_of : List (List ℕ) → Option Form
 form_of [] = None
@@ -80,6 +102,8 @@ asked_form (asked.Mark db schemas) = Some (mark db.now schemas.now)
 asked_form asked.Show = Some show
 asked_form (asked.Keys vault) = Some (keys vault.now)
 asked_form (asked.Keygen master names) = Some (keygen master.now (map string_bytes names.now))
+asked_form (asked.Encrypt db vault schemas master) = Some (encrypt db.now vault.now schemas.now master.now)
+asked_form (asked.Decrypt vault master) = Some (decrypt vault.now master.now)
 
 -- the names of a new key are few and small enough for its document
 abbrev pub AreFew : Asked → Type 0
@@ -87,6 +111,8 @@ AreFew asked.Nothing = Unit {0}
 AreFew (asked.Mark db schemas) = Unit {0}
 AreFew asked.Show = Unit {0}
 AreFew (asked.Keys vault) = Unit {0}
+AreFew (asked.Encrypt db vault schemas master) = Unit {0}
+AreFew (asked.Decrypt vault master) = Unit {0}
 AreFew (asked.Keygen master names) = (length names.now ≤ 1000) × (size_of (map string_bytes names.now) ≤ 15999840)
 
 -- a run of these words draws no random block
@@ -96,3 +122,5 @@ DrawsNoBlock (Some (mark db schemas)) = Unit {0}
 DrawsNoBlock (Some show) = Unit {0}
 DrawsNoBlock (Some (keys vault)) = Unit {0}
 DrawsNoBlock (Some (keygen master names)) = ⊥
+DrawsNoBlock (Some (encrypt db vault schemas master)) = ⊥
+DrawsNoBlock (Some (decrypt vault master)) = Unit {0}

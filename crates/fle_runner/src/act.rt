@@ -14,6 +14,8 @@ ghost use Rattle.fle_stream.specs.Plan.{draws_of, size_of};
 ghost use Rattle.fle_stream.specs.Task.{outcome_of};
 ghost use Rattle.fle_stream.specs.Turn.{RunTook};
 
+use crate::decrypt::decrypt;
+use crate::encrypt::encrypt;
 use crate::keygen::keygen;
 use crate::keys::keys;
 use crate::mark::mark;
@@ -78,6 +80,19 @@ pub fn act<S: Source, F: Folder, O: Sink, N: Entropy, B: Block256>(
         Asked::Keys { vault } => keys(alloc, vault, files, out),
         Asked::Keygen { master, names } => {
             keygen(alloc, master, names, time, files, out, entropy, hooks)
+        }
+        Asked::Encrypt {
+            db,
+            keys,
+            schemas,
+            master,
+        } => {
+            encrypt(
+                alloc, db, keys, schemas, master, input, files, out, entropy, hooks,
+            )
+        }
+        Asked::Decrypt { keys, master } => {
+            decrypt(alloc, keys, master, input, files, out, entropy, hooks)
         }
     }
 }

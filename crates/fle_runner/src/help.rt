@@ -13,6 +13,8 @@ pub const VERSION: &str = "fle 0.1.0\n";
 pub const HELP: &str = "fle: MongoDB client-side field level encryption, the client's part
 
 usage: fle mark DB SCHEMAS
+       fle encrypt DB KEYS SCHEMAS MASTER
+       fle decrypt KEYS MASTER
        fle show
        fle keygen MASTER [NAME ...]
        fle keys KEYS
@@ -21,6 +23,13 @@ usage: fle mark DB SCHEMAS
   mark DB SCHEMAS   read commands of the database DB from standard input and write the
                     marking reply to each; SCHEMAS is a file of collection infos,
                     in JSON or BSON
+  encrypt DB KEYS SCHEMAS MASTER
+                    read commands of the database DB from standard input and write each
+                    with its protected values sealed, under the keys of KEYS and the
+                    master key in MASTER
+  decrypt KEYS MASTER
+                    read documents from standard input and write each with its sealed
+                    values opened
   show              read documents from standard input and write the text of each, after
                     MongoDB Extended JSON, and a line feed
   keygen MASTER [NAME ...]

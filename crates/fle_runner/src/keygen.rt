@@ -9,7 +9,6 @@ ghost use Rattle.fle_outside.specs.Drawing.{Draws};
 ghost use Rattle.fle_outside.specs.Files.{Files, file_of};
 ghost use Rattle.fle_outside.specs.Seen.{EntropySeen};
 ghost use Rattle.fle_runner.specs.Keygen.{DrawsEight, IsOfKey, IsOfKeygen, document_size, keygen_plan, keygen_task};
-ghost use Rattle.fle_runner.specs.Keygen.{master_code, master_why};
 ghost use Rattle.fle_stream.specs.Codes.{status_of};
 ghost use Rattle.fle_stream.specs.Did.{Did};
 ghost use Rattle.fle_stream.specs.Ended.{EndsAs, IsUnread};
@@ -18,16 +17,14 @@ ghost use Rattle.fle_stream.specs.Task.{makes, outcome_of};
 ghost use Rattle.fle_stream.specs.Turn.{RunTook};
 ghost use Rattle.local_kms.specs.Made.{key_of_blocks};
 
+use crate::setup::load_master;
 use bson_tree::{Bytes, Names};
 use crypto_hooks::Block256;
 use data_key::{KeyDoc, Provider, write_key};
 use fle_outside::{Entropy, Folder, Memory, Sink};
-use fle_stream::{Cut, End, Finish, Number, SetupFault, Why, load_file, write_made};
-use local_kms::{MasterFault, MasterKey, NewFault, new_key, read_master};
+use fle_stream::{Cut, End, Finish, Why, write_made};
+use local_kms::{MasterKey, NewFault, new_key};
 use std::alloc::Global;
-
-/// A master key's file has at most this many bytes.
-const MASTER_LIMIT: usize = 129;
 
 /// Makes a key with these names under the master key of a file, and writes its document, with the time, the 64 bits of
 /// its milliseconds since 1970, as both its dates. It reads no input, and draws eight blocks before it writes.
@@ -69,13 +66,9 @@ pub fn keygen<F: Folder, O: Sink, N: Entropy, B: Block256>(
         → draws_of (outcome_of (keygen_task (map string_bytes names.now) time (file_of all master.now)) told).outputs
         ≤ (N.seen entropy.old).assured → result.why ≡ Why.Cut Cut.Entropy → ⊥ }
 {
-    let bytes = match load_file(alloc, files, 1, master, MASTER_LIMIT) {
-        Ok(bytes) => bytes,
-        Err(why) => return End::unread(why),
-    };
-    match read_master(&bytes) {
+    match load_master(alloc, files, 1, master) {
         Ok(master) => make_key(alloc, &master, names, time, out, entropy, hooks),
-        Err(fault) => End::unread(why_master(fault)),
+        Err(why) => End::unread(why),
     }
 }
 
@@ -167,27 +160,4 @@ fn names_of(alloc: Global, words: &[String]) -> Result<Names, Memory>
         }
     }
     Ok(Names::from_vec(names))
-}
-
-/// Why a run ends whose master key, the first file of the words, is at fault.
-fn why_master(fault: MasterFault) -> Why
-    ensures why { result ≡ master_why fault }
-{
-    Why::Finished(Finish::Setup {
-        file: 1,
-        fault: SetupFault::Contents(Number {
-            value: code_of_master(fault),
-        }),
-        document: 0,
-    })
-}
-
-/// The number of a fault of a master key's file.
-fn code_of_master(fault: MasterFault) -> u8
-    ensures code { result ≡ master_code fault }
-{
-    match fault {
-        MasterFault::Length => 10,
-        MasterFault::Base64 => 11,
-    }
 }

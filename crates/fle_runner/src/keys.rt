@@ -4,9 +4,8 @@ ghost use Rattle.std.specs.Prelude.{true, ◌≡◌, ◌≤◌, ◌++◌, List, 
 ghost use Rattle.fle_outside.specs.Counts.{Rose};
 ghost use Rattle.fle_outside.specs.Files.{Files, file_of};
 ghost use Rattle.fle_outside.specs.Seen.{EntropySeen};
-ghost use Rattle.fle_runner.specs.Keys.{IsOfKeys, IsOfText, key_line, key_lines, keys_task, provider_word, vault_code};
-ghost use Rattle.fle_runner.specs.Keys.{vault_why};
-ghost use Rattle.fle_runner.specs.Mark.{plain_plan};
+ghost use Rattle.fle_runner.specs.Keys.{IsOfKeys, IsOfText, key_line, key_lines, keys_task, provider_word};
+ghost use Rattle.fle_runner.specs.Verdicts.{plain_plan};
 ghost use Rattle.fle_stream.specs.Codes.{status_of};
 ghost use Rattle.fle_stream.specs.Did.{Did};
 ghost use Rattle.fle_stream.specs.Ended.{EndsAs, IsUnread};
@@ -14,17 +13,14 @@ ghost use Rattle.fle_stream.specs.Plan.{size_of};
 ghost use Rattle.fle_stream.specs.Task.{makes, outcome_of};
 ghost use Rattle.fle_stream.specs.Turn.{RunTook};
 
+use crate::setup::load_vault;
 use bson_codec::writing::append;
 use data_key::{KeyDoc, Provider};
 use fle_outside::{Folder, Memory, Sink};
-use fle_stream::{Cut, End, Finish, Number, SetupFault, Why, load_file, write_made};
+use fle_stream::{Cut, End, Finish, Why, write_made};
 use itoa::Buffer;
-use key_vault::{Vault, VaultFault, VaultKind};
 use std::alloc::Global;
 use uuid::Uuid;
-
-/// A vault has at most this many bytes.
-const VAULT_LIMIT: usize = 67_108_864;
 
 /// Tells the keys of a vault, in its order. It reads no input and draws no block.
 pub fn keys<F: Folder, O: Sink>(alloc: Global, vault: &str, files: &mut F, out: &mut O) -> End
@@ -47,13 +43,9 @@ pub fn keys<F: Folder, O: Sink>(alloc: Global, vault: &str, files: &mut F, out: 
         → result.why ≡ Why.Cut Cut.Output → ⊥ }
     ensures undrawn { result.why ≡ Why.Cut Cut.Entropy → ⊥ }
 {
-    let bytes = match load_file(alloc, files, 1, vault, VAULT_LIMIT) {
-        Ok(bytes) => bytes,
-        Err(why) => return End::unread(why),
-    };
-    match Vault::load(alloc, &bytes) {
+    match load_vault(alloc, files, 1, vault) {
         Ok(vault) => write_keys(alloc, vault.keys(), out),
-        Err(fault) => End::unread(why_vault(fault)),
+        Err(why) => End::unread(why),
     }
 }
 
@@ -112,37 +104,5 @@ fn word_of(provider: Provider) -> &'static [u8]
     match provider {
         Provider::Local => b"local",
         Provider::Other => b"other",
-    }
-}
-
-/// Why a run ends whose vault, the first file of the words, is at fault.
-fn why_vault(fault: VaultFault) -> Why
-    ensures why { result ≡ vault_why fault }
-{
-    match fault {
-        VaultFault::Bad { document, kind } => Why::Finished(Finish::Setup {
-            file: 1,
-            fault: SetupFault::Contents(Number {
-                value: code_of_vault(kind),
-            }),
-            document,
-        }),
-        VaultFault::Memory => Why::Cut(Cut::Memory),
-    }
-}
-
-/// The number of a fault of a document of a vault.
-fn code_of_vault(kind: VaultKind) -> u8
-    ensures code { result ≡ vault_code kind }
-{
-    match kind {
-        VaultKind::Bson => 20,
-        VaultKind::Id => 21,
-        VaultKind::AltNames => 22,
-        VaultKind::Material => 23,
-        VaultKind::Provider => 24,
-        VaultKind::IdTwice => 25,
-        VaultKind::NameTwice => 26,
-        VaultKind::TooMany => 27,
     }
 }

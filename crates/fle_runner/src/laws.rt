@@ -1,15 +1,33 @@
 //! Laws over whole runs. They speak of definitions alone, and `main` calls none of them.
 
-ghost use Rattle.std.specs.Prelude.{◌≡◌, ◌≤◌, List, ℕ, [], length, true, false, Some, Ok, Err};
+ghost use Rattle.std.specs.Prelude.{◌≡◌, ◌<◌, ◌≤◌, ◌^◌, List, ℕ, [], length, true, false, Some, Ok, Err};
+ghost use Rattle.std.specs.List.{All};
 ghost use Rattle.bson_tree.specs.Tree.{Items};
+ghost use Rattle.context_machine.specs.Rings.{ring};
+ghost use Rattle.data_key.specs.declared.key_doc.KeyDoc.{KeyDoc};
+ghost use Rattle.doc_rewrite.specs.Opened.{Keyring};
+ghost use Rattle.encrypt_schema.specs.Language.Collection.{Collection};
 ghost use Rattle.ext_json.specs.Infos.{json_infos};
+ghost use Rattle.fle_outside.specs.Blocks.{Block};
 ghost use Rattle.fle_outside.specs.Files.{Files};
+ghost use Rattle.fle_outside.specs.Seen.{EntropySeen, SinkSeen};
+ghost use Rattle.fle_runner.specs.Decrypt.{decrypt_verdict};
+ghost use Rattle.fle_runner.specs.Encrypt.{encrypt_verdict};
+ghost use Rattle.fle_runner.specs.Headline.{AreByUuid, AreOpenable, AreReadable, AreSealedUnder, SealsStream, Setup};
+ghost use Rattle.fle_runner.specs.Headline.{accepted, verdict_of};
+ghost use Rattle.fle_runner.specs.HeadlineFiles.{IsEncrypt};
 ghost use Rattle.fle_runner.specs.Infos.{infos_read, is_json};
-ghost use Rattle.fle_runner.specs.Mark.{infos_limit, mark_task};
+ghost use Rattle.fle_runner.specs.Mark.{mark_task, mark_verdict};
+ghost use Rattle.fle_runner.specs.ReadBack.{ComesTo, read_whole, stream};
+ghost use Rattle.fle_runner.specs.Setup.{infos_limit};
+ghost use Rattle.fle_runner.specs.TwoStreams.{EndAlike, HaveEqualSkeletons};
 ghost use Rattle.fle_runner.specs.Verbs.{task};
+ghost use Rattle.fle_stream.specs.Ended.{Whole};
 ghost use Rattle.fle_stream.specs.Outcome.{finished};
-ghost use Rattle.fle_stream.specs.Plan.{Verdict};
+ghost use Rattle.fle_stream.specs.Plan.{Verdict, written};
+ghost use Rattle.fle_stream.specs.Streams.{documents};
 ghost use Rattle.fle_stream.specs.Task.{each, outcome_of};
+ghost use Rattle.key_vault.specs.Loading.{vault};
 
 use crate::infos::InfosFault;
 use fle_stream::Finish;
@@ -30,4 +48,71 @@ pub fn json_infos_are_their_bson()
 /// No file comes to want of memory: that is an answer of reading it alone.
 pub fn no_file_wants_memory()
     ensures never { (bytes : List ℕ) → infos_read bytes ≡ Err InfosFault.Memory → ⊥ }
+{}
+
+/// A stream whose documents come, one by one, to the bytes of the documents of a list is read to its end, and the list
+/// is written.
+#[tactic(auto, using(crate::proofs::Backs::reads_back, crate::proofs::Backs::writes_back))]
+pub fn streams_are_read_back()
+    ensures outcome { (v : Items → Verdict) (cs ds : List Items) → ComesTo v cs ds → length (stream ds) < 2 ^ 40
+        → outcome_of (each v) (stream ds) ≡ read_whole cs ds }
+    ensures bytes { (v : Items → Verdict) (cs ds : List Items) → ComesTo v cs ds
+        → written (read_whole cs ds).outputs [] ≡ stream cs }
+{}
+
+/// A run of `encrypt` that nothing cut short sealed every command that it accepted, and wrote nothing else.
+pub fn accepted_commands_are_sealed()
+    ensures sealed { (x : Setup) (told : List ℕ) (entropy entropy_after : EntropySeen) (out out_after : SinkSeen)
+        → AreByUuid x.keys → All (λ b. b < 256) told
+        → Whole (outcome_of (each (verdict_of x)) told) entropy entropy_after out out_after
+        → SealsStream x told entropy entropy_after out out_after }
+{}
+
+/// `decrypt` over sealed commands reads them to their end and writes the commands: where each of these has a spelling,
+/// isn't refused by its contents and has no payload outside its protected values, and where the sealed ones are no
+/// longer than an input may be.
+pub fn sealed_commands_are_read_back()
+    ensures outcome { (x : Setup) (cs : List Items) (blocks : List Block) (ds : List Items)
+        → AreSealedUnder x cs blocks ds → AreReadable x cs ds → length (stream ds) < 2 ^ 40
+        → outcome_of (each (decrypt_verdict x.keys)) (stream ds) ≡ read_whole cs ds }
+    ensures bytes { (x : Setup) (cs : List Items) (blocks : List Block) (ds : List Items)
+        → AreSealedUnder x cs blocks ds → AreReadable x cs ds → written (read_whole cs ds).outputs [] ≡ stream cs }
+    // What a run of `encrypt` wrote that nothing cut short.
+    ensures run { (x : Setup) (told : List ℕ) (entropy entropy_after : EntropySeen) (out out_after : SinkSeen)
+        → All (λ b. b < 256) told → (s : SealsStream x told entropy entropy_after out out_after)
+        → AreOpenable x (accepted (verdict_of x) 0 (documents told)) s.sealed → length (stream s.sealed) < 2 ^ 40
+        → outcome_of (each (decrypt_verdict x.keys)) (stream s.sealed)
+        ≡ read_whole (accepted (verdict_of x) 0 (documents told)) s.sealed }
+{}
+
+/// Streams of commands with equal skeletons come to one end: how and where a run of `mark` or of `encrypt` stops, how
+/// many bytes it reads, and how many outputs it writes before, of how many bytes and with how many random blocks, tells
+/// of protected values their types, their lengths and whether they are binaries of subtype 06, and nothing else.
+pub fn two_streams()
+    ensures mark { (infos : List Collection) (db told other : List ℕ) → All (λ b. b < 256) told
+        → All (λ b. b < 256) other → HaveEqualSkeletons infos (documents told) (documents other)
+        → EndAlike (outcome_of (each (mark_verdict infos db)) told) (outcome_of (each (mark_verdict infos db)) other) }
+    ensures encrypt { (keys : Keyring) (infos : List Collection) (db told other : List ℕ) → All (λ b. b < 256) told
+        → All (λ b. b < 256) other → HaveEqualSkeletons infos (documents told) (documents other)
+        → EndAlike (outcome_of (each (encrypt_verdict keys infos db)) told)
+        (outcome_of (each (encrypt_verdict keys infos db)) other) }
+{}
+
+/// Words and files that ask for `encrypt` ask that each command of the input be sealed, and a run that nothing cut
+/// short
+/// sealed every command that it accepted, and wrote nothing else.
+pub fn encrypt_seals_the_input()
+    ensures task { (now : ℕ) (words : List (List ℕ)) (all : Files) (x : Setup) → IsEncrypt words all x
+        → task now words all ≡ each (verdict_of x) }
+    ensures sealed { (now : ℕ) (words : List (List ℕ)) (all : Files) (told : List ℕ) (x : Setup)
+        (entropy entropy_after : EntropySeen) (out out_after : SinkSeen)
+        → IsEncrypt words all x → All (λ b. b < 256) told
+        → Whole (outcome_of (task now words all) told) entropy entropy_after out out_after
+        → SealsStream x told entropy entropy_after out out_after }
+{}
+
+/// The data keys of a vault are had by UUIDs alone, whatever the master key.
+pub fn keys_of_a_vault_have_uuids()
+    ensures uuids { (bytes master : List ℕ) (keys : List KeyDoc) → vault bytes ≡ Ok keys
+        → AreByUuid (ring keys master) }
 {}

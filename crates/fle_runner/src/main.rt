@@ -6,12 +6,16 @@
 //!
 //! ```text
 //! fle mark hr schemas.bson < commands.bson > replies.bson
+//! fle encrypt hr keys.bson schemas.bson master.key < commands.bson > sealed.bson
+//! fle decrypt keys.bson master.key < documents.bson > opened.bson
 //! fle keys keys.bson
 //! fle keygen master.key hr-key >> keys.bson
 //! ```
 #![tactic(auto)]
 
 mod act;
+mod decrypt;
+mod encrypt;
 #[cfg(test)]
 mod filter_tests;
 mod gathered;
@@ -32,8 +36,13 @@ mod placing;
 #[cfg(test)]
 mod placing_tests;
 mod program;
+mod refusing;
 #[cfg(test)]
 mod schema_tests;
+#[cfg(test)]
+mod seal_tests;
+mod sealing;
+mod setup;
 mod show;
 #[cfg(test)]
 mod show_tests;

@@ -1,34 +1,29 @@
 //! `mark DB SCHEMAS`: the marking reply to each command.
 
 ghost use Rattle.std.specs.Prelude.{true, ⊤, ◌≡◌, ◌<◌, ◌≤◌, List, ℕ, Some, option_copied};
-ghost use Rattle.bson_tree.specs.Places.{place_of};
 ghost use Rattle.command_marker.specs.Commands.{is_marked_command};
 ghost use Rattle.command_marker.specs.Reply.{RepliesAs};
 ghost use Rattle.fle_outside.specs.Counts.{Rose};
 ghost use Rattle.fle_outside.specs.Files.{Files, file_of};
 ghost use Rattle.fle_outside.specs.Seen.{EntropySeen};
-ghost use Rattle.fle_runner.specs.Mark.{Tells, first_start, infos_why, mark_task, mark_verdict, refuses, sized};
-ghost use Rattle.fle_runner.specs.Mark.{verdict_into, verdict_under};
+ghost use Rattle.fle_runner.specs.Mark.{mark_task, mark_verdict, sized, verdict_into, verdict_under};
+ghost use Rattle.fle_runner.specs.Verdicts.{first_start};
 ghost use Rattle.fle_stream.specs.Codes.{status_of};
 ghost use Rattle.fle_stream.specs.Did.{Did};
 ghost use Rattle.fle_stream.specs.Ended.{EndsAs, IsUnread};
 ghost use Rattle.fle_stream.specs.Judge.{JudgeIs};
-ghost use Rattle.fle_stream.specs.Plan.{Verdict, size_of};
+ghost use Rattle.fle_stream.specs.Plan.{size_of};
 ghost use Rattle.fle_stream.specs.Task.{outcome_of};
 ghost use Rattle.fle_stream.specs.Turn.{RunTook};
 
-use crate::infos::{InfosFault, read_infos};
-use crate::numbers::number_of_reason;
-use crate::placing::place_at;
+use crate::refusing::{judge_fault, refuse};
+use crate::setup::load_infos;
 use bson_codec::RawDoc;
 use command_marker::{ReplyFault, Target, mark_command, reply, reply_clear, target};
-use encrypt_schema::{Info, Infos, MarkFault, Reason, Rows};
-use fle_outside::{Entropy, Folder, Memory, Sink, Source};
-use fle_stream::{Cut, End, Finish, Judge, Judged, SetupFault, Why, judge_stream, load_file};
+use encrypt_schema::{Info, Infos, Reason, Rows};
+use fle_outside::{Entropy, Folder, Sink, Source};
+use fle_stream::{Cut, End, Finish, Judge, Judged, Why, judge_stream};
 use std::alloc::Global;
-
-/// A file of collection infos has at most this many bytes.
-const INFOS_LIMIT: usize = 67_108_864;
 
 /// The marking service of a database under its collection infos.
 #[derive(Drop)]
@@ -115,28 +110,6 @@ fn judge_reply(reply: Result<Vec<u8>, ReplyFault>) -> Judged
     }
 }
 
-/// The refusal of a command that isn't marked for this fault.
-fn judge_fault(alloc: Global, command: &RawDoc<'_>, fault: MarkFault) -> Judged
-    requires whole { command.now.start ≡ 0 }
-    ensures judged { (v : Verdict) (e : EntropySeen) → Tells fault command.now.tree v → JudgeIs v e e result }
-{
-    match fault {
-        MarkFault::Refused { reason, at } => refuse(alloc, command, reason, at),
-        MarkFault::Memory => Judged::Memory,
-    }
-}
-
-/// Refuses a command for the value that begins at the offset `at`, and for itself where none does.
-fn refuse(alloc: Global, command: &RawDoc<'_>, reason: Reason, at: u32) -> Judged
-    requires whole { command.now.start ≡ 0 }
-    ensures judged { (e : EntropySeen) → JudgeIs (refuses reason (place_of at command.now.tree)) e e result }
-{
-    match place_at(alloc, command, at) {
-        Ok(place) => Judged::Refused(number_of_reason(reason), place),
-        Err(Memory) => Judged::Memory,
-    }
-}
-
 /// Marks each command of the input.
 pub fn mark<S: Source, F: Folder, O: Sink, N: Entropy>(
     alloc: Global,
@@ -169,26 +142,8 @@ pub fn mark<S: Source, F: Folder, O: Sink, N: Entropy>(
         → result.why ≡ Why.Cut Cut.Output → ⊥ }
     ensures undrawn { result.why ≡ Why.Cut Cut.Entropy → ⊥ }
 {
-    let bytes = match load_file(alloc, files, 1, schemas, INFOS_LIMIT) {
-        Ok(bytes) => bytes,
-        Err(why) => return End::unread(why),
-    };
-    match read_infos(alloc, &bytes) {
+    match load_infos(alloc, files, 1, schemas) {
         Ok(infos) => judge_stream(alloc, Marker { infos, db }, input, out, entropy),
-        Err(fault) => End::unread(why_infos(fault)),
-    }
-}
-
-/// Why a run ends whose file of collection infos, the first of the words, is at fault.
-fn why_infos(fault: InfosFault) -> Why
-    ensures why { result ≡ infos_why fault }
-{
-    match fault {
-        InfosFault::Bad { number, document } => Why::Finished(Finish::Setup {
-            file: 1,
-            fault: SetupFault::Contents(number),
-            document,
-        }),
-        InfosFault::Memory => Why::Cut(Cut::Memory),
+        Err(why) => End::unread(why),
     }
 }

@@ -1,10 +1,13 @@
 //! The numbers of reasons and of faults of named files, for the diagnostic line.
 
 ghost use Rattle.std.specs.Prelude.{◌≡◌};
-ghost use Rattle.fle_runner.specs.Numbers.{infos_code, infos_number, reason_number, schema_code};
+ghost use Rattle.fle_runner.specs.Numbers.{infos_code, infos_number, master_code, master_number, reason_number};
+ghost use Rattle.fle_runner.specs.Numbers.{schema_code, vault_code, vault_number};
 
 use encrypt_schema::{InfoKind, Reason, SchemaFault};
 use fle_stream::Number;
+use key_vault::VaultKind;
+use local_kms::MasterFault;
 
 /// The number of a reason.
 pub fn number_of_reason(reason: Reason) -> Number
@@ -41,4 +44,48 @@ fn code_of_schema(fault: SchemaFault) -> u8
     ensures code { result ≡ schema_code fault }
 {
     fault as u8
+}
+
+/// The number of a fault of a document of a vault.
+pub fn number_of_vault(kind: VaultKind) -> Number
+    ensures number { result ≡ vault_number kind }
+{
+    Number {
+        value: code_of_vault(kind),
+    }
+}
+
+/// The same number as a byte.
+fn code_of_vault(kind: VaultKind) -> u8
+    ensures code { result ≡ vault_code kind }
+{
+    match kind {
+        VaultKind::Bson => 20,
+        VaultKind::Id => 21,
+        VaultKind::AltNames => 22,
+        VaultKind::Material => 23,
+        VaultKind::Provider => 24,
+        VaultKind::IdTwice => 25,
+        VaultKind::NameTwice => 26,
+        VaultKind::TooMany => 27,
+    }
+}
+
+/// The number of a fault of a master key's file.
+pub fn number_of_master(fault: MasterFault) -> Number
+    ensures number { result ≡ master_number fault }
+{
+    Number {
+        value: code_of_master(fault),
+    }
+}
+
+/// The same number as a byte.
+fn code_of_master(fault: MasterFault) -> u8
+    ensures code { result ≡ master_code fault }
+{
+    match fault {
+        MasterFault::Length => 10,
+        MasterFault::Base64 => 11,
+    }
 }

@@ -1,13 +1,16 @@
 //! The program over any objects of the outside.
 
-ghost use Rattle.std.specs.Prelude.{true, ◌≡◌, ◌⊎◌, None, map, string_bytes};
+ghost use Rattle.std.specs.Prelude.{true, ◌≡◌, ◌<◌, ℕ, List, None, Some, map, string_bytes};
 ghost use Rattle.std.specs.Int.{cast_unsigned, w64};
-ghost use Rattle.fle_outside.specs.Counts.{Rose};
-ghost use Rattle.fle_runner.specs.Keygen.{DrawsEight};
-ghost use Rattle.fle_runner.specs.Statuses.{AsksKey, MayEnd, ReadsNoInput};
+ghost use Rattle.std.specs.List.{All};
+ghost use Rattle.fle_outside.specs.Files.{Files};
+ghost use Rattle.fle_runner.specs.Headline.{SealsStream, Setup};
+ghost use Rattle.fle_runner.specs.HeadlineFiles.{IsEncrypt};
+ghost use Rattle.fle_runner.specs.Statuses.{EndsByVerb};
 ghost use Rattle.fle_runner.specs.Verbs.{task};
 ghost use Rattle.fle_runner.specs.Words.{form_of, DrawsNoBlock};
-ghost use Rattle.fle_stream.specs.Ended.{Ended, Settles, WritesAll, WritesSurely, DrawsSurely, IsUnread, world};
+ghost use Rattle.fle_stream.specs.Ended.{Ended, IsSettled, Settles, WritesAll, WritesSurely, DrawsSurely, IsUnread};
+ghost use Rattle.fle_stream.specs.Ended.{world};
 
 use crate::act::act;
 use crypto_hooks::Block256;
@@ -49,21 +52,20 @@ pub fn fle<S: Source, F: Folder, O: Sink, G: Sink, N: Entropy, B: Block256>(
     ensures whole { WritesAll (task (cast_unsigned w64 now_ms) (map string_bytes words.now))
         (world (S.seen input.old) (F.seen files.old) (O.seen out.old) (G.seen diag.old) (N.seen entropy.old))
         (world (S.seen input.new) (F.seen files.new) (O.seen out.new) (G.seen diag.new) (N.seen entropy.new)) result }
+    // `fle encrypt`: every accepted command was sealed, and nothing else changed.
+    ensures encrypts { (all : Files) (told : List ℕ) (x : Setup) → (F.seen files.old).told ≡ Some all
+        → (S.seen input.old).told ≡ Some told → IsEncrypt (map string_bytes words.now) all x
+        → All (λ b. b < 256) told → IsSettled result
+        → SealsStream x told (N.seen entropy.old) (N.seen entropy.new) (O.seen out.old) (O.seen out.new) }
     ensures read_sure { (S.seen input.old).assured ≡ true → (F.seen files.old).assured ≡ true
         → result ≡ Status.ReadFault → ⊥ }
     ensures write_sure { WritesSurely (task (cast_unsigned w64 now_ms) (map string_bytes words.now))
         (world (S.seen input.old) (F.seen files.old) (O.seen out.old) (G.seen diag.old) (N.seen entropy.old)) result }
     ensures entropy_sure { DrawsSurely (task (cast_unsigned w64 now_ms) (map string_bytes words.now))
         (world (S.seen input.old) (F.seen files.old) (O.seen out.old) (G.seen diag.old) (N.seen entropy.old)) result }
-    // `keys` ends with 0, 4, 5, 6 or 8, and `keygen` with these or 7.
-    ensures statuses { MayEnd (form_of (map string_bytes words.now)) result }
-    // They make no call on the input, so with 5 a named file failed.
-    ensures no_input { ReadsNoInput (form_of (map string_bytes words.now)) → input.new ≡ input.old }
-    ensures by_folder { ReadsNoInput (form_of (map string_bytes words.now)) → result ≡ Status.ReadFault
-        → Rose (F.seen files.old).faults (F.seen files.new).faults }
-    // Where `keygen` wants memory, it has drawn no block or the eight of a key.
-    ensures none_or_eight { AsksKey (form_of (map string_bytes words.now)) → result ≡ Status.Memory
-        → (entropy.new ≡ entropy.old) ⊎ DrawsEight (N.seen entropy.old) (N.seen entropy.new) }
+    // What each verb may end with, and what it then did with the input, the files and the blocks.
+    ensures verb { EndsByVerb (form_of (map string_bytes words.now)) result input.old input.new (F.seen files.old)
+        (F.seen files.new) N.seen entropy.old entropy.new }
     // The verbs without random blocks draw none, so they never end with 7.
     ensures undrawn { DrawsNoBlock (form_of (map string_bytes words.now)) → result ≡ Status.EntropyFault → ⊥ }
 {

@@ -1,9 +1,8 @@
 //! `show`: the text of each document, after MongoDB Extended JSON v2, and a line feed.
 
-ghost use Rattle.std.specs.Prelude.{true, ⊤, ◌≡◌, ◌<◌, ◌≤◌, List, ℕ, Some, IfOk};
+ghost use Rattle.std.specs.Prelude.{true, ⊤, ◌≡◌, ◌<◌, ◌≤◌, ◌++◌, ◌∷◌, [], List, ℕ, Some, IfOk};
 ghost use Rattle.fle_outside.specs.Counts.{Rose};
 ghost use Rattle.fle_outside.specs.Seen.{EntropySeen};
-ghost use Rattle.fle_runner.specs.Show as spec;
 ghost use Rattle.fle_runner.specs.Show.{show_task, show_verdict};
 ghost use Rattle.fle_stream.specs.Did.{Did};
 ghost use Rattle.fle_stream.specs.Judge.{JudgeIs};
@@ -14,7 +13,7 @@ ghost use Rattle.fle_stream.specs.Turn.{IsOfStream, RunTook};
 use crate::gathered::Gathered;
 use crate::placing::place_at;
 use bson_codec::RawDoc;
-use ext_json::{NOT_TEXT, first_bad_text, write_text};
+use ext_json::{NOT_TEXT, Shown, show_text};
 use fle_outside::{Entropy, Failed, Memory, Sink, Source, write_whole};
 use fle_stream::{Cut, End, Judge, Judged, Number, Why, judge_stream};
 use std::alloc::Global;
@@ -43,27 +42,25 @@ fn judge_text(alloc: Global, document: &RawDoc<'_>) -> Judged
     requires whole { document.now.start ≡ 0 }
     ensures judged { (e : EntropySeen) → JudgeIs (show_verdict document.now.tree) e e result }
 {
-    match first_bad_text(document) {
-        Some(at) => match place_at(alloc, document, at) {
-            Ok(place) => Judged::Refused(Number { value: NOT_TEXT }, place),
-            Err(Memory) => Judged::Memory,
-        },
-        None => match text_line(alloc, document) {
+    let mut text = Gathered::new(alloc);
+    match show_text(document, &mut text) {
+        Shown::Written => match line_of(text) {
             Ok(line) => Judged::Written(line),
             Err(Memory) => Judged::Memory,
         },
+        Shown::Bad(at) => match place_at(alloc, document, at) {
+            Ok(place) => Judged::Refused(Number { value: NOT_TEXT }, place),
+            Err(Memory) => Judged::Memory,
+        },
+        Shown::Failed => Judged::Memory,
     }
 }
 
-/// The text of a document and a line feed; `Memory` where there is none for them.
-fn text_line(alloc: Global, document: &RawDoc<'_>) -> Result<Vec<u8>, Memory>
-    ensures line { IfOk result (λ line. line.items ≡ spec.text_line document.now.tree) }
+/// A text and a line feed; `Memory` where there is none for it.
+fn line_of(text: Gathered) -> Result<Vec<u8>, Memory>
+    ensures line { IfOk result (λ line. line.items ≡ text.bytes.items ++ 10 ∷ []) }
 {
-    let mut line = Gathered::new(alloc);
-    match write_text(document, &mut line) {
-        Ok(()) => {}
-        Err(Failed) => return Err(Memory),
-    }
+    let mut line = text;
     match write_whole(&mut line, b"\n") {
         Ok(()) => Ok(line.bytes),
         Err(Failed) => Err(Memory),

@@ -2,8 +2,8 @@
 
 ghost use Rattle.std.specs.Prelude.{◌≡◌, ◌≤◌, Bool, not, true, nat_lt, length, map, string_bytes};
 ghost use Rattle.data_key.specs.Written.{size_of};
-ghost use Rattle.fle_runner.specs.Words.{are_names, AreFew, asked_form, each_once, form_of, keygen_words, keys_words};
-ghost use Rattle.fle_runner.specs.Words.{mark_words, show_words, times, verb_form};
+ghost use Rattle.fle_runner.specs.Words.{are_names, AreFew, asked_form, decrypt_words, each_once, encrypt_words};
+ghost use Rattle.fle_runner.specs.Words.{form_of, keygen_words, keys_words, mark_words, show_words, times, verb_form};
 
 /// A database's name has at most this many bytes.
 const MAX_DB: usize = 63;
@@ -40,6 +40,24 @@ pub enum Asked<'a> {
         /// The key's alternate names.
         names: &'a [String],
     },
+    /// Each command of a database with its protected values sealed.
+    Encrypt {
+        /// The database's name.
+        db: &'a str,
+        /// The name of the file of key documents.
+        keys: &'a str,
+        /// The name of the file of collection infos.
+        schemas: &'a str,
+        /// The name of the file of the master key.
+        master: &'a str,
+    },
+    /// Each document with its payloads opened.
+    Decrypt {
+        /// The name of the file of key documents.
+        keys: &'a str,
+        /// The name of the file of the master key.
+        master: &'a str,
+    },
 }
 
 /// What the words after the program's name ask for.
@@ -69,6 +87,12 @@ fn verb_words<'a>(verb: &str, words: &'a [String]) -> Asked<'a>
     }
     if verb == "keygen" {
         return keygen_words(words);
+    }
+    if verb == "encrypt" {
+        return encrypt_words(words);
+    }
+    if verb == "decrypt" {
+        return decrypt_words(words);
     }
     Asked::Nothing
 }
@@ -121,6 +145,41 @@ fn keygen_words(words: &[String]) -> Asked<'_>
         [master, names @ ..] if !master.is_empty() && are_names(names) => Asked::Keygen {
             master: master.as_str(),
             names,
+        },
+        _ => Asked::Nothing,
+    }
+}
+
+/// The words behind `encrypt`.
+fn encrypt_words(words: &[String]) -> Asked<'_>
+    ensures asked { asked_form result ≡ encrypt_words (map string_bytes words.now) }
+    ensures few { AreFew result }
+{
+    match words {
+        [db, keys, schemas, master]
+            if !db.is_empty()
+                && db.len() <= MAX_DB
+                && !keys.is_empty()
+                && !schemas.is_empty()
+                && !master.is_empty() => Asked::Encrypt {
+            db: db.as_str(),
+            keys: keys.as_str(),
+            schemas: schemas.as_str(),
+            master: master.as_str(),
+        },
+        _ => Asked::Nothing,
+    }
+}
+
+/// The words behind `decrypt`.
+fn decrypt_words(words: &[String]) -> Asked<'_>
+    ensures asked { asked_form result ≡ decrypt_words (map string_bytes words.now) }
+    ensures few { AreFew result }
+{
+    match words {
+        [keys, master] if !keys.is_empty() && !master.is_empty() => Asked::Decrypt {
+            keys: keys.as_str(),
+            master: master.as_str(),
         },
         _ => Asked::Nothing,
     }

@@ -52,3 +52,23 @@ pub returns-in-Keygen-clause-placed : goal.returns-in-Keygen-clause-placed
 returns-in-Keygen-clause-placed g c = λ all has.
     ends_task _ (ap (λ (f : Option Form). task_of c.args.time f all) (sym c.in-Keygen.ensures.asked))
     (c.keygen.ensures.placed all has)
+
+pub returns-in-Encrypt-clause-did : goal.returns-in-Encrypt-clause-did
+returns-in-Encrypt-clause-did g c = λ all told has is.
+    did_task (ap (λ (f : Option Form). task_of c.args.time f all) (sym c.in-Encrypt.ensures.asked))
+    (c.encrypt.ensures.did all told has is)
+
+pub returns-in-Encrypt-clause-placed : goal.returns-in-Encrypt-clause-placed
+returns-in-Encrypt-clause-placed g c = λ all has.
+    ends_task _ (ap (λ (f : Option Form). task_of c.args.time f all) (sym c.in-Encrypt.ensures.asked))
+    (c.encrypt.ensures.placed all has)
+
+pub returns-in-Decrypt-clause-did : goal.returns-in-Decrypt-clause-did
+returns-in-Decrypt-clause-did g c = λ all told has is.
+    did_task (ap (λ (f : Option Form). task_of c.args.time f all) (sym c.in-Decrypt.ensures.asked))
+    (c.decrypt.ensures.did all told has is)
+
+pub returns-in-Decrypt-clause-placed : goal.returns-in-Decrypt-clause-placed
+returns-in-Decrypt-clause-placed g c = λ all has.
+    ends_task _ (ap (λ (f : Option Form). task_of c.args.time f all) (sym c.in-Decrypt.ensures.asked))
+    (c.decrypt.ensures.placed all has)

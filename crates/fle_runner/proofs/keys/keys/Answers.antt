@@ -1,57 +1,41 @@
--- The file is loaded and read, and then its keys are told.
-use Rattle.std.proofs.Common.{◌∙◌, ap, arith}
+-- The file is loaded, and then its keys are told.
+use Rattle.std.proofs.Common.{arith}
 use Rattle.fle_outside.specs.Files.{file_of}
-use Rattle.fle_runner.specs.Keys.{key_lines, vault_limit, vault_task}
-use Rattle.fle_runner.specs.Mark.{plain_plan}
-use Rattle.fle_stream.proofs.Programs.{did_task, did_load, ends_task, ends_load}
-use Rattle.fle_runner.proofs.Vaults.{did_vault, ends_text, ends_vault, lines_size}
-use Rattle.key_vault.specs.Loading.{vault}
+use Rattle.fle_runner.specs.Keys.{key_lines}
+use Rattle.fle_runner.specs.Setup.{with_vault}
+use Rattle.fle_runner.specs.Verdicts.{plain_plan}
+use Rattle.fle_stream.specs.Task.{makes}
+use Rattle.fle_stream.proofs.Programs.{did_task, ends_task}
+use Rattle.fle_runner.proofs.Loaded.{did_stop, ends_stop}
+use Rattle.fle_runner.proofs.Vaults.{ends_text, lines_size}
 use Rattle.fle_runner.proofs.keys.keys.Goals as goal
+
+pub returns-in-Ok-clause-did : goal.returns-in-Ok-clause-did
+returns-in-Ok-clause-did g c = λ all told after entropy has is.
+    let from = c.in-Ok.ensures.leads all has (λ keys. makes (plain_plan (key_lines keys))) in
+    let did = rw c.keys.ensures.same at c.write_keys.ensures.did told after entropy is in
+    did_task from did
+
+pub returns-in-Ok-clause-placed : goal.returns-in-Ok-clause-placed
+returns-in-Ok-clause-placed g c = λ all has.
+    let from = c.in-Ok.ensures.leads all has (λ keys. makes (plain_plan (key_lines keys))) in
+    ends_task _ from (ends_text (plain_plan (key_lines c.in-Ok.vault)) _ c.write_keys.ensures.kind)
+
+pub returns-in-Ok-clause-out_sure : goal.returns-in-Ok-clause-out_sure
+returns-in-Ok-clause-out_sure g c = λ all told has enough at.
+    let from = c.in-Ok.ensures.leads all has (λ keys. makes (plain_plan (key_lines keys))) in
+    let size = lines_size _ told c.in-Ok.vault from in
+    let sure = rw c.keys.ensures.same at c.write_keys.ensures.out_sure in
+    sure (omega (arith, enough, size)) at
 
 pub returns-in-Err-clause-did : goal.returns-in-Err-clause-did
 returns-in-Err-clause-did g c = λ all told after entropy has is.
     rw c.unread.ensures.unread
-    (did_load 1 vault_limit (file_of all c.args.vault.now) c.in-Err.why (λ bytes. vault_task (vault bytes)) told _ _ _
-    (c.in-Err.ensures.load all has) is)
+    (did_stop (with_vault 1 (file_of all c.args.vault.now)) c.in-Err.why
+    (λ keys. makes (plain_plan (key_lines keys))) told _ _ _ (c.in-Err.ensures.leads all has) is)
 
 pub returns-in-Err-clause-placed : goal.returns-in-Err-clause-placed
 returns-in-Err-clause-placed g c = λ all has.
     rw c.unread.ensures.unread
-    (ends_load 1 vault_limit (file_of all c.args.vault.now) c.in-Err.why (λ bytes. vault_task (vault bytes))
-    (c.in-Err.ensures.load all has))
-
-pub returns-in-Ok-load-clause-did : goal.returns-in-Ok-load-clause-did
-returns-in-Ok-load-clause-did g c = λ all told after entropy has is.
-    let read = rw c.deref.ensures.value at c.in-Ok-load.ensures.loaded in
-    let from = c.in-Ok.ensures.load all has (λ bytes. vault_task (vault bytes)) in
-    let did = rw c.keys.ensures.same at c.write_keys.ensures.did told after entropy is in
-    did_task (from ∙ ap vault_task read) did
-
-pub returns-in-Ok-load-clause-placed : goal.returns-in-Ok-load-clause-placed
-returns-in-Ok-load-clause-placed g c = λ all has.
-    let read = rw c.deref.ensures.value at c.in-Ok-load.ensures.loaded in
-    let from = c.in-Ok.ensures.load all has (λ bytes. vault_task (vault bytes)) in
-    ends_task _ (from ∙ ap vault_task read) (ends_text
-    (plain_plan (key_lines c.in-Ok-load.vault)) _ c.write_keys.ensures.kind)
-
-pub returns-in-Ok-load-clause-out_sure : goal.returns-in-Ok-load-clause-out_sure
-returns-in-Ok-load-clause-out_sure g c = λ all told has enough at.
-    let read = rw c.deref.ensures.value at c.in-Ok-load.ensures.loaded in
-    let from = c.in-Ok.ensures.load all has (λ bytes. vault_task (vault bytes)) in
-    let size = lines_size _ told c.in-Ok-load.vault (from ∙ ap vault_task read) in
-    let sure = rw c.keys.ensures.same at c.write_keys.ensures.out_sure in
-    sure (omega (arith, enough, size)) at
-
-pub returns-clause-did : goal.returns-clause-did
-returns-clause-did g c = λ all told after entropy has is.
-    let read = rw c.deref.ensures.value at c.in-Err-load.ensures.loaded in
-    let from = c.in-Ok.ensures.load all has (λ bytes. vault_task (vault bytes)) in
-    rw (c.unread-in-Err-load.ensures.unread, c.why_vault.ensures.why)
-    (did_vault _ (vault c.in-Ok.bytes.items) c.in-Err-load.fault told _ _ _ from read is)
-
-pub returns-clause-placed : goal.returns-clause-placed
-returns-clause-placed g c = λ all has.
-    let read = rw c.deref.ensures.value at c.in-Err-load.ensures.loaded in
-    let from = c.in-Ok.ensures.load all has (λ bytes. vault_task (vault bytes)) in
-    rw (c.unread-in-Err-load.ensures.unread, c.why_vault.ensures.why)
-    (ends_vault _ (vault c.in-Ok.bytes.items) c.in-Err-load.fault from read)
+    (ends_stop (with_vault 1 (file_of all c.args.vault.now)) c.in-Err.why
+    (λ keys. makes (plain_plan (key_lines keys))) (c.in-Err.ensures.leads all has))

@@ -2,7 +2,7 @@
 use Rattle.std.proofs.Common.{[], refl, ◌∙◌}
 use Rattle.fle_outside.proofs.Drawings.{draws_none}
 use Rattle.fle_runner.specs.Keys.{key_lines}
-use Rattle.fle_runner.specs.Mark.{plain_plan}
+use Rattle.fle_runner.specs.Verdicts.{plain_plan}
 use Rattle.fle_stream.specs.Task.{makes}
 use Rattle.fle_stream.proofs.Programs.{did_memory}
 use Rattle.fle_runner.proofs.keys.write_keys.Goals as goal

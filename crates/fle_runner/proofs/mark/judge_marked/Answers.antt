@@ -6,7 +6,8 @@ use Rattle.std.specs.Prelude.{option_copied}
 use Rattle.encrypt_schema.specs.Language.Collection.{Collection}
 use Rattle.fle_stream.specs.Judge.{JudgeIs}
 use Rattle.fle_stream.specs.Plan.{Verdict}
-use Rattle.fle_runner.specs.Mark.{refuses, verdict_into}
+use Rattle.fle_runner.specs.Mark.{verdict_into}
+use Rattle.fle_runner.specs.Verdicts.{refuses}
 use Rattle.fle_runner.proofs.Verdicts.{into_none}
 use Rattle.fle_runner.proofs.mark.judge_marked.Goals as goal
 

@@ -5,6 +5,7 @@ use Rattle.std.specs.Int.{cast_unsigned, w64}
 use Rattle.fle_stream.specs.Ended.{IsSettled}
 use Rattle.fle_stream.specs.declared.status.Status.{Status}
 use Rattle.fle_stream.proofs.Endings.{settled_of, whole_of}
+use Rattle.fle_runner.proofs.HeadlineFiles.{encrypts}
 use Rattle.fle_runner.proofs.program.fle.Goals as goal
 
 pub returns-clause-ended : goal.returns-clause-ended
@@ -44,6 +45,12 @@ returns-clause-whole g c =
     whole_of (c.act-end.ensures.did all told has is).ran
     (subst (λ (s : Status). IsSettled s) c.report.ensures.status settled))
 
+pub returns-clause-encrypts : goal.returns-clause-encrypts
+returns-clause-encrypts g c = λ all told x has is asks bytes settled.
+    encrypts c.cast_unsigned.result _ all told x _ _ _ _ asks bytes
+    (whole_of (c.act-end.ensures.did all told has is).ran
+    (subst (λ (s : Status). IsSettled s) c.report.ensures.status settled))
+
 pub returns-clause-write_sure : goal.returns-clause-write_sure
 returns-clause-write_sure g c =
     let same : c.cast_unsigned.result ≡ cast_unsigned w64 c.args.now_ms =
@@ -55,3 +62,11 @@ returns-clause-entropy_sure g c =
     let same : c.cast_unsigned.result ≡ cast_unsigned w64 c.args.now_ms =
     c.cast_unsigned.ensures ∙ ap (cast_unsigned w64) (to_z-of_z w64 c.args.now_ms c.ranges.now_ms) in
     rw (sym same) (search rules)
+
+pub returns-clause-verb : goal.returns-clause-verb
+returns-clause-verb g c = record {
+  allowed = search rules;
+  no_input = search rules;
+  by_folder = search rules;
+  none_or_eight = search rules;
+}

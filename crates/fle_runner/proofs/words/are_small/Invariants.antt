@@ -1,4 +1,4 @@
-use Rattle.std.proofs.Common.{◌≡◌, ◌≤◌, ◌+◌, drop, map}
+use Rattle.std.proofs.Common.{◌≡◌, ◌+◌, drop, map}
 use Rattle.std.specs.Prelude.{string_bytes}
 use Rattle.data_key.specs.Written.{size_of}
 use Rattle.fle_runner.proofs.words.are_small.Given as goal

@@ -1,14 +1,22 @@
--- A refusal is what the command comes to.
+-- A refusal, or the limit, is what the document comes to.
 use Rattle.std.proofs.Common.{sym, subst}
+use Rattle.fle_outside.proofs.Drawings.{draws_none}
 use Rattle.fle_runner.proofs.Marks.{judged_memory}
 use Rattle.fle_stream.specs.Judge.{JudgeIs}
 use Rattle.fle_stream.specs.Plan.{Verdict}
-use Rattle.fle_runner.proofs.mark.judge_fault.Goals as goal
+use Rattle.fle_stream.specs.declared.judging.Judged.TheVariants as judgements
+use Rattle.fle_runner.proofs.refusing.judge_stop.Goals as goal
 
 pub returns-in-Refused : goal.returns-in-Refused
 returns-in-Refused c = record {
   judged = λ v e says. subst (λ (w : Verdict). JudgeIs w e e c.refuse.result) (sym (rw c.in-Refused.is at says))
       (c.refuse.ensures.judged e);
+}
+
+pub returns-in-TooLong : goal.returns-in-TooLong
+returns-in-TooLong c = record {
+  judged = λ v e says. subst (λ (w : Verdict). JudgeIs w e e judgements.TooLong) (sym (rw c.in-TooLong.is at says))
+      (draws_none e);
 }
 
 pub returns-in-Memory : goal.returns-in-Memory

@@ -1,0 +1,168 @@
+-- What a run of `encrypt` wrote whose outputs were all written: each accepted command, sealed.
+use Rattle.std.proofs.Common.{◌≡◌, ℕ, ◌+◌, ◌^◌, ◌<◌, ◌∙◌, Bool, true, false, cond, nat_lt, Option, Some, None, Result}
+use Rattle.std.proofs.Common.{Ok, Err, List, [], ◌∷◌, ◌++◌, length, take, drop, map, refl, sym, ap, ap₂, subst, arith}
+use Rattle.std.specs.List.{All}
+use Rattle.std.specs.Prelude.{flat_map}
+use Rattle.std.proofs.lemmas.List.{length-drop, length-take-le, nil_from_length, take-append-drop}
+use Rattle.std.proofs.lemmas.List.Elements.{All-drop, All-take}
+use Rattle.bson_tree.specs.Spelling.{doc_bytes, items_bytes}
+use Rattle.bson_tree.specs.Tree.{Items}
+use Rattle.encrypt_schema.specs.Commands.Targets.{rows_of, verdict}
+use Rattle.encrypt_schema.specs.Commands.Visits.{Refusal, or_else, refused_at, roles}
+use Rattle.encrypt_schema.specs.declared.command.marks.Mark.{Mark}
+use Rattle.encrypt_schema.specs.declared.command.reason.Reason.{Reason}
+use Rattle.encrypt_schema.specs.Language.Policies.{policy_at}
+use Rattle.encrypt_schema.specs.Language.Row.{Row}
+use Rattle.fle_outside.specs.Blocks.{AreBlocks, Block, IsBlock}
+use Rattle.fle_outside.specs.Seen.{EntropySeen, SinkSeen}
+use Rattle.fle_outside.specs.Writing.{Gains}
+use Rattle.payload6.specs.Marking.{key_id}
+use Rattle.doc_rewrite.specs.Opened.{Keyring, reason_in}
+use Rattle.doc_rewrite.specs.Sealed.{sealed}
+use Rattle.doc_rewrite.specs.SealedCommand.{HasKey, HasRuleKeys}
+use Rattle.doc_rewrite.specs.Sites.{sites_of}
+use Rattle.doc_rewrite.proofs.SealedAsStated.{as_stated}
+use Rattle.context_machine.specs.Rings.{first_keyless, found_in, key_if, need_of, needs_of}
+use Rattle.fle_stream.specs.Ended.{Whole}
+use Rattle.fle_stream.specs.Task.{each, outcome_of}
+use Rattle.fle_stream.specs.Outcome.{Outcome, finished, judged, outcome, rest_finish}
+use Rattle.fle_stream.specs.Plan.{Output, Plan, Verdict, writes, refused, too_long, draws_of, written}
+use Rattle.fle_stream.specs.Streams.{Docs, doc, documents, ends, rest_size}
+use Rattle.fle_stream.specs.declared.why.Bound.TheVariants as bounds
+use Rattle.fle_stream.specs.declared.why.Finish.TheVariants as finishes
+use Rattle.command_marker.specs.Reply.{reply_limit}
+use Rattle.fle_runner.specs.Encrypt.{at_front, encrypt_verdict, seal_under, sealed_plan}
+use Rattle.fle_runner.specs.Headline.{AreByUuid, AreSealedUnder, IsSealedUnder, Setup, accepted, if_accepted, sites_in}
+use Rattle.fle_runner.specs.Headline.{SealsStream, verdict_of}
+use Rattle.fle_runner.specs.Verdicts.{by_refusal, sized_plan}
+use Rattle.fle_runner.proofs.HeadlineReads.{AreRead, documents_read}
+
+-- ---- an accepted command
+
+unrefused : (c : Items) (r : Option Refusal) (v : Verdict) (plan : Plan) → by_refusal c r v ≡ writes plan
+    → (r ≡ None) × (v ≡ writes plan)
+unrefused c None v plan e = (refl, e)
+unrefused c (Some r) v plan e = absurd cc
+
+below : (b : Bool) (p plan : Plan) → cond b too_long (writes p) ≡ writes plan → plan ≡ p
+below true p plan e = absurd cc
+below false p plan e = cc
+
+-- nothing of it is refused, all of its keys are to be had, and what is written is the sealed command
+pub record IsAccepted (x : Setup) (c : Items) (plan : Plan) : Type 0 where
+  pub none : verdict x.db x.infos 0 c ≡ None
+  pub keyed : first_keyless x.keys (needs_of (rows_of x.infos c) (at_front c)) ≡ None
+  pub is : plan ≡ sealed_plan x.keys (sites_in x c) c
+
+pub is_accepted : (x : Setup) (c : Items) (plan : Plan) → verdict_of x c ≡ writes plan → IsAccepted x c plan
+unfolding encrypt_verdict
+is_accepted x c plan e =
+    let rows = rows_of x.infos c in
+    let p = sealed_plan x.keys (sites_in x c) c in
+    let a = unrefused c (verdict x.db x.infos 0 c) (seal_under x.keys rows c) plan e in
+    let b = unrefused c (first_keyless x.keys (needs_of rows (at_front c))) (sized_plan p) plan a.1 in
+    record { none = a.0; keyed = b.0; is = below (nat_lt reply_limit p.size) p plan b.1 }
+
+-- ---- the keys of its rules
+
+neither : (a b : Option Refusal) → or_else a b ≡ None → (a ≡ None) × (b ≡ None)
+neither None b e = (refl, e)
+neither (Some r) b e = absurd cc
+
+module _ (keys : Keyring) (uuids : AreByUuid keys) where
+  had : (id : List ℕ) (at : ℕ) (r : Result (List ℕ) Reason) → keys id ≡ r → refused_at at (reason_in r) ≡ None
+      → HasKey (found_in keys) id
+  had id at (Ok key) is e = (key, ap key_if is, uuids id key is)
+  had id at (Err reason) is e = absurd cc
+
+  rule_keys : (rows : List Row) (ms : List Mark) → first_keyless keys (map need_of (sites_of rows ms)) ≡ None
+      → HasRuleKeys (found_in keys) rows ms
+  rule_keys rows [] e = tt
+  rule_keys rows (m ∷ ms) e =
+      let id = key_id (policy_at m.policy rows).key in
+      let both = neither (refused_at m.start (reason_in (keys id))) (first_keyless keys (map need_of
+      (sites_of rows ms)))
+      e in
+      (had id m.start (keys id) refl both.0, rule_keys rows ms both.1)
+
+-- ---- the stream
+
+-- what is written of these outputs with these blocks is the sealed form of these commands
+pub record Sealing (x : Setup) (cs : List Items) (outputs : List Output) (blocks : List Block) : Type 0 where
+  pub sealed : List Items
+  pub each : AreSealedUnder x cs blocks sealed
+  pub bytes : flat_map doc_bytes sealed ≡ written outputs blocks
+
+module _ (x : Setup) (uuids : AreByUuid x.keys) where
+  sealed_under : (c : Items) (plan : Plan) (own : List Block) → All (λ b. b < 256) (items_bytes c)
+      → IsAccepted x c plan → AreBlocks own → length own ≡ plan.draws
+      → IsSealedUnder x c own (sealed (found_in x.keys) (sites_in x c) own (at_front c))
+  sealed_under c plan own bytes a are count = record {
+    command = as_stated (found_in x.keys) (rows_of x.infos c) (at_front c) own bytes are
+        (rule_keys x.keys uuids (rows_of x.infos c) (roles (rows_of x.infos c) 0 c) a.keyed);
+    count = count ∙ ap (λ (p : Plan). p.draws) a.is;
+    vectors = refl;
+  }
+
+  none : (blocks : List Block) → length blocks ≡ 0 → Sealing x [] [] blocks
+  none blocks few = record { sealed = []; each = nil_from_length blocks (few); bytes = refl }
+
+  one : (b : Bool) (w : Verdict) (number n : ℕ) (c : Items) (cs : List Items) (o last : Outcome) (blocks : List Block)
+      → All (λ b. b < 256) (items_bytes c) → verdict_of x c ≡ w → last.outputs ≡ []
+      → ((rest : List Block) → AreBlocks rest → length rest ≡ draws_of o.outputs → Sealing x cs o.outputs rest)
+      → AreBlocks blocks → length blocks ≡ draws_of (cond b (judged w number n o) last).outputs
+      → Sealing x (cond b (if_accepted w c cs) []) (cond b (judged w number n o) last).outputs blocks
+  one false w number n c cs o last blocks bytes e nothing others are count =
+      subst (λ (os : List Output). Sealing x [] os blocks) (sym nothing)
+      (none blocks (count ∙ ap draws_of nothing))
+  one true (refused reason place) number n c cs o last blocks bytes e nothing others are count = none blocks count
+  one true too_long number n c cs o last blocks bytes e nothing others are count = none blocks count
+  one true (writes plan) number n c cs o last blocks bytes e nothing others are count =
+      let own = take plan.draws blocks in
+      let rest = drop plan.draws blocks in
+      let a = is_accepted x c plan e in
+      let own_long : length own ≡ plan.draws = length-take-le plan.draws blocks (omega (arith, count)) in
+      let rest_long : length rest ≡ draws_of o.outputs = omega (arith, count, length-drop plan.draws blocks) in
+      let s = others rest (All-drop IsBlock plan.draws blocks are) rest_long in
+      let first = sealed_under c plan own bytes a (All-take IsBlock plan.draws blocks are) own_long in
+      record {
+        sealed = sealed (found_in x.keys) (sites_in x c) own (at_front c) ∷ s.sealed;
+        each = (own, rest, sym (take-append-drop plan.draws blocks), first, s.each);
+        bytes = ap₂ (λ (xs ys : List ℕ). xs ++ ys) (ap (λ (p : Plan). p.bytes own) (sym a.is)) s.bytes;
+      }
+
+  ended : (b : Bool) (p q : Outcome) (blocks : List Block) → p.outputs ≡ [] → q.outputs ≡ []
+      → length blocks ≡ draws_of (cond b p q).outputs → Sealing x [] (cond b p q).outputs blocks
+  ended true p q blocks e f count =
+      subst (λ (os : List Output). Sealing x [] os blocks) (sym e) (none blocks (count ∙ ap draws_of e))
+  ended false p q blocks e f count =
+      subst (λ (os : List Output). Sealing x [] os blocks) (sym f) (none blocks (count ∙ ap draws_of f))
+
+  pub seals : (number taken : ℕ) (docs : Docs) (blocks : List Block) → AreRead docs → AreBlocks blocks
+      → length blocks ≡ draws_of (outcome (verdict_of x) number taken docs).outputs
+      → Sealing x (accepted (verdict_of x) taken docs) (outcome (verdict_of x) number taken docs).outputs blocks
+  unfolding outcome accepted
+  seals number taken (ends rest) blocks bytes are count =
+      ended (nat_lt taken (2 ^ 40)) (finished (rest_finish rest) number (rest_size rest))
+      (finished (finishes.Limit bounds.Stream) number 0) blocks refl refl count
+  seals number taken (doc n c docs) blocks bytes are count =
+      let v = verdict_of x in
+      one (nat_lt taken (2 ^ 40)) (v c) number n c (accepted v (taken + n) docs)
+      (outcome v (number + 1) (taken + n) docs) (finished
+      (finishes.Limit bounds.Stream) number 0) blocks bytes.0.bytes refl
+      refl (λ rest blocks_are long. seals (number + 1) (taken + n) docs rest bytes.1 blocks_are long) are count
+
+-- what a run wrote whose outputs were all written whole
+pub seals_stream : (x : Setup) (told : List ℕ) (entropy entropy_after : EntropySeen) (out out_after : SinkSeen)
+    → AreByUuid x.keys → All (λ b. b < 256) told
+    → Whole (outcome_of (each (verdict_of x)) told) entropy entropy_after out out_after
+    → SealsStream x told entropy entropy_after out out_after
+seals_stream x told entropy entropy_after out out_after uuids all w =
+    let s = seals x uuids 1 0 (documents told) w.drawn (documents_read told all) w.draws.blocks w.enough in
+    record {
+      sealed = s.sealed;
+      blocks = w.drawn;
+      each = s.each;
+      draws = w.draws;
+      gains = subst (λ (bytes : List ℕ). Gains out.told out_after.told bytes) (sym s.bytes) w.gains;
+    }

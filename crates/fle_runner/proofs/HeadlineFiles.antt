@@ -1,0 +1,80 @@
+-- Where the files of the words say what commands are sealed under, each command is sealed under it.
+use Rattle.std.proofs.Common.{◌≡◌, ℕ, ◌∙◌, false, nat_lt, Option, List, length, refl, sym, ap}
+use Rattle.std.proofs.Common.{subst, arith, ◌<◌}
+use Rattle.std.specs.List.{All}
+use Rattle.std.proofs.lemmas.Bool.Decides.{nat_tests}
+use Rattle.encrypt_schema.specs.Language.Collection.{Collection}
+use Rattle.context_machine.specs.Rings.{ring}
+use Rattle.data_key.specs.declared.key_doc.KeyDoc.{KeyDoc}
+use Rattle.doc_rewrite.specs.Opened.{Keyring}
+use Rattle.fle_outside.specs.Files.{Files, file_of}
+use Rattle.fle_outside.specs.Seen.{EntropySeen, SinkSeen}
+use Rattle.fle_stream.specs.Ended.{Whole}
+use Rattle.fle_stream.specs.Task.{Task, each, outcome_of, with_file}
+use Rattle.key_vault.specs.Loading.{vault}
+use Rattle.local_kms.specs.Master.{master_in}
+use Rattle.fle_runner.specs.Encrypt.{encrypt_verdict}
+use Rattle.fle_runner.specs.Headline.{AreByUuid, SealsStream, Setup, verdict_of}
+use Rattle.fle_runner.specs.HeadlineFiles.{HoldSetup, HoldsBytes, IsEncrypt}
+use Rattle.fle_runner.specs.Infos.{infos_read}
+use Rattle.fle_runner.specs.Setup.{infos_limit, infos_or, master_limit, master_or, vault_limit, vault_or}
+use Rattle.fle_runner.specs.Setup.{with_infos, with_master, with_vault}
+use Rattle.fle_runner.specs.Verbs.{task, task_of}
+use Rattle.fle_runner.specs.Words.{Form, form_of}
+use Rattle.fle_runner.proofs.Headline.{seals_stream}
+use Rattle.fle_runner.proofs.HeadlineKeys.{vault_uuids}
+
+-- a file that is there and within its limit leads on
+leads : (number limit : ℕ) (all : Files) (name bytes : List ℕ) (next : List ℕ → Task) → HoldsBytes all name limit bytes
+    → with_file number limit (file_of all name) next ≡ next bytes
+leads number limit all name bytes next held =
+    let within = held.within in
+    let short : nat_lt limit (length bytes) ≡ false = grind (arith, nat_tests) in
+    ap (λ (file : Option (List ℕ)). with_file number limit file next) held.there ∙ rw short refl
+
+-- what each command of the run comes to
+pub files_lead : (all : Files) (keys schemas master : List ℕ) (x : Setup) → HoldSetup all keys schemas master x
+    → with_vault 1 (file_of all keys) (λ held. with_infos 2 (file_of all schemas) (λ infos.
+    with_master 3 (file_of all master) (λ key. each (encrypt_verdict (ring held key) infos x.db))))
+    ≡ each (verdict_of x)
+files_lead all keys schemas master x h =
+    let third : List KeyDoc → List Collection → List ℕ → Task =
+    λ (held : List KeyDoc) (infos : List Collection) (key : List ℕ). each (encrypt_verdict
+    (ring held key) infos x.db) in
+    let second : List KeyDoc → List Collection → Task =
+    λ (held : List KeyDoc) (infos : List Collection). with_master 3 (file_of all master) (third held infos) in
+    let first : List KeyDoc → Task =
+    λ (held : List KeyDoc). with_infos 2 (file_of all schemas) (second held) in
+    leads 1 vault_limit all keys h.vault_bytes (λ bytes. vault_or 1 first (vault bytes)) h.vault_file
+    ∙ ap (vault_or 1 first) h.vault_says
+    ∙ leads 2 infos_limit all schemas h.schemas_bytes (λ bytes. infos_or 2 (second h.vault_keys) (infos_read bytes))
+    h.schemas_file
+    ∙ ap (infos_or 2 (second h.vault_keys)) h.schemas_say
+    ∙ leads 3 master_limit all master h.master_bytes (λ bytes. master_or 3 (third h.vault_keys x.infos)
+    (master_in bytes))
+    h.master_file
+    ∙ ap (master_or 3 (third h.vault_keys x.infos)) h.master_says
+    ∙ ap (λ (ks : Keyring). each (encrypt_verdict ks x.infos x.db)) (sym h.opened)
+
+-- the data keys are had by UUIDs
+pub held_uuids : (all : Files) (keys schemas master : List ℕ) (x : Setup) → HoldSetup all keys schemas master x
+    → AreByUuid x.keys
+held_uuids all keys schemas master x h =
+    subst AreByUuid (sym h.opened) (vault_uuids h.vault_bytes h.master_key h.vault_keys h.vault_says)
+
+-- words and files ask that each command be sealed
+pub task_is : (now : ℕ) (words : List (List ℕ)) (all : Files) (x : Setup) → IsEncrypt words all x
+    → task now words all ≡ each (verdict_of x)
+task_is now words all x h =
+    ap (λ (form : Option Form). task_of now form all) h.form
+    ∙ files_lead all h.keys h.schemas h.master x h.files
+
+-- what a run of `encrypt` wrote whose outputs were all written
+pub encrypts : (now : ℕ) (words : List (List ℕ)) (all : Files) (told : List ℕ) (x : Setup)
+    (entropy entropy_after : EntropySeen) (out out_after : SinkSeen)
+    → IsEncrypt words all x → All (λ b. b < 256) told
+    → Whole (outcome_of (task now words all) told) entropy entropy_after out out_after
+    → SealsStream x told entropy entropy_after out out_after
+encrypts now words all told x entropy entropy_after out out_after h bytes w =
+    seals_stream x told entropy entropy_after out out_after (held_uuids all h.keys h.schemas h.master x h.files) bytes
+    (subst (λ (t : Task). Whole (outcome_of t told) entropy entropy_after out out_after) (task_is now words all x h) w)

@@ -1,0 +1,41 @@
+-- The keys kept are the vault's for the command's values.
+use Rattle.std.proofs.Common.{◌≤◌, length, arith, subst, sym}
+use Rattle.bson_codec.specs.Borrowed.{At}
+use Rattle.context_machine.specs.Waiting.{wanted_of}
+use Rattle.encrypt_schema.specs.Commands.Targets.{rows_in}
+use Rattle.fle_runner.proofs.Fed.{few_needs}
+use Rattle.fle_runner.proofs.Seals.{keys_sealed, keys_told}
+use Rattle.fle_runner.proofs.sealing.judge_wanting.Goals as goal
+
+pub with_keys-state-requires-clause-few : goal.with_keys-state-requires-clause-few
+with_keys-state-requires-clause-few g c =
+    subst (λ (d : At). length (wanted_of c.args.state.info d) ≤ 16777216) (sym c.requires.same)
+    (omega (arith, few_needs (rows_in c.args.state.info) c.args.command.now, c.requires.small))
+
+pub returns-in-Ok-clause-judged : goal.returns-in-Ok-clause-judged
+returns-in-Ok-clause-judged g c =
+    keys_sealed c.args.keys.now c.args.cache.now.master c.args.command.now c.args.state c.with_keys-state.result
+    c.in-Ok.state (g.N.Entropy.seen c.args.entropy.now) (g.N.Entropy.seen c.judge_ready.new.entropy)
+    c.judge_ready.result
+    (record {
+      whole = c.requires.whole;
+      here = c.requires.same;
+      same_command = c.with_keys-state.ensures.command;
+      same_info = c.with_keys-state.ensures.info;
+      fed = c.with_keys-state.ensures.fed;
+    })
+    c.in-Ok.ensures.ready c.in-Ok.ensures.opened c.in-Ok.ensures.fits c.judge_ready.ensures.judged
+
+pub returns-clause-judged : goal.returns-clause-judged
+returns-clause-judged g c =
+    c.judge_stop.ensures.judged _ (g.N.Entropy.seen c.args.entropy.now)
+    (keys_told c.args.keys.now c.args.cache.now.master c.args.command.now c.args.state c.with_keys-state.result
+    c.in-Err.stop
+    (record {
+      whole = c.requires.whole;
+      here = c.requires.same;
+      same_command = c.with_keys-state.ensures.command;
+      same_info = c.with_keys-state.ensures.info;
+      fed = c.with_keys-state.ensures.fed;
+    })
+    c.in-Err.ensures.stop)

@@ -1,0 +1,103 @@
+-- MongoDB Client Side Encryption, `encrypt` over a stream of commands: every accepted command was sealed, and nothing
+-- else changed.
+use Rattle.std.specs.Prelude.{◌≡◌, ℕ, ◌+◌, ◌^◌, ◌≤◌, nat_lt, Ok, None, List, [], ◌∷◌, ◌++◌, length, flat_map}
+use Rattle.std.specs.Prelude.{if◌then◌else◌}
+use Rattle.bson_tree.specs.Spelling.{doc_bytes}
+use Rattle.bson_tree.specs.Tree.{Items}
+use Rattle.bson_codec.specs.Layout.{IsDoc}
+use Rattle.encrypt_schema.specs.Commands.Targets.{rows_of}
+use Rattle.encrypt_schema.specs.Commands.Visits.{content_verdict, roles}
+use Rattle.encrypt_schema.specs.Language.Collection.{Collection}
+use Rattle.context_machine.specs.Rings.{found_in}
+use Rattle.doc_rewrite.specs.Opened.{Keyring}
+use Rattle.doc_rewrite.specs.PayloadFree.{IsPayloadFree}
+use Rattle.doc_rewrite.specs.Sealed.{sealed}
+use Rattle.doc_rewrite.specs.SealedCommand.{IsSealedCommand}
+use Rattle.doc_rewrite.specs.Sites.{draws_of, sites_of}
+use Rattle.doc_rewrite.specs.declared.site.Site.{Site}
+use Rattle.fle_outside.specs.Blocks.{Block}
+use Rattle.fle_outside.specs.Drawing.{Draws}
+use Rattle.fle_outside.specs.Seen.{EntropySeen, SinkSeen}
+use Rattle.fle_outside.specs.Writing.{Gains}
+use Rattle.fle_stream.specs.Plan.{Verdict, writes, refused, too_long}
+use Rattle.fle_stream.specs.Streams.{Docs, doc, documents, ends}
+use Rattle.fle_runner.specs.Encrypt.{at_front, encrypt_verdict}
+
+-- what commands are sealed under: which data key an id has, the rules of the collections, the database
+pub record Setup : Type 0 where
+  pub keys : Keyring
+  pub infos : List Collection
+  pub db : List ℕ
+
+-- what a command comes to
+abbrev pub verdict_of : Setup → Items → Verdict
+verdict_of x c = encrypt_verdict x.keys x.infos x.db c
+
+-- data keys are had by UUIDs alone, ids of 16 bytes
+abbrev pub AreByUuid : Keyring → Type 0
+AreByUuid keys = (id key : List ℕ) → keys id ≡ Ok key → length id ≡ 16
+
+-- a command that is accepted, before these; one that isn't ends the run
+abbrev pub if_accepted : Verdict → Items → List Items → List Items
+if_accepted (writes plan) c cs = c ∷ cs
+if_accepted (refused reason place) c cs = []
+if_accepted too_long c cs = []
+
+-- the commands of a stream before the first that isn't accepted, and before 2^40 bytes were taken
+unfoldable pub accepted : (Items → Verdict) → ℕ → Docs → List Items
+accepted v taken (ends rest) = []
+accepted v taken (doc n c docs) =
+    if nat_lt taken (2 ^ 40) then if_accepted (v c) c (accepted v (taken + n) docs) else []
+
+-- the values of a command that its rules protect
+abbrev pub sites_in : Setup → Items → List Site
+sites_in x c = sites_of (rows_of x.infos c) (roles (rows_of x.infos c) 0 c)
+
+-- a command and its sealed form: exactly its protected values are payloads of them under their rules' policies, and
+-- nothing else changed; its random payloads have these blocks as vectors, in reading order
+pub record IsSealedUnder (x : Setup) (c : Items) (blocks : List Block) (d : Items) : Type 0 where
+  pub command : IsSealedCommand (found_in x.keys) (rows_of x.infos c) c d
+  pub count : length blocks ≡ draws_of (sites_in x c)
+  pub vectors : d ≡ sealed (found_in x.keys) (sites_in x c) blocks (at_front c)
+
+-- the same for commands one by one, each with its own blocks
+abbrev pub AreSealedUnder : Setup → List Items → List Block → List Items → Type 0
+AreSealedUnder x [] blocks [] = blocks ≡ []
+AreSealedUnder x [] blocks (d ∷ ds) = ⊥
+AreSealedUnder x (c ∷ cs) blocks [] = ⊥
+AreSealedUnder x (c ∷ cs) blocks (d ∷ ds) =
+    (own : List Block)
+    × (rest : List Block)
+    × (blocks ≡ own ++ rest)
+    × IsSealedUnder x c own d
+    × AreSealedUnder x cs rest ds
+
+-- the run sealed each command that it accepted, with the blocks that it drew; it wrote the bytes of the sealed
+-- commands, one after another, and nothing else
+pub record SealsStream (x : Setup) (told : List ℕ) (entropy entropy_after : EntropySeen)
+    (out out_after : SinkSeen) : Type 0 where
+  pub sealed : List Items
+  pub blocks : List Block
+  pub each : AreSealedUnder x (accepted (verdict_of x) 0 (documents told)) blocks sealed
+  pub draws : Draws entropy entropy_after blocks
+  pub gains : Gains out.told out_after.told (flat_map doc_bytes sealed)
+
+-- commands that their sealed forms open to: each has a spelling, is accepted by its contents, and has no payload
+-- outside its protected values; the sealed one isn't too long for the input
+abbrev pub AreReadable : Setup → List Items → List Items → Type 0
+AreReadable x [] ds = Unit {0}
+AreReadable x (c ∷ cs) [] = Unit {0}
+AreReadable x (c ∷ cs) (d ∷ ds) =
+    IsDoc c
+    × (content_verdict (rows_of x.infos c) 0 c ≡ None)
+    × IsPayloadFree (rows_of x.infos c) c
+    × (length (doc_bytes d) ≤ 2 ^ 24)
+    × AreReadable x cs ds
+
+-- of commands that were accepted as they were read, what is left of that: no payload stands outside a command's
+-- protected values, and its sealed form isn't too long for the input
+abbrev pub AreOpenable : Setup → List Items → List Items → Type 0
+AreOpenable x [] ds = Unit {0}
+AreOpenable x (c ∷ cs) [] = Unit {0}
+AreOpenable x (c ∷ cs) (d ∷ ds) =
+    IsPayloadFree (rows_of x.infos c) c × (length (doc_bytes d) ≤ 2 ^ 24) × AreOpenable x cs ds
