@@ -1,5 +1,7 @@
 # Completion of fle for fish: put this file into ~/.config/fish/completions.
 complete -c fle -f
+complete -c fle -n __fish_use_subcommand -a encrypt -d "Write each command with its protected values sealed"
+complete -c fle -n __fish_use_subcommand -a decrypt -d "Write each document with its sealed values opened"
 complete -c fle -n __fish_use_subcommand -a mark -d "Write the marking reply to each command"
 complete -c fle -n __fish_use_subcommand -a show -d "Write the text of each document"
 complete -c fle -n __fish_use_subcommand -a keygen -d "Make a data key and write its document"
@@ -7,4 +9,6 @@ complete -c fle -n __fish_use_subcommand -a keys -d "Write a line for each key o
 complete -c fle -n __fish_use_subcommand -a --help -d "What fle does"
 complete -c fle -n __fish_use_subcommand -a --version -d "Which fle this is"
 complete -c fle -n '__fish_seen_subcommand_from mark; and test (count (commandline -opc)) -eq 3' -F
-complete -c fle -n '__fish_seen_subcommand_from keygen keys; and test (count (commandline -opc)) -eq 2' -F
+complete -c fle -n '__fish_seen_subcommand_from keygen keys decrypt; and test (count (commandline -opc)) -eq 2' -F
+complete -c fle -n '__fish_seen_subcommand_from decrypt; and test (count (commandline -opc)) -eq 3' -F
+complete -c fle -n '__fish_seen_subcommand_from encrypt; and contains (count (commandline -opc)) 3 4 5' -F
