@@ -12,6 +12,7 @@ pub record IsBlock (block : Block) : Type 0 where
   pub len : length block ≡ 16
   pub bytes : All (λ b. b < 256) block
 
+-- each of them has 16 bytes
 abbrev pub AreBlocks : List Block → Type 0
 AreBlocks blocks = All IsBlock blocks
 

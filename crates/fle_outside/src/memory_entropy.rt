@@ -42,7 +42,7 @@ impl MemEntropy {
     /// fail, and so does each call once no block is left. It is assured of its blocks where that
     /// list is empty.
     pub fn new(blocks: Vec<[u8; 16]>, failing: Vec<u64>) -> MemEntropy
-        ensures { result ≡ record { left = blocks.items; failing = failing.items; calls = 0; faults = 0 } }
+        ensures begins { result ≡ record { left = blocks.items; failing = failing.items; calls = 0; faults = 0 } }
     {
         MemEntropy {
             blocks,

@@ -38,7 +38,12 @@ impl MemFolder {
     /// counted from 0, fail. It is assured of never failing where that list is empty.
     pub fn new(files: Vec<(String, Vec<u8>)>, failing: Vec<u64>) -> MemFolder
         requires { HasDistinctNames (map entry files.items) }
-        ensures { result ≡ record { files = map entry files.items; failing = failing.items; calls = 0; faults = 0 } }
+        ensures begins { result ≡ record {
+          files = map entry files.items;
+          failing = failing.items;
+          calls = 0;
+          faults = 0;
+        } }
     {
         MemFolder {
             entries: files,

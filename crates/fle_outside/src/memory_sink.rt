@@ -52,7 +52,7 @@ impl MemSink {
         failing: Vec<u64>,
     ) -> Result<MemSink, Memory>
         requires { 0 < step }
-        ensures { IfOk result (λ s. s ≡ record {
+        ensures begins { IfOk result (λ s. s ≡ record {
           written = [];
           room = room;
           step = step;
@@ -76,7 +76,7 @@ impl MemSink {
 
     /// What it took so far.
     pub fn written(&self) -> &[u8]
-        ensures { result.now ≡ self.now.written }
+        ensures bytes { result.now ≡ self.now.written }
     {
         self.bytes.as_slice()
     }

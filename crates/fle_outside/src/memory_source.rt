@@ -47,7 +47,7 @@ impl MemSource {
     /// in `failing`, counted from 0, fail. It is assured of never failing where that list is empty.
     pub fn new(bytes: Vec<u8>, step: usize, failing: Vec<u64>) -> MemSource
         requires { 0 < step }
-        ensures { result ≡ record {
+        ensures begins { result ≡ record {
           left = bytes.items;
           taken = 0;
           step = step;

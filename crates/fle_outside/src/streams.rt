@@ -37,7 +37,7 @@ pub struct StderrSink<W> {
 impl<R: Read> StdinSource<R> {
     /// A source over this reader, with no fault so far.
     pub fn new(reader: R) -> StdinSource<R>
-        ensures { result ≡ record { reader = reader; taken = 0; faults = 0 } }
+        ensures begins { result ≡ record { reader = reader; taken = 0; faults = 0 } }
     {
         StdinSource {
             reader,
@@ -50,7 +50,7 @@ impl<R: Read> StdinSource<R> {
 impl<W: Write> StdoutSink<W> {
     /// A sink over this writer, with no fault so far.
     pub fn new(writer: W) -> StdoutSink<W>
-        ensures { result ≡ record { writer = writer; faults = 0 } }
+        ensures begins { result ≡ record { writer = writer; faults = 0 } }
     {
         StdoutSink { writer, faults: 0 }
     }
@@ -59,7 +59,7 @@ impl<W: Write> StdoutSink<W> {
 impl<W: Write> StderrSink<W> {
     /// A sink over this writer, with no fault so far.
     pub fn new(writer: W) -> StderrSink<W>
-        ensures { result ≡ record { writer = writer; faults = 0 } }
+        ensures begins { result ≡ record { writer = writer; faults = 0 } }
     {
         StderrSink { writer, faults: 0 }
     }

@@ -17,7 +17,7 @@ pub struct SystemEntropy<'a, R> {
 impl<'a, R: RandomSource> SystemEntropy<'a, R> {
     /// A source of blocks over this runtime, with no fault so far.
     pub fn new(runtime: &'a R) -> SystemEntropy<'a, R>
-        ensures { result.faults ≡ 0 }
+        ensures faultless { result.faults ≡ 0 }
     {
         SystemEntropy { runtime, faults: 0 }
     }

@@ -23,7 +23,7 @@ pub struct FileFolder<'a, R> {
 impl<'a, R: Files> FileFolder<'a, R> {
     /// A folder over this runtime, with no fault so far.
     pub fn new(runtime: &'a R) -> FileFolder<'a, R>
-        ensures { result.faults ≡ 0 }
+        ensures faultless { result.faults ≡ 0 }
     {
         FileFolder { runtime, faults: 0 }
     }
