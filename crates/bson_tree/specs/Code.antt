@@ -9,24 +9,30 @@ pub record Stack : Type 0 where
   pub trees : List Tree
   pub lists : List Items
 
+-- one more tree was read
 abbrev pub push_tree : Tree → Stack → Stack
 push_tree t s = record { trees = t ∷ s.trees; lists = s.lists }
 
+-- one more list of elements was read
 abbrev pub push_items : Items → Stack → Stack
 push_items is s = record { trees = s.trees; lists = is ∷ s.lists }
 
+-- the list that was read last; an empty one, where none was
 abbrev pub first_list : List Items → Items
 first_list [] = no_items
 first_list (is ∷ rest) = is
 
+-- the tree that was read last; an empty leaf, where none was
 abbrev pub first_tree : List Tree → Tree
 first_tree [] = leaf 0 []
 first_tree (t ∷ rest) = t
 
+-- what was read before the last
 abbrev pub rest_of : {A : Type 0} → List A → List A
 rest_of [] = []
 rest_of (x ∷ rest) = rest
 
+-- the type of the value that a word begins with, or 0
 abbrev pub first_byte : List ℕ → ℕ
 first_byte [] = 0
 first_byte (b ∷ rest) = b
@@ -52,6 +58,7 @@ abbrev mutual
   put_items no_items words = (2 ∷ []) ∷ words
   put_items (item name t is) words = (3 ∷ name) ∷ put_tree t (put_items is words)
 
+-- a word, read: 0 for a leaf, 1 for a document or an array, 2 for the end of a list, and 3 for an element
 abbrev pub take_word : List ℕ → Stack → Stack
 take_word [] s = s
 take_word (kind ∷ word) s =
@@ -59,6 +66,7 @@ take_word (kind ∷ word) s =
     (cond (kind == 1) (close_node (first_byte word) s)
     (cond (kind == 2) (push_items no_items s) (close_item word s)))
 
+-- words, read from the end
 abbrev pub take_words : List (List ℕ) → Stack
 take_words [] = record { trees = []; lists = [] }
 take_words (word ∷ words) = take_word word (take_words words)
@@ -75,12 +83,14 @@ mutual
   items_back (item name t is) words =
       ap (close_item name) (tree_back t (put_items is words) ∙ ap (push_tree t) (items_back is words))
 
+-- the list that words are read as
 abbrev pub read_items : List (List ℕ) → Items
 read_items words = first_list (take_words words).lists
 
 pub read_items-put_items : (is : Items) → read_items (put_items is []) ≡ is
 read_items-put_items is = ap (λ (s : Stack). first_list s.lists) (items_back is [])
 
+-- lists of elements are stored as words, which are read as the list they were made from
 abbrev pub coded_items : Coded Items
 coded_items = code_by (List (List ℕ)) (coded_list (coded_list coded_ℕ))
     (λ is. put_items is []) read_items read_items-put_items

@@ -13,6 +13,7 @@ pub deep_body_le : (tag : ℕ) (b : Body) → deep-Body b ≤ tree_size (body_tr
 deep_body_le tag (body.Raw bytes) = omega arith
 deep_body_le tag (body.Kids is) = omega arith
 
+-- no value of a list is deeper than the list is large: a walk down a tree ends by it
 pub falls : (pairs : List (List ℕ × Value)) → max (most (λ p. max 0 (max (deep-Value p.1) 0)) pairs) 0
     ≤ items_size (items_of pairs)
 falls [] = omega arith
