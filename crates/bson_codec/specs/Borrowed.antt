@@ -14,6 +14,7 @@ pub record At : Type 0 where
   pub tree : Items
   pub start : ℕ
 
+-- how the logic stores it: its elements, and the offset
 abbrev pub coded_at : Coded At
 coded_at = code_by (Items × ℕ) (coded× coded_items coded_ℕ) (λ a. (a.tree, a.start)) (λ p. record {
   tree = p.0;
@@ -26,14 +27,17 @@ pub record Elem : Type 0 where
   pub tree : Tree
   pub start : ℕ
 
+-- the name of a list's first element, as an element is stored
 abbrev pub one_name : Items → List ℕ
 one_name no_items = []
 one_name (item name t is) = name
 
+-- the value of a list's first element, as an element is stored
 abbrev pub one_tree : Items → Tree
 one_tree no_items = leaf 0 []
 one_tree (item name t is) = t
 
+-- how the logic stores it: a list of the element alone, and the offset
 abbrev pub coded_elem : Coded Elem
 coded_elem =
     code_by

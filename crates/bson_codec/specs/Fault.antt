@@ -24,8 +24,8 @@ fault kind offset = Err (record { kind = kind; offset = offset })
 abbrev pub fault_if : Bool → BsonKind → ℕ → Result (Unit {0}) BsonFault
 fault_if bad kind offset = if bad then fault kind offset else Ok tt
 
--- one reading after another, up to the first fault
 infixl 10 ◌>>=◌
+-- one reading after another, up to the first fault
 abbrev pub ◌>>=◌ : {A B : Type 0} → Result A BsonFault → (A → Result B BsonFault) → Result B BsonFault
 (Ok x) >>= f = f x
 (Err e) >>= f = Err e

@@ -39,6 +39,7 @@ abbrev pub before_zero : List ℕ → Option ℕ
 before_zero [] = None
 before_zero (b ∷ bs) = if b == 0 then Some 0 else option_map (λ n. n + 1) (before_zero bs)
 
+-- the length of a name that ends at its first 00, or the fault where no 00 stands up to the end
 abbrev pub name_by : ℕ → Option ℕ → Result ℕ BsonFault
 name_by end None = fault kinds.NoEnd end
 name_by end (Some n) = Ok n
@@ -118,6 +119,7 @@ raw_at f raws.Scope p bs = scope_at f p bs
 
 -- ---- elements
 
+-- the layout of a type byte that is known, or the fault of one that isn't, at its own offset
 abbrev pub layout_by : ℕ → Option ValueLayout → Result ValueLayout BsonFault
 layout_by p None = fault kinds.Tag p
 layout_by p (Some layout) = Ok layout
@@ -131,6 +133,7 @@ abbrev pub value_by : Reader → ℕ → ValueLayout → ℕ → List ℕ → Re
 value_by f tag values.Document p bs = f false p bs >>= λ x. Ok (node tag x.0, x.1)
 value_by f tag (values.Raw layout) p bs = raw_at f layout p bs >>= λ n. Ok (leaf tag (take n bs), n)
 
+-- the same under a name that stays folded in proofs
 unfoldable pub value_at : Reader → ℕ → ValueLayout → ℕ → List ℕ → Result (Tree × ℕ) BsonFault
 value_at f tag layout p bs = value_by f tag layout p bs
 

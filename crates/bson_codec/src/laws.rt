@@ -20,18 +20,19 @@ pub fn no_fault_where_spelled()
 
 /// A document is read at the front of bytes exactly where they begin with its spelling.
 pub fn front_where_spelled()
-    ensures { (bytes rest : List ℕ) (is : Items) → IsDoc is → bytes ≡ doc_bytes is ++ rest
+    ensures read { (bytes rest : List ℕ) (is : Items) → IsDoc is → bytes ≡ doc_bytes is ++ rest
         → front_document bytes ≡ Ok (is, length (doc_bytes is)) }
 {}
 
 /// No two documents have the same spelling.
 pub fn one_tree()
-    ensures { (is js : Items) → IsDoc is → IsDoc js → doc_bytes is ≡ doc_bytes js → is ≡ js }
+    ensures same { (is js : Items) → IsDoc is → IsDoc js → doc_bytes is ≡ doc_bytes js → is ≡ js }
 {}
 
 /// No spelling is a proper prefix of another one.
 pub fn no_proper_prefix()
-    ensures { (is js : Items) (rest : List ℕ) → IsDoc is → IsDoc js → doc_bytes is ≡ doc_bytes js ++ rest → rest ≡ [] }
+    ensures nothing_behind { (is js : Items) (rest : List ℕ) → IsDoc is → IsDoc js
+        → doc_bytes is ≡ doc_bytes js ++ rest → rest ≡ [] }
 {}
 
 /// Values at distinct places begin at distinct offsets: the place of the offset at which a value begins is its own,

@@ -3,4 +3,4 @@ use Rattle.bson_codec.proofs.Grammar.{nothing_follows}
 use Rattle.bson_codec.proofs.laws.no_proper_prefix.Goals as goal
 
 pub returns : goal.returns
-returns c = nothing_follows
+returns c = record { nothing_behind = nothing_follows }
