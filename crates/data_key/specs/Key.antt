@@ -19,6 +19,7 @@ id_in repeated = None
 abbrev pub names_of : Tree → Option (List (List ℕ))
 names_of t = if is_array t then (if are_strings (kids_of t) then Some (texts (kids_of t)) else None) else None
 
+-- the names by how `keyAltNames` stands: none where it is missing, at fault where it stands twice
 abbrev pub names_in : Standing → Option (List (List ℕ))
 names_in absent = Some []
 names_in (once t) = names_of t
@@ -35,11 +36,13 @@ abbrev pub provider_named : Option (List ℕ) → Option Provider
 provider_named None = None
 provider_named (Some text) = Some (if bytes_eq text (codes "local") then providers.Local else providers.Other)
 
+-- the provider by how `provider` stands in `masterKey`, where it is required
 abbrev pub provider_by : Standing → Option Provider
 provider_by absent = None
 provider_by (once t) = provider_named (text_of t)
 provider_by repeated = None
 
+-- the provider by how `masterKey` stands in the key document, where it is required
 abbrev pub provider_in : Standing → Option Provider
 provider_in absent = None
 provider_in (once t) = if is_document t then provider_by (standing (codes "provider") (kids_of t)) else None

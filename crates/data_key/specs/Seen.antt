@@ -19,13 +19,16 @@ abbrev pub names_seen : Option At → List (List ℕ)
 names_seen None = []
 names_seen (Some array) = texts array.tree
 
+-- the same, where the field isn't at fault
 abbrev pub some_names_seen : Option (Option At) → Option (List (List ℕ))
 some_names_seen None = None
 some_names_seen (Some array) = Some (names_seen array)
 
+-- the key that the fields of a document are
 abbrev pub key_seen : KeyFields → KeyDoc
 key_seen f = record { id = f.id; names = names_seen f.names; material = f.material.now; provider = f.provider }
 
+-- what reading a key document answers is what it says: the same key, or the same fault
 abbrev pub Says : Result KeyFields KeyFault → Result KeyDoc KeyFault → Type 0
 Says (Ok f) read = read ≡ Ok (key_seen f)
 Says (Err fault) read = read ≡ Err fault

@@ -14,6 +14,7 @@ stands_too t absent = once t
 stands_too t (once u) = repeated
 stands_too t repeated = repeated
 
+-- how a name stands in a document: not at all, once with this value, or more than once
 unfoldable pub standing : List ℕ → Items → Standing
 standing word no_items = absent
 standing word (item name t is) = if bytes_eq name word then stands_too t (standing word is) else standing word is

@@ -4,16 +4,19 @@ use Rattle.std.specs.Prelude.{Some, None, if◌then◌else◌}
 use Rattle.bson_tree.specs.Tree.{Tree, Items, no_items, item, tag_of, kids_of}
 use Rattle.bson_tree.specs.Spelling.{value_bytes}
 
--- the types that are looked at: string (02), document (03), array (04), binary (05)
+-- a string (02)
 abbrev pub is_string : Tree → Bool
 is_string t = tag_of t == 2
 
+-- a document (03)
 abbrev pub is_document : Tree → Bool
 is_document t = tag_of t == 3
 
+-- an array (04)
 abbrev pub is_array : Tree → Bool
 is_array t = tag_of t == 4
 
+-- a binary (05)
 abbrev pub is_binary : Tree → Bool
 is_binary t = tag_of t == 5
 
@@ -21,6 +24,7 @@ is_binary t = tag_of t == 5
 abbrev pub text_in : List ℕ → List ℕ
 text_in bytes = take (length bytes - 5) (drop 4 bytes)
 
+-- the text of a value, where it is a string
 abbrev pub text_of : Tree → Option (List ℕ)
 text_of t = if is_string t then Some (text_in (value_bytes t)) else None
 

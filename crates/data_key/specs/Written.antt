@@ -8,18 +8,19 @@ use Rattle.data_key.specs.declared.key_doc.KeyDoc.{KeyDoc}
 use Rattle.data_key.specs.declared.key_doc.Provider.TheVariants as providers
 use Rattle.data_key.specs.Key.{key_in}
 
--- BSON 1.1: a string (02), a binary of a subtype (05), a date (09) by the 64 bits of its milliseconds, an int (10) by
--- its
--- 32 bits
+-- BSON 1.1: a string (02)
 abbrev pub text : List ℕ → Tree
 text name = leaf 0x02 (string_bytes name)
 
+-- BSON 1.1: a binary (05) of a subtype
 abbrev pub binary : ℕ → List ℕ → Tree
 binary subtype contents = leaf 0x05 (binary_bytes subtype contents)
 
+-- BSON 1.1: a UTC datetime (09), by the 64 bits of its milliseconds
 abbrev pub date : ℕ → Tree
 date ms = leaf 0x09 (to_le_bytes w64 ms)
 
+-- BSON 1.1: a 32-bit integer (10), by its bits
 abbrev pub int : ℕ → Tree
 int n = leaf 0x10 (to_le_bytes w32 n)
 
