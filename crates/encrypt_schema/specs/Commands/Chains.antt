@@ -61,10 +61,11 @@ abbrev pub last_of : Chain → Link
 last_of (last l) = l
 last_of (onward l rest) = last_of rest
 
--- the station of the last place of a chain that begins below a value of this station, and its offence
+-- the station of the last place of a chain that begins below a value of this station
 abbrev pub station_along : List Row → Station → Chain → Station
 station_along rows s links = station rows (parent_along rows s links) (last_of links).entry
 
+-- the offence of the last place of a chain that begins below a value of this station
 abbrev pub offence_along : List ℕ → Option Collection → List Row → Station → Chain → Option Reason
 offence_along db info rows s links =
     offence db info rows (parent_along rows s links) (last_of links).elder (last_of links).entry
@@ -110,15 +111,16 @@ abbrev pub chain_inside : List ℕ → Items → Option Chain
 chain_inside [] is = None
 chain_inside (i ∷ place) is = chain_from [] i place is
 
--- a place inside a part of a command, read alike: a document of this station that begins at `at`, with its station
--- and its offence
+-- a place inside a part of a command, as it is visited: a document of this station that begins at `at`
 abbrev pub part_visit_at : List Row → Station → ℕ → Items → List ℕ → Option Visit
 part_visit_at rows s at is place =
     option_map (visit_along rows s (start_at at place is) (width_at place (node 3 is))) (chain_inside place is)
 
+-- the station of a place inside a part of a command
 abbrev pub part_station_at : List Row → Station → Items → List ℕ → Option Station
 part_station_at rows s is place = option_map (station_along rows s) (chain_inside place is)
 
+-- the offence of a place inside a part of a command
 abbrev pub part_offence_at : List ℕ → Option Collection → List Row → Station → Items → List ℕ → Option Reason
 part_offence_at db info rows s is place = option_and_then (offence_along db info rows s) (chain_inside place is)
 
@@ -171,9 +173,10 @@ sites rows c = flat_map (site_of rows c) (places c)
 abbrev pub mark_of : List Row → ℕ → Items → List ℕ → List Mark
 mark_of rows at c place = option_map_or (λ v. mark_at (station_of rows v) v) (visit_at rows at c place) []
 
--- the rule and the role of a mark, and of a site
+-- the rule and the role of a mark
 abbrev pub use_of_mark : Mark → ℕ × Role
 use_of_mark m = (m.policy, m.role)
 
+-- the rule and the role of a site
 abbrev pub use_of_site : Site → ℕ × Role
 use_of_site x = (x.policy, x.role)

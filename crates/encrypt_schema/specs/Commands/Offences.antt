@@ -31,11 +31,12 @@ use Rattle.encrypt_schema.specs.Commands.Stations.{Store, Compare, Bare, is_docu
 use Rattle.encrypt_schema.specs.Commands.Stations.{is_logical, is_equality, is_membership, is_random_field, dotted}
 use Rattle.encrypt_schema.specs.Commands.Stations.{station}
 
--- a reason where a test holds, and where it doesn't
+-- a reason where a test holds
 abbrev pub when : Bool → Reason → List Reason
 when true reason = reason ∷ []
 when false reason = []
 
+-- a reason where a test doesn't hold
 abbrev pub unless : Bool → Reason → List Reason
 unless test reason = when (not test) reason
 
@@ -43,11 +44,12 @@ unless test reason = when (not test) reason
 abbrev pub is_string : Entry → Bool
 is_string e = e.tag == 2
 
--- no bytes; no names
+-- there are no bytes
 abbrev pub is_empty : List ℕ → Bool
 is_empty [] = true
 is_empty (byte ∷ bytes) = false
 
+-- there are no names
 abbrev pub has_none : List (List ℕ) → Bool
 has_none [] = true
 has_none (name ∷ names) = false
@@ -146,13 +148,15 @@ command_lacks _ names = []
 abbrev pub again : List (List ℕ) → List (List ℕ) → Entry → List Reason
 again read elder e = when (is_again read elder e.name) BadField
 
--- the field of a name: no array; no document; one that can't be used
+-- the field of a name has to be an array
 abbrev pub want_array : List ℕ → Entry → List Reason
 want_array word e = when (has_name word e && not (is_array e)) BadField
 
+-- the field of a name has to be a document
 abbrev pub want_document : List ℕ → Entry → List Reason
 want_document word e = when (has_name word e && not (is_document e)) BadField
 
+-- the field of a name can't be used at all
 abbrev pub unusable : List ℕ → Entry → List Reason
 unusable word e = when (has_name word e) FieldNotAllowed
 
@@ -270,10 +274,11 @@ abbrev pub least : List Reason → Option Reason
 least [] = None
 least (reason ∷ reasons) = Some (lesser reason (least reasons))
 
--- the offence of a place in a pass: the least reason that holds of it
+-- the offence of a place in the target pass: the least reason that holds of it
 unfoldable pub target_offence : List ℕ → Station → List (List ℕ) → Entry → Option Reason
 target_offence db parent elder e = least (of_target db parent elder e)
 
+-- that of the view pass, under the collection's info
 unfoldable pub view_offence : Option Collection → Station → List (List ℕ) → Entry → Option Reason
 view_offence info parent elder e = least (of_view info parent elder e)
 

@@ -118,16 +118,19 @@ marks rows (v ∷ vs) = mark_at (station_of rows v) v ++ marks rows vs
 abbrev pub roles : List Row → ℕ → Items → List Mark
 roles rows at c = marks rows (command_visits rows at c)
 
--- the offence of a place in each pass
+-- the offence of a place in the target pass
 abbrev pub target_of : List ℕ → Visit → Option Reason
 target_of db v = target_offence db v.parent v.elder v.entry
 
+-- the offence of a place in the view pass
 abbrev pub view_of : Option Collection → Visit → Option Reason
 view_of info v = view_offence info v.parent v.elder v.entry
 
+-- the offence of a place in the content pass, under rules
 abbrev pub ruled_of : List Row → Visit → Option Reason
 ruled_of rows v = ruled_offence rows v.parent v.elder v.entry
 
+-- the offence of a place in the content pass, whether there are rules or not
 abbrev pub content_of : List Row → Visit → Option Reason
 content_of rows v = content_offence rows v.parent v.elder v.entry
 

@@ -22,22 +22,24 @@ abbrev pub ◌>>=◌ : {A B : Type 0} → Option A → (A → Option B) → Opti
 None >>= f = None
 (Some x) >>= f = f x
 
--- `name`: required, a string that isn't empty
+-- a text that is there and isn't empty
 abbrev pub some_text : Option (List ℕ) → Option (List ℕ)
 some_text None = None
 some_text (Some []) = None
 some_text (Some (byte ∷ bytes)) = Some (byte ∷ bytes)
 
+-- `name`: required, a string that isn't empty
 abbrev pub name_in : Standing → Option (List ℕ)
 name_in absent = None
 name_in (once t) = some_text (text_value t)
 name_in repeated = None
 
--- `type`: a string where it stands; `view` is that of a view
+-- whether a text says that a collection is a view
 abbrev pub is_view_text : Option (List ℕ) → Option Bool
 is_view_text None = None
 is_view_text (Some text) = Some (named text (codes "view"))
 
+-- `type`: a string where it stands; `view` is that of a view
 abbrev pub view_in : Standing → Option Bool
 view_in absent = Some false
 view_in (once t) = is_view_text (text_value t)
@@ -87,6 +89,7 @@ abbrev pub with_rules : Fields → Result (List Row) SchemaFault → Result Coll
 with_rules fields (Err fault) = Err (Schema fault)
 with_rules fields (Ok rows) = Ok (record { name = fields.name; view = fields.view; rows = rows })
 
+-- the collection that the fields are, behind those before: no other has its name, and its schema is good
 abbrev pub judged_fields : List Collection → Option Fields → Result Collection InfoKind
 judged_fields before None = Err Shape
 judged_fields before (Some fields) =
@@ -107,6 +110,7 @@ pub record Faulty : Type 0 where
   pub document : ℕ
   pub kind : InfoKind
 
+-- the document behind those before is the first faulty one
 abbrev pub faulty : {A : Type 0} → List Collection → InfoKind → Result A Faulty
 faulty before kind = Err (record { document = length before + 1; kind = kind })
 
@@ -115,6 +119,7 @@ abbrev pub with_rest : List Collection → List ℕ → Result Collection InfoKi
 with_rest before rest (Err kind) = faulty before kind
 with_rest before rest (Ok collection) = Ok (collection, rest)
 
+-- the same for a document that was read in front of these bytes, or for a fault of its spelling
 abbrev pub in_front : List Collection → List ℕ → Result (Items × ℕ) BsonFault → Result (Collection × List ℕ) Faulty
 in_front before bytes (Err fault) = faulty before Bson
 in_front before bytes (Ok read) = with_rest before (drop read.1 bytes) (collection_in before read.0)
@@ -123,6 +128,7 @@ in_front before bytes (Ok read) = with_rest before (drop read.1 bytes) (collecti
 abbrev pub first_collection : List Collection → List ℕ → Result (Collection × List ℕ) Faulty
 first_collection before bytes = in_front before bytes (front_document bytes)
 
+-- the first collection, then those that are read behind it
 abbrev pub and_others : (List Collection → List ℕ → Result (List Collection) Faulty)
     → List Collection → Result (Collection × List ℕ) Faulty → Result (List Collection) Faulty
 and_others read before (Err fault) = Err fault

@@ -23,6 +23,7 @@ pub data Event : Type 0 where
 abbrev pub one_more : List Row → Row → Result (List Row) SchemaFault
 one_more before r = if nat_lt (length before) 4096 then Ok (before ++ r ∷ []) else Err faults.TooMany
 
+-- the row of a rule behind those before, unless the rule is at fault
 abbrev pub with_row : List Row → Result Row SchemaFault → Result (List Row) SchemaFault
 with_row before r = r >>= one_more before
 
@@ -46,6 +47,7 @@ pub data Part : Type 0 where
 abbrev pub bad : Context → Context
 bad context = record context { position = positions.Bad }
 
+-- the position of a schema under `properties`, by that of the schema around
 abbrev pub good_below : Position → Position
 good_below positions.Root = positions.Good
 good_below positions.Good = positions.Good
@@ -55,6 +57,7 @@ good_below positions.Bad = positions.Bad
 abbrev pub below_root : Context → Context
 below_root context = record context { position = good_below context.position }
 
+-- one more name leads to the schema
 abbrev pub with_name : List ℕ → Context → Context
 with_name name context = record context { path = context.path ++ name ∷ [] }
 
@@ -81,9 +84,11 @@ abbrev pub or_around : Context → Result Context SchemaFault → Context
 or_around context (Ok within) = within
 or_around context (Err fault) = context
 
+-- the same for a schema with these elements
 abbrev pub within : Context → Items → Context
 within context is = or_around context (inside context is)
 
+-- the rule that a schema's `encrypt` makes, where it stands
 abbrev pub row_event : Context → Items → List Event
 row_event context is = if states (codes "encrypt") is then row (row_of context is) ∷ [] else []
 
@@ -119,11 +124,12 @@ root = record { position = positions.Root; path = []; key = None; algorithm = No
 unfoldable pub schema_rows : Items → Result (List Row) SchemaFault
 schema_rows is = run [] (events (schema root) (node 3 is))
 
--- what a function that takes memory answered, seen by `view`, is what is read; want of memory may come at any time
+-- a fault is what is read; want of memory may come at any time
 abbrev pub Fails : {A : Type 0} → SchemaFault → Result A SchemaFault → Type 0
 Fails faults.Memory read = Unit {0}
 Fails fault read = read ≡ Err fault
 
+-- what a function that takes memory answered, seen by `view`, is what is read, or it fails
 abbrev pub Gives : {A B : Type 0} → (A → B) → Result A SchemaFault → Result B SchemaFault → Type 0
 Gives view (Ok x) read = read ≡ Ok (view x)
 Gives view (Err fault) read = Fails fault read
