@@ -4,9 +4,11 @@ use Rattle.std.specs.Prelude.{ℕ, List, [], ◌∷◌, codes}
 abbrev pub key_2 : List ℕ
 key_2 = codes "Jefe"
 
+-- the data of test case 2
 abbrev pub data_2 : List ℕ
 data_2 = codes "what do ya want for nothing?"
 
+-- the code of test case 2, HMAC-SHA-512
 abbrev pub code_2 : List ℕ
 code_2 =
     0x16 ∷ 0x4b ∷ 0x7a ∷ 0x7b ∷ 0xfc ∷ 0xf8 ∷ 0x19 ∷ 0xe2 ∷ 0xe3 ∷ 0x95 ∷ 0xfb ∷ 0xe7 ∷ 0x3b ∷ 0x56 ∷ 0xe0 ∷ 0xa3

@@ -18,7 +18,7 @@ pub struct KeyedMac {
 impl KeyedMac {
     /// Keeps the key, which may have any length.
     pub fn new(key: &[u8]) -> KeyedMac
-        ensures { HasKey result key.now }
+        ensures keyed { HasKey result key.now }
     {
         let block = block_of_key(key);
         KeyedMac {
@@ -29,7 +29,7 @@ impl KeyedMac {
 
     /// Begins the empty message under the key.
     pub fn begin(&self) -> Mac
-        ensures { (k : List ℕ) → HasKey self.now k → HasRead result k [] }
+        ensures begins { (k : List ℕ) → HasKey self.now k → HasRead result k [] }
     {
         Mac::resumed(copy_of(&self.inner), copy_of(&self.outer))
     }

@@ -21,7 +21,7 @@ pub struct Mac {
 impl Mac {
     /// Begins the empty message under the key, which may have any length.
     pub fn new(key: &[u8]) -> Mac
-        ensures { HasRead result key.now [] }
+        ensures begins { HasRead result key.now [] }
     {
         let block = block_of_key(key);
         Mac::resumed(inner_state(&block), outer_state(&block))
@@ -37,7 +37,7 @@ impl Mac {
 
     /// Reads one more part of the message.
     pub fn update(&mut self, part: &[u8])
-        ensures { (k m : List ℕ) → HasRead self.old k m → HasRead self.new k (m ++ part.now) }
+        ensures read { (k m : List ℕ) → HasRead self.old k m → HasRead self.new k (m ++ part.now) }
     {
         self.inner.update(part);
     }
