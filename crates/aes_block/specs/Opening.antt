@@ -16,6 +16,7 @@ linear_open b = into (bit_xor (inv_affine b) 0x05)
 abbrev pub open_round : List ℕ → List ℕ → List ℕ
 open_round s k = add_round_key (inv_mix_columns (inv_sub_bytes (inv_shift_rows s))) k
 
+-- the last round, which has no InvMixColumns (FIPS 197, 5.3.5)
 abbrev pub open_last : List ℕ → List ℕ → List ℕ
 open_last s k = add_round_key (inv_sub_bytes (inv_shift_rows s)) k
 

@@ -29,6 +29,7 @@ keyed k = others (map (λ b. into (bit_xor b 0x63)) k)
 abbrev pub round : List ℕ → List ℕ → List ℕ
 round s k = add_round_key (mix_columns (shift_rows (sub_bytes s))) k
 
+-- the last round, which has no MixColumns (FIPS 197, 5.1)
 abbrev pub last_round : List ℕ → List ℕ → List ℕ
 last_round s k = add_round_key (shift_rows (sub_bytes s)) k
 

@@ -10,17 +10,17 @@ ghost use Rattle.fle_vectors.specs.declared.aes256.TheConstants.{BLOCK_C3, EXPAN
 
 /// InvCipher undoes Cipher (FIPS 197, 5.3), on each block and under any words.
 pub fn opening_undoes_sealing()
-    ensures { (w block : List ℕ) → IsBlock block → inv_cipher w (cipher w block) ≡ block }
+    ensures undone { (w block : List ℕ) → IsBlock block → inv_cipher w (cipher w block) ≡ block }
 {}
 
 /// Cipher undoes InvCipher, on each block and under any words.
 pub fn sealing_undoes_opening()
-    ensures { (w block : List ℕ) → IsBlock block → cipher w (inv_cipher w block) ≡ block }
+    ensures undone { (w block : List ℕ) → IsBlock block → cipher w (inv_cipher w block) ≡ block }
 {}
 
 /// A byte other than 0 times its inverse is 1 (FIPS 197, 4.2).
 pub fn inverse_is_multiplicative()
-    ensures { (a : ℕ) → 0 < a → a < 256 → product a (inverse a) ≡ 1 }
+    ensures unit { (a : ℕ) → 0 < a → a < 256 → product a (inverse a) ≡ 1 }
 {}
 
 /// The definitions give the words of FIPS 197, appendix A.3, for its key of 256 bits.
