@@ -8,28 +8,28 @@ ghost use Rattle.cbc_mode.specs.Padding.{pad};
 
 /// Decryption undoes encryption, on whole blocks of bytes (SP 800-38A, 6.2).
 pub fn opening_undoes_sealing()
-    ensures { (w iv p : List ℕ) → IsBlock iv → All (λ b. b < 256) p → length p % 16 ≡ 0
+    ensures undone { (w iv p : List ℕ) → IsBlock iv → All (λ b. b < 256) p → length p % 16 ≡ 0
         → cbc_opened w iv (cbc_sealed w iv p) ≡ p }
 {}
 
 /// Encryption undoes decryption, on whole blocks of bytes (SP 800-38A, 6.2).
 pub fn sealing_undoes_opening()
-    ensures { (w iv c : List ℕ) → IsBlock iv → All (λ b. b < 256) c → length c % 16 ≡ 0
+    ensures undone { (w iv c : List ℕ) → IsBlock iv → All (λ b. b < 256) c → length c % 16 ≡ 0
         → cbc_sealed w iv (cbc_opened w iv c) ≡ c }
 {}
 
 /// What was padded and encrypted determines the message.
 pub fn sealed_determines_plain()
-    ensures { (w iv p q : List ℕ) → IsBlock iv → All (λ b. b < 256) p → All (λ b. b < 256) q
+    ensures same { (w iv p q : List ℕ) → IsBlock iv → All (λ b. b < 256) p → All (λ b. b < 256) q
         → cbc_sealed w iv (pad p) ≡ cbc_sealed w iv (pad q) → p ≡ q }
 {}
 
 /// The padded form determines the message (RFC 5652, 6.3).
 pub fn padded_determines_plain()
-    ensures { (p q : List ℕ) → pad p ≡ pad q → p ≡ q }
+    ensures same { (p q : List ℕ) → pad p ≡ pad q → p ≡ q }
 {}
 
 /// What was padded and encrypted has the padded length.
 pub fn sealed_length()
-    ensures { (w iv p : List ℕ) → length (cbc_sealed w iv (pad p)) ≡ 16 * (length p / 16 + 1) }
+    ensures len { (w iv p : List ℕ) → length (cbc_sealed w iv (pad p)) ≡ 16 * (length p / 16 + 1) }
 {}

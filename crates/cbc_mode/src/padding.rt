@@ -15,7 +15,7 @@ const MOST: usize = 16;
 /// The length of a message of n bytes with its padding.
 pub fn padded_len(n: usize) -> usize
     requires { n < 2 ^ 31 }
-    ensures { result ≡ 16 * (n / 16 + 1) }
+    ensures len { result ≡ 16 * (n / 16 + 1) }
 {
     BLOCK * (n / BLOCK + 1)
 }
