@@ -52,6 +52,7 @@ iv_of c = take 16 c
 unfoldable pub opened_body : List ℕ → List ℕ → List ℕ
 opened_body key s = cbc_opened (schedule key) (take 16 s) (drop 16 s)
 
+-- the same for a whole ciphertext, with its vector and its tag
 unfoldable pub opened : List ℕ → List ℕ → List ℕ
 opened key c = opened_body key (body_of c)
 
@@ -77,6 +78,7 @@ pub record IsWronglyPadded (key a c : List ℕ) : Type 0 where
 abbrev pub is_sealed_length : ℕ → Bool
 is_sealed_length n = nat_lt 48 n && n % 16 == 0
 
+-- draft, 2.2, step 3: the length is right, and the tag is that of the rest under the key
 abbrev pub is_tagged : List ℕ → List ℕ → List ℕ → Bool
 is_tagged key a c = is_sealed_length (length c) && bytes_eq (tag_of c) (tag key a (body_of c))
 

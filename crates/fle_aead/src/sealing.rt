@@ -16,7 +16,7 @@ pub(crate) const TAG: usize = 32;
 /// The length of a sealed message of n bytes.
 pub fn sealed_len(n: usize) -> usize
     requires { n < 2 ^ 31 }
-    ensures { result ≡ 48 + 16 * (n / 16 + 1) }
+    ensures len { result ≡ 48 + 16 * (n / 16 + 1) }
 {
     IV + padded_len(n) + TAG
 }
