@@ -20,6 +20,7 @@ pub record FellShort (before after : EntropySeen) (count : ℕ) : Type 0 where
   pub draws : Draws before after blocks
   pub rose : Rose before.faults after.faults
 
+-- what the answer tells: all blocks were drawn, and it is made of them; or a draw failed
 abbrev pub Makes : {A : Type 0} → EntropySeen → EntropySeen → ℕ → (List Block → A) → Result A Failed → Type 0
 Makes before after count make (Ok made) = Made before after count make made
 Makes before after count make (Err _) = FellShort before after count

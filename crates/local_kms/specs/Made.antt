@@ -21,10 +21,11 @@ block_at i blocks = get_or blocks i []
 abbrev pub id_of : Block → List ℕ
 id_of block = with_version (with_variant block variants.RFC4122) versions.Random
 
--- two blocks, and six, from block i on
+-- two blocks, from block i on
 abbrev pub two_blocks : ℕ → List Block → List ℕ
 two_blocks i blocks = block_at i blocks ++ block_at (i + 1) blocks
 
+-- six blocks, from block i on
 abbrev pub six_blocks : ℕ → List Block → List ℕ
 six_blocks i blocks = two_blocks i blocks ++ (two_blocks (i + 2) blocks ++ two_blocks (i + 4) blocks)
 
@@ -32,6 +33,7 @@ six_blocks i blocks = two_blocks i blocks ++ (two_blocks (i + 2) blocks ++ two_b
 abbrev pub seeds_of : Block → List ℕ → Block → Seeds
 seeds_of id key iv = record { id = id; key = key; iv = iv }
 
+-- the same of eight blocks in the order in which they are drawn
 abbrev pub seeds : List Block → Seeds
 seeds blocks = seeds_of (block_at 0 blocks) (six_blocks 1 blocks) (block_at 7 blocks)
 
