@@ -18,11 +18,13 @@ pub record Cached : Type 0 where
   pub master : List ℕ
   pub entries : List Entry
 
+-- how the logic stores an entry: its id, the sealed material and the key that it opened to
 abbrev pub coded_entry : Coded Entry
 coded_entry = code_by (List ℕ × (List ℕ × List ℕ))
     (coded× (coded_list coded_ℕ) (coded× (coded_list coded_ℕ) (coded_list coded_ℕ)))
     (λ e. (e.id, (e.material, e.key))) (λ p. record { id = p.0; material = p.1.0; key = p.1.1 }) (λ _. refl)
 
+-- how the logic stores them: the master key, and the entries in order
 abbrev pub coded_cached : Coded Cached
 coded_cached = code_by (List ℕ × List Entry) (coded× (coded_list coded_ℕ) (coded_list coded_entry))
     (λ c. (c.master, c.entries)) (λ p. record { master = p.0; entries = p.1 }) (λ _. refl)

@@ -8,10 +8,11 @@ abbrev pub is_among : List ℕ → List (List ℕ) → Bool
 is_among name [] = false
 is_among name (other ∷ others) = bytes_eq name other || is_among name others
 
--- the key has this id, or this name
+-- the key has this id
 abbrev pub has_id : List ℕ → KeyDoc → Bool
 has_id id key = bytes_eq key.id id
 
+-- the key has this name
 abbrev pub has_name : List ℕ → KeyDoc → Bool
 has_name name key = is_among name key.names
 
@@ -25,9 +26,10 @@ abbrev pub place_from : ℕ → (KeyDoc → Bool) → List KeyDoc → Option ℕ
 place_from n test [] = None
 place_from n test (key ∷ keys) = if test key then Some n else place_from (n + 1) test keys
 
--- the first key of an id, and of a name
+-- the first key of an id
 abbrev pub key_by_id : List KeyDoc → List ℕ → Option KeyDoc
 key_by_id keys id = first_key (has_id id) keys
 
+-- the first key of a name
 abbrev pub key_by_name : List KeyDoc → List ℕ → Option KeyDoc
 key_by_name keys name = first_key (has_name name) keys

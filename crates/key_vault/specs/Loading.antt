@@ -18,10 +18,11 @@ use Rattle.key_vault.specs.Keys.{is_among, key_by_id, key_by_name}
 abbrev pub key_limit : ℕ
 key_limit = 65536
 
--- a key before has this id, or this name
+-- a key before has this id
 abbrev pub is_id_known : List KeyDoc → List ℕ → Bool
 is_id_known before id = is_some (key_by_id before id)
 
+-- a key before has this name
 abbrev pub is_name_known : List KeyDoc → List ℕ → Bool
 is_name_known before name = is_some (key_by_name before name)
 
@@ -45,6 +46,7 @@ judged before (Ok key) =
     if is_id_known before key.id then Err kinds.IdTwice
     else (if are_new (is_name_known before) [] key.names then Ok key else Err kinds.NameTwice)
 
+-- the same where there is room for it: a vault has at most 65,536 keys
 unfoldable pub key_behind : List KeyDoc → Items → Result KeyDoc VaultKind
 key_behind before is = if nat_lt (length before) key_limit then judged before (key_in is) else Err kinds.TooMany
 
@@ -59,6 +61,7 @@ pub record Faulty : Type 0 where
   pub document : ℕ
   pub kind : VaultKind
 
+-- the document behind those before is the first faulty one
 abbrev pub faulty : {A : Type 0} → List KeyDoc → VaultKind → Result A Faulty
 faulty before kind = Err (record { document = length before + 1; kind = kind })
 
@@ -67,6 +70,7 @@ abbrev pub with_rest : List KeyDoc → List ℕ → Result KeyDoc VaultKind → 
 with_rest before rest (Err kind) = faulty before kind
 with_rest before rest (Ok key) = Ok (key, rest)
 
+-- the same for a document that was read in front of these bytes, or for a fault of its spelling
 abbrev pub in_front : List KeyDoc → List ℕ → Result (Items × ℕ) BsonFault → Result (KeyDoc × List ℕ) Faulty
 in_front before bytes (Err fault) = faulty before kinds.Bson
 in_front before bytes (Ok read) = with_rest before (drop read.1 bytes) (key_behind before read.0)
@@ -75,6 +79,7 @@ in_front before bytes (Ok read) = with_rest before (drop read.1 bytes) (key_behi
 abbrev pub front_key : List KeyDoc → List ℕ → Result (KeyDoc × List ℕ) Faulty
 front_key before bytes = in_front before bytes (front_document bytes)
 
+-- the first key, then those that are read behind it
 abbrev pub and_others : (List KeyDoc → List ℕ → Result (List KeyDoc) Faulty) → List KeyDoc
     → Result (KeyDoc × List ℕ) Faulty → Result (List KeyDoc) Faulty
 and_others read before (Err fault) = Err fault
@@ -102,6 +107,7 @@ Adds before now bytes (Ok n) read = (key : KeyDoc) × (read ≡ Ok (key, drop n 
 Adds before now bytes (Err (faults.Bad document kind)) read = read ≡ Err (record { document = document; kind = kind })
 Adds before now bytes (Err faults.Memory) read = Unit {0}
 
+-- what holds while a file is read: these keys are read, these bytes are left, and together they make the vault
 pub record Left (start : List ℕ) (so_far : List KeyDoc) (rest : List ℕ) : Type 0 where
   pub enough : ℕ
   pub long : length rest ≤ enough

@@ -13,6 +13,7 @@ abbrev pub or_damaged : Option (List ℕ) → Result (List ℕ) Keyless
 or_damaged None = Err keyless.Damaged
 or_damaged (Some key) = Ok key
 
+-- the key of a document by its provider: none opens here but those of the local one
 abbrev pub opened_by : Provider → Option (List ℕ) → Result (List ℕ) Keyless
 opened_by providers.Local key = or_damaged key
 opened_by providers.Other key = Err keyless.NotLocal
