@@ -54,6 +54,26 @@ whole_of {o = o} {told = told} {after = after} {entropy = entropy} {entropy_afte
       gains = subst (λ (bytes : List ℕ). Gains out.told out_after.told bytes) gained ran.gains;
     }
 
+-- its status is that of its outcome
+settled_end : (why : Why) (number : ℕ) (o : Outcome) (rest : List Output) (more : List Block) (part : List ℕ)
+    (read most : ℕ) (told : List ℕ) (after : Option (List ℕ))
+    → IsSettled (status_of why) → EndsIn why number o rest more part read most told after
+    → status_of why ≡ status_of_finish o.finish
+settled_end (whys.Finished finish) number o rest more part read most told after settled end =
+    ap status_of_finish end.same
+settled_end (whys.Cut cuts.Folder) number o rest more part read most told after settled end = absurd settled
+settled_end (whys.Cut cuts.Input) number o rest more part read most told after settled end = absurd settled
+settled_end (whys.Cut cuts.Output) number o rest more part read most told after settled end = absurd settled
+settled_end (whys.Cut cuts.Entropy) number o rest more part read most told after settled end = absurd settled
+settled_end (whys.Cut cuts.Memory) number o rest more part read most told after settled end = absurd settled
+
+pub settled_status : {o : Outcome} {told : List ℕ} {after : Option (List ℕ)} {most : List ℕ
+    → ℕ} {entropy entropy_after : EntropySeen} {out out_after : SinkSeen} {number : ℕ} {why : Why}
+    → Ran o told after most entropy entropy_after out out_after number why → IsSettled (status_of why)
+    → status_of why ≡ status_of_finish o.finish
+settled_status {o = o} {told = told} {after = after} {number = number} {why = why} ran settled =
+    settled_end why number o ran.rest ran.more ran.part _ _ told after settled ran.end
+
 -- a run that nothing cut short ends as its outcome says
 end_settled : (why : Why) (number : ℕ) (o : Outcome) (rest : List Output) (more : List Block) (part : List ℕ)
     (read most : ℕ) (told : List ℕ) (after : Option (List ℕ)) (before now : World)

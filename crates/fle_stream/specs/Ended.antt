@@ -28,6 +28,7 @@ pub record World : Type 0 where
   pub diag : SinkSeen
   pub entropy : EntropySeen
 
+-- the same of its parts: the input, the files, the output, the diagnostics and the random blocks
 abbrev pub world : SourceSeen → FolderSeen → SinkSeen → SinkSeen → EntropySeen → World
 world input files out diag entropy = record { input = input; files = files; out = out; diag = diag; entropy = entropy }
 

@@ -52,6 +52,7 @@ standing_of n m =
 unfoldable pub stated : List ℕ → ℕ
 stated bytes = from_le_bytes w32 (take 4 bytes)
 
+-- how bytes stand before anything of a document is read: what is left of them, and the length they state
 unfoldable pub standing : List ℕ → Standing
 standing bytes = standing_of (length bytes) (stated bytes)
 
@@ -60,10 +61,12 @@ abbrev pub spelled : (List ℕ → Docs) → ℕ → List ℕ → Result Items B
 spelled behind m bytes (Ok is) = doc m is (behind (drop m bytes))
 spelled behind m bytes (Err fault) = ends (faulty m fault)
 
+-- what a stream is by how it stands: a rest, or its first document and what comes behind it
 abbrev pub first_by : (List ℕ → Docs) → List ℕ → Standing → Docs
 first_by behind bytes (stops rest) = ends rest
 first_by behind bytes (whole m) = spelled behind m bytes (document (take m bytes))
 
+-- a stream's documents, n of them at most, one after another
 unfoldable pub rounds : ℕ → List ℕ → Docs
 rounds zero bytes = ends nothing
 rounds (suc n) bytes = first_by (rounds n) bytes (standing bytes)
