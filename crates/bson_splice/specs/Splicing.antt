@@ -7,23 +7,27 @@ use Rattle.bson_splice.specs.declared.putter.Stopped.{Stopped}
 use Rattle.bson_splice.specs.Spans.{Span, Fits, AreFits, Runs}
 use Rattle.bson_splice.specs.Splices.{Put, left_in, left, spliced_in, spliced}
 
--- the bytes that an element, elements, a document become
+-- the bytes that an element becomes
 abbrev pub element_made : Elem → List Put → List ℕ
 element_made e ps = items_bytes (item e.name (spliced_in e.start ps e.tree) no_items)
 
+-- the bytes that elements become, the first of which begins at this offset
 abbrev pub elements_made : ℕ → Items → List Put → List ℕ
 elements_made at is ps = items_bytes (spliced at ps is)
 
+-- the bytes that a document becomes
 abbrev pub document_made : At → List Put → List ℕ
 document_made d ps = doc_bytes (spliced (d.start + 4) ps d.tree)
 
--- what is left behind them
+-- what is left to be put in behind an element
 abbrev pub element_left : Elem → List Put → List Put
 element_left e ps = left_in e.start ps e.tree
 
+-- what is left to be put in behind elements, the first of which begins at this offset
 abbrev pub elements_left : ℕ → Items → List Put → List Put
 elements_left at is ps = left at ps is
 
+-- what is left to be put in behind a document
 abbrev pub document_left : At → List Put → List Put
 document_left d ps = left (d.start + 4) ps d.tree
 
@@ -42,6 +46,7 @@ pub record PutsOne {S : Type 0} (step : S → S → Put → Type 0) (spans : S �
   pub written : take end new ≡ take at old ++ items_bytes (item e.name (it.value e.tree) no_items)
   pub within : end ≤ length new
 
+-- what the answer for one place tells: an end, and its new value was put in; or a stop, and none was
 abbrev pub TellsPut : {S : Type 0} → (S → S → Put → Type 0) → (S → S → Type 0) → (S → List Span)
     → Elem → S → S → List ℕ → List ℕ → ℕ → Result ℕ Stopped → Type 0
 TellsPut step stops spans e before after old new at (Ok end) = PutsOne step spans e before after old new at end
@@ -65,6 +70,7 @@ pub record Stops {S : Type 0} (step : S → S → Put → Type 0) (stops : S →
   pub runs : Runs step before mid puts
   pub stop : stops mid after
 
+-- what the answer for a part tells: an end, and all of its places have theirs; or a stop, and some have
 abbrev pub TellsSplices : {S : Type 0} → (S → S → Put → Type 0) → (S → S → Type 0) → (S → List Span)
     → (List Put → List ℕ) → (List Put → List Put) → S → S → List ℕ → List ℕ → ℕ → Result ℕ Stopped → Type 0
 TellsSplices step stops spans made rests before after old new at (Ok end) =

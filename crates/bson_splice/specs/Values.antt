@@ -10,6 +10,7 @@ use Rattle.bson_splice.specs.Splices.{Put}
 abbrev pub put_of : NewValue → Put
 put_of v = record { start = v.start; end = v.end; value = λ t. leaf v.tag v.bytes.now }
 
+-- the values of a list, each in the place of its own
 abbrev pub puts_of : List NewValue → List Put
 puts_of [] = []
 puts_of (v ∷ vs) = put_of v ∷ puts_of vs
@@ -18,15 +19,17 @@ puts_of (v ∷ vs) = put_of v ∷ puts_of vs
 abbrev pub span_of : NewValue → Span
 span_of v = record { start = v.start; end = v.end; most = λ t. length v.bytes.now }
 
+-- the places of a list's values, in order
 abbrev pub spans_of : List NewValue → List Span
 spans_of [] = []
 spans_of (v ∷ vs) = span_of v ∷ spans_of vs
 
--- how many bytes the places have, and how many the values
+-- how many bytes the places have
 abbrev pub removed : List NewValue → ℕ
 removed [] = 0
 removed (v ∷ vs) = (v.end - v.start) + removed vs
 
+-- how many bytes the values have that take the places
 abbrev pub given : List NewValue → ℕ
 given [] = 0
 given (v ∷ vs) = length v.bytes.now + given vs

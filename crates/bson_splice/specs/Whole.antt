@@ -32,6 +32,7 @@ pub record IsSpliced {S : Type 0} (step : S → S → Put → Type 0) (spans : S
   pub written : take end new ≡ doc_bytes (replaced puts d)
   pub size : end ≡ length (doc_bytes (replaced puts d))
 
+-- what the answer tells: a size, and the document is spliced whole; or a stop, and the part that was spliced
 abbrev pub TellsWhole : {S : Type 0} → (S → S → Put → Type 0) → (S → S → Type 0) → (S → List Span)
     → At → S → S → List ℕ → Result ℕ Stopped → Type 0
 TellsWhole step stops spans d before after new (Ok end) = IsSpliced step spans d before after new end
