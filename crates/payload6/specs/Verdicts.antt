@@ -37,6 +37,7 @@ abbrev pub ends : ℕ → Result ℕ BsonFault → Bool
 ends size (Ok n) = n == size
 ends size (Err fault) = false
 
+-- bytes are the spelling of a value of this type: its layout reads them to their end
 abbrev pub spells : ℕ → ℕ → Option ValueLayout → List ℕ → Bool
 spells levels type None bytes = false
 spells levels type (Some layout) bytes = ends (length bytes)

@@ -11,7 +11,7 @@ ghost use Rattle.payload6.specs.Verdicts.{id_in, is_original, value_in, wrong};
 
 /// Bytes are joined of a head and what stands behind it in one way.
 pub fn parting()
-    ensures { (kind kind' : ℕ) (id id' : List ℕ) (type type' : ℕ) (sealed sealed' : List ℕ)
+    ensures parts { (kind kind' : ℕ) (id id' : List ℕ) (type type' : ℕ) (sealed sealed' : List ℕ)
         → length id ≡ 16 → length id' ≡ 16 → head kind id type ++ sealed ≡ head kind' id' type' ++ sealed'
         → (kind ≡ kind') × (id ≡ id') × (type ≡ type') × (sealed ≡ sealed') }
 {}

@@ -13,7 +13,7 @@ use fle_aead::{DataKey, derive_iv, seal_into, sealed_len};
 /// The length of the payload of a value of n bytes, fewer than 2^31.
 pub fn payload_len(n: usize) -> usize
     requires { n < 2 ^ 31 }
-    ensures { result ≡ 66 + 16 * (n / 16 + 1) }
+    ensures len { result ≡ 66 + 16 * (n / 16 + 1) }
 {
     HEAD + sealed_len(n)
 }
