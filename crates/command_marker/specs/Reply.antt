@@ -26,6 +26,7 @@ reply_fields marked ruled command =
     (item (codes "result") (node 3 command)
     (item (codes "ok") one no_items)))
 
+-- the reply's bytes (BSON 1.1)
 abbrev pub reply : Bool → Bool → Items → List ℕ
 reply marked ruled command = doc_bytes (reply_fields marked ruled command)
 
