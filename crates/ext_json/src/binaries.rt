@@ -36,7 +36,7 @@ pub enum Wrapper<'a> {
 #[tactic(auto, using(crate::proofs::Members::count_is))]
 pub fn wrapper_of<'a>(value: &'a Json, members: &Map<String, Json>) -> Wrapper<'a>
     requires { view value.now ≡ object (members_view members.now.entries) }
-    ensures { IsWrapper (spec.wrapped (members_view members.now.entries)) result }
+    ensures wrapper { IsWrapper (spec.wrapped (members_view members.now.entries)) result }
 {
     if members.len() != 1 {
         return Wrapper::Plain;
@@ -52,7 +52,7 @@ pub fn wrapper_of<'a>(value: &'a Json, members: &Map<String, Json>) -> Wrapper<'
 
 /// The binary of the text of a UUID.
 pub fn uuid_value(alloc: Global, found: &Json) -> Result<Value, Stop>
-    ensures { Converts tree result (option_map binary_tree (spec.uuid_of (view found.now))) }
+    ensures converts { Converts tree result (option_map binary_tree (spec.uuid_of (view found.now))) }
 {
     let Some(text) = found.as_str() else {
         return Err(Stop::Malformed);
@@ -65,7 +65,7 @@ pub fn uuid_value(alloc: Global, found: &Json) -> Result<Value, Stop>
 
 /// The binary of an object of exactly the texts `base64` and `subType`.
 pub fn binary_value(alloc: Global, found: &Json) -> Result<Value, Stop>
-    ensures { Converts tree result (option_map binary_tree (spec.binary_of (view found.now))) }
+    ensures converts { Converts tree result (option_map binary_tree (spec.binary_of (view found.now))) }
 {
     match found {
         Json::Object(members) => match texts_in(found, members) {

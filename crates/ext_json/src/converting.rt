@@ -21,7 +21,7 @@ use std::alloc::Global;
 /// The value that a JSON value stands for; `Malformed` exactly where something in it is malformed.
 #[cycle(convert)]
 pub fn convert(alloc: Global, value: &Json) -> Result<Value, Stop>
-    ensures { Converts tree result (json_tree (view value.now)) }
+    ensures converts { Converts tree result (json_tree (view value.now)) }
 {
     match value {
         Json::Null => raw_value(alloc, types::NULL, &[]),

@@ -17,7 +17,7 @@ const PIECE: usize = 768;
 /// Writes at most 16 bytes as pairs of lower-case hexadecimal digits.
 pub fn put_hex<O: Sink>(bytes: &[u8], out: &mut O) -> Result<(), Failed>
     requires { length bytes.now ≤ 16 }
-    ensures { WritesWhole (O.seen out.old) (O.seen out.new) result (encode_lower bytes.now) }
+    ensures wrote { WritesWhole (O.seen out.old) (O.seen out.new) result (encode_lower bytes.now) }
 {
     let mut buffer = [0u8; 32];
     let digits = &mut buffer[..2 * bytes.len()];
@@ -29,14 +29,14 @@ pub fn put_hex<O: Sink>(bytes: &[u8], out: &mut O) -> Result<(), Failed>
 
 /// Writes a byte as two lower-case hexadecimal digits.
 pub fn put_byte<O: Sink>(byte: u8, out: &mut O) -> Result<(), Failed>
-    ensures { WritesWhole (O.seen out.old) (O.seen out.new) result (encode_lower (byte ∷ [])) }
+    ensures wrote { WritesWhole (O.seen out.old) (O.seen out.new) result (encode_lower (byte ∷ [])) }
 {
     put_hex(&[byte], out)
 }
 
 /// Writes the base64 text of bytes, padding included.
 pub fn put_base64<O: Sink>(bytes: &[u8], out: &mut O) -> Result<(), Failed>
-    ensures { WritesWhole (O.seen out.old) (O.seen out.new) result (encode_of standard bytes.now) }
+    ensures wrote { WritesWhole (O.seen out.old) (O.seen out.new) result (encode_of standard bytes.now) }
 {
     let mut left = bytes;
     while left.len() > PIECE {
@@ -67,7 +67,7 @@ fn put_piece<O: Sink>(piece: &[u8], out: &mut O) -> Result<(), Failed>
 
 /// Writes a signed number in decimal digits.
 pub fn put_signed<O: Sink>(number: i64, out: &mut O) -> Result<(), Failed>
-    ensures { WritesWhole (O.seen out.old) (O.seen out.new) result (signed_decimal number) }
+    ensures wrote { WritesWhole (O.seen out.old) (O.seen out.new) result (signed_decimal number) }
 {
     let mut buffer = Buffer::new();
     let digits = buffer.format(number);
@@ -76,7 +76,7 @@ pub fn put_signed<O: Sink>(number: i64, out: &mut O) -> Result<(), Failed>
 
 /// Writes an unsigned number in decimal digits.
 pub fn put_unsigned<O: Sink>(number: u32, out: &mut O) -> Result<(), Failed>
-    ensures { WritesWhole (O.seen out.old) (O.seen out.new) result (decimal number) }
+    ensures wrote { WritesWhole (O.seen out.old) (O.seen out.new) result (decimal number) }
 {
     let mut buffer = Buffer::new();
     let digits = buffer.format(number);

@@ -10,7 +10,7 @@ use crate::form::Form;
 /// What a value of a form begins with.
 #[tactic(auto, unfolding(crate::specs::Fixed::head_text))]
 pub fn head(form: Form) -> &'static [u8]
-    ensures { result.now ≡ head_text form }
+    ensures text { result.now ≡ head_text form }
 {
     match form {
         Form::DoubleBits => b"{\"$doubleBits\":\"",
@@ -37,7 +37,7 @@ pub fn head(form: Form) -> &'static [u8]
 /// What stands between the two parts of a value of a form that has two.
 #[tactic(auto, unfolding(crate::specs::Fixed::middle_text))]
 pub fn middle(form: Form) -> &'static [u8]
-    ensures { result.now ≡ middle_text form }
+    ensures text { result.now ≡ middle_text form }
 {
     match form {
         Form::Binary => b"\",\"subType\":\"",
@@ -52,7 +52,7 @@ pub fn middle(form: Form) -> &'static [u8]
 /// What a value of a form ends with.
 #[tactic(auto, unfolding(crate::specs::Fixed::tail_text))]
 pub fn tail(form: Form) -> &'static [u8]
-    ensures { result.now ≡ tail_text form }
+    ensures text { result.now ≡ tail_text form }
 {
     match form {
         Form::DoubleBits | Form::ObjectId | Form::Int32 | Form::Int64 | Form::DecimalBits => b"\"}",
@@ -68,7 +68,7 @@ pub fn tail(form: Form) -> &'static [u8]
 /// The truth value of a byte.
 #[tactic(auto, unfolding(crate::specs::Fixed::truth_text))]
 pub fn truth(byte: u8) -> &'static [u8]
-    ensures { result.now ≡ truth_text byte }
+    ensures text { result.now ≡ truth_text byte }
 {
     if byte == 0 { b"false" } else { b"true" }
 }
@@ -76,7 +76,7 @@ pub fn truth(byte: u8) -> &'static [u8]
 /// The quotation mark.
 #[tactic(auto, unfolding(crate::specs::Quoted::quote_mark))]
 pub fn quote() -> &'static [u8]
-    ensures { result.now ≡ quote_mark }
+    ensures text { result.now ≡ quote_mark }
 {
     b"\""
 }
@@ -84,35 +84,35 @@ pub fn quote() -> &'static [u8]
 /// What the two digits of a control character stand behind.
 #[tactic(auto, unfolding(crate::specs::Quoted::control_start))]
 pub fn control() -> &'static [u8]
-    ensures { result.now ≡ control_start }
+    ensures text { result.now ≡ control_start }
 {
     b"\\u00"
 }
 
 /// What a document (true) or an array (false) begins with.
 pub fn opening(named: bool) -> &'static [u8]
-    ensures { result.now ≡ opening_text named }
+    ensures text { result.now ≡ opening_text named }
 {
     if named { b"{" } else { b"[" }
 }
 
 /// What a document (true) or an array (false) ends with.
 pub fn closing(named: bool) -> &'static [u8]
-    ensures { result.now ≡ closing_text named }
+    ensures text { result.now ≡ closing_text named }
 {
     if named { b"}" } else { b"]" }
 }
 
 /// What stands between a name and its value.
 pub fn colon() -> &'static [u8]
-    ensures { result.now ≡ 58 ∷ [] }
+    ensures text { result.now ≡ 58 ∷ [] }
 {
     b":"
 }
 
 /// What stands between two elements.
 pub fn comma() -> &'static [u8]
-    ensures { result.now ≡ 44 ∷ [] }
+    ensures text { result.now ≡ 44 ∷ [] }
 {
     b","
 }

@@ -51,7 +51,7 @@ pub enum Form {
 /// The form of values of a type; `None` for documents, for arrays, and for bytes that are no type.
 #[tactic(auto, unfolding(crate::specs::Forms::form_of))]
 pub fn form_of(tag: u8) -> Option<Form>
-    ensures { result ≡ form_of_type tag }
+    ensures form { result ≡ form_of_type tag }
 {
     match tag {
         types::DOUBLE => Some(Form::DoubleBits),

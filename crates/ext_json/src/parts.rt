@@ -6,7 +6,7 @@ ghost use Rattle.ext_json.specs.Parts as spec;
 /// The text of the bytes of a string.
 pub fn text_of<'a>(bytes: &'a [u8]) -> &'a [u8]
     requires { 5 ≤ length bytes.now }
-    ensures { result.now ≡ spec.text_of bytes.now }
+    ensures text { result.now ≡ spec.text_of bytes.now }
 {
     let (_, ended) = bytes.split_at(4);
     let (text, _) = ended.split_at(bytes.len() - 5);
@@ -70,7 +70,7 @@ fn behind_first<'a>(bytes: &'a [u8]) -> &'a [u8]
 /// The number of 4 bytes.
 pub fn int32_of(bytes: &[u8]) -> i64
     requires { length bytes.now ≡ 4 }
-    ensures { result ≡ spec.int32_of bytes.now }
+    ensures number { result ≡ spec.int32_of bytes.now }
 {
     i32::from_le_bytes([bytes[0], bytes[1], bytes[2], bytes[3]]) as i64
 }
@@ -78,7 +78,7 @@ pub fn int32_of(bytes: &[u8]) -> i64
 /// The number of 8 bytes.
 pub fn int64_of(bytes: &[u8]) -> i64
     requires { length bytes.now ≡ 8 }
-    ensures { result ≡ spec.int64_of bytes.now }
+    ensures number { result ≡ spec.int64_of bytes.now }
 {
     i64::from_le_bytes([
         bytes[0], bytes[1], bytes[2], bytes[3], bytes[4], bytes[5], bytes[6], bytes[7],
@@ -88,7 +88,7 @@ pub fn int64_of(bytes: &[u8]) -> i64
 /// The seconds of a timestamp.
 pub fn seconds_of(bytes: &[u8]) -> u32
     requires { length bytes.now ≡ 8 }
-    ensures { result ≡ spec.seconds_of bytes.now }
+    ensures seconds { result ≡ spec.seconds_of bytes.now }
 {
     u32::from_le_bytes([bytes[4], bytes[5], bytes[6], bytes[7]])
 }
@@ -96,7 +96,7 @@ pub fn seconds_of(bytes: &[u8]) -> u32
 /// The increment of a timestamp.
 pub fn increment_of(bytes: &[u8]) -> u32
     requires { length bytes.now ≡ 8 }
-    ensures { result ≡ spec.increment_of bytes.now }
+    ensures increment { result ≡ spec.increment_of bytes.now }
 {
     u32::from_le_bytes([bytes[0], bytes[1], bytes[2], bytes[3]])
 }

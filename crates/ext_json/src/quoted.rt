@@ -12,7 +12,7 @@ use fle_outside::{Failed, Sink, write_whole};
 
 /// Writes a string in quotes.
 pub fn put_quoted<O: Sink>(text: &[u8], out: &mut O) -> Result<(), Failed>
-    ensures { WritesWhole (O.seen out.old) (O.seen out.new) result (quoted text.now) }
+    ensures wrote { WritesWhole (O.seen out.old) (O.seen out.new) result (quoted text.now) }
 {
     match write_whole(out, quote()) {
         Ok(()) => {}
@@ -27,7 +27,7 @@ pub fn put_quoted<O: Sink>(text: &[u8], out: &mut O) -> Result<(), Failed>
 
 /// Writes the bytes of a string, with the escapes that are needed.
 pub fn put_escaped<O: Sink>(text: &[u8], out: &mut O) -> Result<(), Failed>
-    ensures { WritesWhole (O.seen out.old) (O.seen out.new) result (escaped text.now) }
+    ensures wrote { WritesWhole (O.seen out.old) (O.seen out.new) result (escaped text.now) }
 {
     let mut left = text;
     while !left.is_empty() {

@@ -25,7 +25,7 @@ use fle_outside::{Failed, Sink, write_whole};
 /// Writes a value of a form other than code with a scope.
 pub fn put_raw<O: Sink>(form: Form, value: &[u8], out: &mut O) -> Result<(), Failed>
     requires { IsRaw (IsItems (level_limit - 1)) (form_layout form) value.now }
-    ensures { (D : Items → List ℕ) → (form ≡ Form.Scope → ⊥)
+    ensures wrote { (D : Items → List ℕ) → (form ≡ Form.Scope → ⊥)
         → WritesWhole (O.seen out.old) (O.seen out.new) result (raw_text D form value.now) }
 {
     match write_whole(out, head(form)) {

@@ -12,7 +12,8 @@ convert_items-loop-item-preserved t c =
     _ (items_view (drop c.loop-item.item-index c.deref-item-items.result.now))
     (items_view (drop (c.loop-item.item-index + 1) c.deref-item-items.result.now))
     (values_cut c.loop-item.item-index c.deref-item-items.result.now _ c.loop-item-test.true) c.loop-item.invariant
-    c.len.ensures.number c.in_ok-name.ensures (rw c.item-item.is at c.in_ok-value.ensures) c.in-Ok.ensures.appended
+    c.len.ensures.number c.in_ok-name.ensures (rw c.item-item.is at c.in_ok-value.ensures.converts)
+    c.in-Ok.ensures.appended
 
 pub convert_items-returns : goal.convert_items-returns
 convert_items-returns t c =
@@ -27,7 +28,7 @@ convert_members-loop-key-preserved t c =
     (view c.in-Some.member.now) (members_view c.loop-key.key-iterator) (members_view c.next.new.self)
     (ap members_view c.in-Some.ensures.steps) c.loop-key.invariant
     (ap (λ (x : List ℕ). Some x) (sym (c.as_bytes.ensures.value ∙ c.as_str.ensures.value)) ∙ c.in_ok-name.ensures)
-    c.in_ok-value.ensures c.in-Ok.ensures.appended
+    c.in_ok-value.ensures.converts c.in-Ok.ensures.appended
 
 pub convert_members-returns : goal.convert_members-returns
 convert_members-returns t c = members_done _ c.loop-key.kids (members_view c.loop-key.key-iterator)

@@ -77,7 +77,7 @@ pub show_inside-returns-in-Err : goal.show_inside-returns-in-Err
 show_inside-returns-in-Err g t c = (
   _,
   rw (inside_more c.args.levels c.args.named c.args.document.now.tree c.if-levels-eq0.false)
-      (put_stops _ (rw c.opening.ensures at c.in-Err.ensures.wrote)),
+      (put_stops _ (rw c.opening.ensures.text at c.in-Err.ensures.wrote)),
 )
 
 pub show_inside-returns-in-Bad : goal.show_inside-returns-in-Bad
@@ -88,7 +88,7 @@ pub show_inside-returns-in-Failed : goal.show_inside-returns-in-Failed
 show_inside-returns-in-Failed g t c = (
   _,
   rw (inside_more c.args.levels c.args.named c.args.document.now.tree c.if-levels-eq0.false)
-      (put_then _ (rw c.opening.ensures at c.in-Ok.ensures.wrote) (put_stops _ c.in-Failed.ensures.1)),
+      (put_then _ (rw c.opening.ensures.text at c.in-Ok.ensures.wrote) (put_stops _ c.in-Failed.ensures.1)),
 )
 
 pub show_inside-returns-in-Ok-write_whole : goal.show_inside-returns-in-Ok-write_whole
@@ -96,14 +96,14 @@ show_inside-returns-in-Ok-write_whole g t c = (
   bad_more c.args.levels c.args.document.now.start c.args.document.now.tree c.if-levels-eq0.false
       ∙ c.in-Written.ensures.0,
   rw (inside_more c.args.levels c.args.named c.args.document.now.tree c.if-levels-eq0.false)
-      (put_then _ (rw c.opening.ensures at c.in-Ok.ensures.wrote)
-      (put_then _ c.in-Written.ensures.1 (rw c.closing.ensures at c.in-Ok-write_whole.ensures.wrote))),
+      (put_then _ (rw c.opening.ensures.text at c.in-Ok.ensures.wrote)
+      (put_then _ c.in-Written.ensures.1 (rw c.closing.ensures.text at c.in-Ok-write_whole.ensures.wrote))),
 )
 
 pub show_inside-returns-in-Err-write_whole : goal.show_inside-returns-in-Err-write_whole
 show_inside-returns-in-Err-write_whole g t c = (
   _,
   rw (inside_more c.args.levels c.args.named c.args.document.now.tree c.if-levels-eq0.false)
-      (put_then _ (rw c.opening.ensures at c.in-Ok.ensures.wrote)
-      (put_then _ c.in-Written.ensures.1 (rw c.closing.ensures at c.in-Err-write_whole.ensures.wrote))),
+      (put_then _ (rw c.opening.ensures.text at c.in-Ok.ensures.wrote)
+      (put_then _ c.in-Written.ensures.1 (rw c.closing.ensures.text at c.in-Err-write_whole.ensures.wrote))),
 )

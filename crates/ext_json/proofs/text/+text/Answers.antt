@@ -33,7 +33,7 @@ pub put_elements-loop-item-preserved : goal.put_elements-loop-item-preserved
 put_elements-loop-item-preserved g t c = (
   tt,
   tt,
-  rw c.comma-before.ensures (part_put c.loop-item.invariant.2
+  rw c.comma-before.ensures.text (part_put c.loop-item.invariant.2
       (elements_more (value_text (inside_text c.args.levels)) c.args.named c.loop-item.before.now
       c.loop-item.item-iterator.tree c.next.new.self.tree c.in-Some.item c.in-Some.ensures.steps.0)
       c.in-Ok.ensures),
@@ -47,18 +47,18 @@ put_elements-returns g t c =
 pub put_inside-returns-in-Err : goal.put_inside-returns-in-Err
 put_inside-returns-in-Err g t c =
     rw (inside_more c.args.levels c.args.named c.args.document.now.tree c.if-levels-eq0.false)
-    (put_stops _ (rw c.opening.ensures at c.in-Err.ensures.wrote))
+    (put_stops _ (rw c.opening.ensures.text at c.in-Err.ensures.wrote))
 
 pub put_inside-returns-in-Err-put_elements : goal.put_inside-returns-in-Err-put_elements
 put_inside-returns-in-Err-put_elements g t c =
     rw (inside_more c.args.levels c.args.named c.args.document.now.tree c.if-levels-eq0.false)
-    (put_then _ (rw c.opening.ensures at c.in-Ok.ensures.wrote) (put_stops _ c.in-Err-put_elements.ensures))
+    (put_then _ (rw c.opening.ensures.text at c.in-Ok.ensures.wrote) (put_stops _ c.in-Err-put_elements.ensures))
 
 pub put_inside-returns : goal.put_inside-returns
 put_inside-returns g t c =
     rw (inside_more c.args.levels c.args.named c.args.document.now.tree c.if-levels-eq0.false)
-    (put_then _ (rw c.opening.ensures at c.in-Ok.ensures.wrote)
-    (put_then _ c.in-Ok-put_elements.ensures (rw c.closing.ensures at c.write_whole-2.ensures.wrote)))
+    (put_then _ (rw c.opening.ensures.text at c.in-Ok.ensures.wrote)
+    (put_then _ c.in-Ok-put_elements.ensures (rw c.closing.ensures.text at c.write_whole-2.ensures.wrote)))
 
 pub put_scope-returns-in-Err : goal.put_scope-returns-in-Err
 put_scope-returns-in-Err g t c =
@@ -76,7 +76,7 @@ put_scope-returns g t c =
     rw (scope_grouped (head_text forms.Scope) (quoted c.args.code.now) (middle_text forms.Scope)
     (inside_text c.args.levels true c.args.scope.now.tree) (tail_text forms.Scope))
     (put_then _ c.in-Ok.ensures (put_then _ c.in-Ok-put_inside.ensures
-    (rw c.tail.ensures at c.write_whole.ensures.wrote)))
+    (rw c.tail.ensures.text at c.write_whole.ensures.wrote)))
 
 pub put_leaf-returns-in-Some : goal.put_leaf-returns-in-Some
 put_leaf-returns-in-Some g t c =

@@ -8,11 +8,11 @@ use Rattle.ext_json.proofs.text.put_plain.Goals as goal
 pub put_raw-requires : goal.put_raw-requires
 put_raw-requires g c =
     rw c.requires.bytes (value_laid c.args.item.now.tree c.in-Some.form c.requires.laid
-    (ap form_of (sym c.tag-tag.ensures.tag) ∙ (sym c.form_of.ensures ∙ c.in-Some.is)))
+    (ap form_of (sym c.tag-tag.ensures.tag) ∙ (sym c.form_of.ensures.form ∙ c.in-Some.is)))
 
 pub returns-in-Some : goal.returns-in-Some
 returns-in-Some g c D other =
     let is : form_of (tag_of c.args.item.now.tree) ≡ Some c.in-Some.form =
-    ap form_of (sym c.tag-tag.ensures.tag) ∙ (sym c.form_of.ensures ∙ c.in-Some.is) in
-    rw (is, sym c.requires.bytes) (c.put_raw.ensures D
+    ap form_of (sym c.tag-tag.ensures.tag) ∙ (sym c.form_of.ensures.form ∙ c.in-Some.is) in
+    rw (is, sym c.requires.bytes) (c.put_raw.ensures.wrote D
     (λ h. other (scope_only (tag_of c.args.item.now.tree) (is ∙ ap (λ (f : Form). Some f) h))))
