@@ -1,3 +1,4 @@
+pub mod Numbered
 pub mod Sizes
 pub mod Spellings
 pub mod Drawings

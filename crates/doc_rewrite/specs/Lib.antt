@@ -1,4 +1,5 @@
 pub mod Keys
+pub mod Numbers
 pub mod Payloads
 pub mod Sites
 pub mod Sealed

@@ -4,10 +4,14 @@ ghost use Rattle.std.specs.Prelude.{◌≡◌, ◌++◌, ◌∷◌, [], is_some,
 ghost use Rattle.std.specs.Prelude.{MatchResult, option_copied, unwrap_or};
 ghost use Rattle.doc_rewrite.specs.Keys.{key_in};
 
+use crate::hashed_keys::HashedKeys;
 use fle_aead::DataKey;
 use fle_outside::Memory;
 use std::alloc::Global;
 use std::marker::Model;
+
+/// So many keys are looked through, which takes less time than a hash; those behind them are found by their hashes.
+const FEW: usize = 8;
 
 /// A data key with its id.
 #[derive(Drop)]
@@ -21,16 +25,20 @@ pub struct KeyEntry {
 /// Data keys with their ids, seen as the list of entries in the order in which they were added.
 #[derive(Drop)]
 pub struct KeyTable {
-    entries: Vec<KeyEntry>,
+    few: Vec<KeyEntry>,
+    /// Those behind the first `FEW`.
+    others: HashedKeys,
 }
 
 impl Model for KeyTable {
-    ghost use Rattle.std.specs.Prelude.{List};
+    ghost use Rattle.std.specs.Prelude.{◌≡◌, ◌<◌, ◌++◌, List, [], length};
     ghost use Rattle.doc_rewrite.specs.declared.key_table.KeyEntry.{KeyEntry};
 
     ghost Value = { List KeyEntry };
 
-    ghost view = { λ t. t.entries.items };
+    ghost view = { λ t. t.few.items ++ t.others };
+
+    ghost invariant = { λ t. length t.few.items < 8 → t.others ≡ [] };
 }
 
 impl KeyTable {
@@ -39,7 +47,8 @@ impl KeyTable {
         ensures empty { result ≡ [] }
     {
         KeyTable {
-            entries: Vec::new(alloc),
+            few: Vec::new(alloc),
+            others: HashedKeys::new(alloc),
         }
     }
 
@@ -49,23 +58,38 @@ impl KeyTable {
             (λ _. self.new ≡ self.old ++ record { id = id; key = key } ∷ [])
             (λ _. self.new ≡ self.old) }
     {
-        match self.entries.push(KeyEntry { id, key }) {
+        let entry = KeyEntry { id, key };
+        if self.few.len() >= FEW {
+            return self.others.add(entry);
+        }
+        match self.few.push(entry) {
             Ok(()) => Ok(()),
             Err(_) => Err(Memory),
         }
     }
 
     /// The first key with this id; `None` exactly where there is none.
+    #[tactic(auto, using(crate::proofs::Numbered::key_before, crate::proofs::Numbered::key_behind))]
     pub fn find(&self, id: &[u8; 16]) -> Option<&DataKey>
         ensures found { option_copied result ≡ key_in self.now id.now }
     {
-        for entry in &self.entries {
-            if entry.id == *id {
-                return Some(&entry.key);
-            }
+        match first_key(&self.few, id) {
+            Some(key) => Some(key),
+            None => self.others.find(id),
         }
-        None
     }
+}
+
+/// The first key with this id among a few, which are looked through.
+fn first_key<'k>(entries: &'k [KeyEntry], id: &[u8; 16]) -> Option<&'k DataKey>
+    ensures found { option_copied result ≡ key_in entries.now id.now }
+{
+    for entry in entries {
+        if entry.id == *id {
+            return Some(&entry.key);
+        }
+    }
+    None
 }
 
 /// The key with this id, which is there.

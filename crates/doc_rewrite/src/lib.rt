@@ -23,6 +23,7 @@
 
 mod finding;
 mod found;
+mod hashed_keys;
 mod key_table;
 pub mod laws;
 mod leaf;
@@ -44,7 +45,11 @@ pub use site::Site;
 pub use unsealing::Spot;
 
 #[cfg(test)]
+mod changed_tests;
+#[cfg(test)]
 mod deep_samples;
+#[cfg(test)]
+mod key_table_tests;
 #[cfg(test)]
 mod keyed;
 #[cfg(test)]

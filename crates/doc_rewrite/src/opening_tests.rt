@@ -1,9 +1,10 @@
 //! Documents with payloads that were made outside this repository: what they open to, and what is refused.
 
-use crate::deep_samples::{DEEP, DEEP_OPENED, TOO_DEEP};
+use crate::deep_samples::{DEEP, DEEP_OPENED, TOO_DEEP, UNDER_47_NAMES};
 use crate::keyed::has_keys;
 use crate::payload_samples::{
-    HELD, HOLDING, OTHER_VECTOR, OTHER_VECTOR_OPENED, TAG_AND_SHAPE, WRONG_PADDING, WRONG_PLAIN,
+    HELD, HOLDING, OTHER_VECTOR, OTHER_VECTOR_OPENED, REPLY, SHORT, TAG_AND_SHAPE, WRONG_PADDING,
+    WRONG_PLAIN,
 };
 use crate::samples::{
     DOTTED, EQUAL_NAMES, FROM_A_DRIVER, IN_LIST, NESTED, ONE_INT, ONE_STRING, Sample, TWO_DOCUMENTS,
@@ -24,18 +25,25 @@ const ID: [u8; 16] = [
 
 /// Why a document isn't opened.
 #[derive(Drop, PartialEq, Eq)]
-enum Refused {
+pub(crate) enum Refused {
     Shape(u32),
     At(Spot),
 }
 
 /// Parts one behind the other.
-fn whole(alloc: Global, parts: &[&[u8]]) -> Result<Vec<u8>, AllocError> {
+pub(crate) fn whole(alloc: Global, parts: &[&[u8]]) -> Result<Vec<u8>, AllocError> {
     let mut bytes = Vec::new(alloc);
     for part in parts {
         bytes.extend_from_slice(part)?;
     }
     Ok(bytes)
+}
+
+/// The data key of the tests, alone.
+pub(crate) fn key_of_tests(alloc: Global) -> Result<KeyTable, Fail> {
+    let mut keys = KeyTable::new(alloc);
+    keys.add(ID, DataKey::new(DATA_KEY))?;
+    Ok(keys)
 }
 
 /// What a document opens to, or why it doesn't.
@@ -45,8 +53,7 @@ fn open(alloc: Global, document: &RawDoc<'_>) -> Result<Result<Vec<u8>, Refused>
         Err(FindFault::Shape { at }) => return Ok(Err(Refused::Shape(at))),
         Err(FindFault::Memory) => return Err("no memory".into()),
     };
-    let mut keys = KeyTable::new(alloc);
-    keys.add(ID, DataKey::new(DATA_KEY))?;
+    let keys = key_of_tests(alloc)?;
     if !has_keys(&found, &keys) {
         return Err("keys".into());
     }
@@ -60,14 +67,19 @@ fn open(alloc: Global, document: &RawDoc<'_>) -> Result<Result<Vec<u8>, Refused>
     }
 }
 
-/// The same of bytes that are given in parts.
-fn opened(alloc: Global, parts: &[&[u8]]) -> Result<Result<Vec<u8>, Refused>, Fail> {
-    let bytes = whole(alloc, parts)?;
+/// The same of bytes.
+pub(crate) fn open_bytes(alloc: Global, bytes: &[u8]) -> Result<Result<Vec<u8>, Refused>, Fail> {
     if bytes.len() > 1000 {
         return Err("too long".into());
     }
-    let document = check_bson(&bytes)?;
+    let document = check_bson(bytes)?;
     open(alloc, &document)
+}
+
+/// The same of bytes that are given in parts.
+fn opened(alloc: Global, parts: &[&[u8]]) -> Result<Result<Vec<u8>, Refused>, Fail> {
+    let bytes = whole(alloc, parts)?;
+    open_bytes(alloc, &bytes)
 }
 
 /// Whether the document of these parts opens to that of those.
@@ -112,6 +124,7 @@ fn at_level_47_a_value_of_53_levels_opens_and_one_of_54_is_refused(
 ) -> Result<(), Fail> {
     assert!(rt; opens_to(rt.alloc(), DEEP, DEEP_OPENED)?);
     assert!(rt; is_refused(rt.alloc(), TOO_DEEP, Reason::Plain, 282)?);
+    assert!(rt; opens_again(rt.alloc(), &UNDER_47_NAMES)?);
     Ok(())
 }
 
@@ -119,6 +132,12 @@ fn at_level_47_a_value_of_53_levels_opens_and_one_of_54_is_refused(
 fn what_was_opened_is_not_looked_into(rt: HostRuntime) -> Result<(), Fail> {
     assert!(rt; opens_to(rt.alloc(), HOLDING, HELD)?);
     assert!(rt; opened(rt.alloc(), HELD)? == Err(Refused::Shape(60)));
+    Ok(())
+}
+
+#[test]
+fn a_marking_is_no_payload(rt: HostRuntime) -> Result<(), Fail> {
+    assert!(rt; opens_to(rt.alloc(), REPLY, REPLY)?);
     Ok(())
 }
 
@@ -131,6 +150,7 @@ fn a_vector_need_not_be_the_derived_one(rt: HostRuntime) -> Result<(), Fail> {
 #[test]
 fn shapes_come_before_tags(rt: HostRuntime) -> Result<(), Fail> {
     assert!(rt; opened(rt.alloc(), TAG_AND_SHAPE)? == Err(Refused::Shape(153)));
+    assert!(rt; opened(rt.alloc(), SHORT)? == Err(Refused::Shape(47)));
     Ok(())
 }
 

@@ -1,5 +1,9 @@
 //! Documents with payloads that were made outside this repository, by Python's hmac and OpenSSL's AES-256-CBC.
 
+use crate::sample_bytes::{SALARY_7_BY_02, SALARY_8_BY_03, SSN};
+use crate::samples::Sample;
+use encrypt_schema::{Mark, Role};
+
 /// `{insert: "people", documents: [{salary: payload}], $db: "hr"}`, its payload
 /// sealed over a document that holds what begins as one.
 pub(crate) const HOLDING: &[&[u8]] = &[
@@ -61,4 +65,47 @@ pub(crate) const OTHER_VECTOR_OPENED: &[&[u8]] = &[
     b"D\x00\x00\x00\x02insert\x00\x06\x00\x00\x00notes\x00\x04documents\x00\x16\x00\x00\x00\x030",
     b"\x00\x0e\x00\x00\x00\x02s\x00\x02\x00\x00\x00x\x00\x00\x00\x02$db\x00\x03\x00\x00\x00hr",
     b"\x00\x00",
+];
+
+/// The insert of that document, sealed under the block of 01.
+pub(crate) const OF_A_DOCUMENT: Sample = Sample {
+    collection: b"people",
+    command: HELD,
+    marks: &[Mark {
+        start: 53,
+        end: 69,
+        tag: 3,
+        policy: 1,
+        role: Role::Store,
+    }],
+    sealed: HOLDING,
+};
+
+/// What the insert of two documents is sealed to under the blocks of 02 and of 03.
+pub(crate) const TWO_DOCUMENTS_ANEW: &[&[u8]] = &[
+    b"n\x01\x00\x00\x02insert\x00\x07\x00\x00\x00people\x00\x04documents\x00?\x01\x00",
+    b"\x00\x030\x00d\x00\x00\x00\x05salary\x00R\x00\x00\x00\x06",
+    SALARY_7_BY_02,
+    b"\x00\x031\x00\xd0\x00\x00\x00\x05ssn\x00b\x00\x00\x00\x06",
+    SSN,
+    b"\x05salary\x00R\x00\x00\x00\x06",
+    SALARY_8_BY_03,
+    b"\x00\x00\x02$db\x00\x03\x00\x00\x00hr\x00\x00",
+];
+
+/// `{insert: "notes", documents: [{p: binary of subtype 06, 01 02 03}], $db: "hr"}`.
+pub(crate) const SHORT: &[&[u8]] = &[
+    b"F\x00\x00\x00\x02insert\x00\x06\x00\x00\x00notes\x00\x04documents\x00\x18\x00\x00\x00\x030",
+    b"\x00\x10\x00\x00\x00\x05p\x00\x03\x00\x00\x00\x06\x01\x02\x03\x00\x00\x02$db\x00\x03\x00\x00",
+    b"\x00hr\x00\x00",
+];
+
+/// The reply of a marking service to the insert of `ssn`: its binary of subtype 06 holds a marking.
+pub(crate) const REPLY: &[&[u8]] = &[
+    b"\xd6\x00\x00\x00\x08hasEncryptionPlaceholders\x00\x01\x08schemaRequiresEncryption\x00\x01",
+    b"\x03result\x00\x86\x00\x00\x00\x02insert\x00\x07\x00\x00\x00people\x00\x04documents\x00W\x00",
+    b"\x00\x00\x030\x00O\x00\x00\x00\x05ssn\x009\x00\x00\x00\x06\x008\x00\x00\x00\x02v\x00\x0c\x00",
+    b"\x00\x00123-45-6789\x00\x10a\x00\x01\x00\x00\x00\x05ki\x00\x10\x00\x00\x00\x04\x00\x11\"3DUF",
+    b"w\x88\x99\xaa\xbb\xcc\xdd\xee\xff\x00\x10n\x00\x01\x00\x00\x00\x00\x00\x02$db\x00\x03\x00",
+    b"\x00\x00hr\x00\x00\x01ok\x00\x00\x00\x00\x00\x00\x00\xf0?\x00",
 ];

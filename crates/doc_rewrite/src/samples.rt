@@ -180,6 +180,20 @@ pub(crate) const IN_LIST: Sample = Sample {
     ],
 };
 
+/// `{find: "people", filter: {ssn: {$in: []}}, $db: "hr"}`, in which nothing is protected.
+pub(crate) const EMPTY_LIST: Sample = Sample {
+    collection: b"people",
+    command: NO_VALUES,
+    marks: &[],
+    sealed: NO_VALUES,
+};
+
+const NO_VALUES: &[&[u8]] = &[
+    b"C\x00\x00\x00\x02find\x00\x07\x00\x00\x00people\x00\x03filter\x00\x19\x00\x00\x00\x03ssn",
+    b"\x00\x0f\x00\x00\x00\x04$in\x00\x05\x00\x00\x00\x00\x00\x00\x02$db\x00\x03\x00\x00\x00hr",
+    b"\x00\x00",
+];
+
 /// `{update: "staff", updates: [{q: {}, u: {$set: {"a.b": int 1}}}], $db: "hr"}`.
 pub(crate) const DOTTED: Sample = Sample {
     collection: b"staff",

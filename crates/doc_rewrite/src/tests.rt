@@ -1,8 +1,11 @@
 //! Commands that were sealed outside this repository.
 
+use crate::deep_samples::UNDER_47_NAMES;
+use crate::payload_samples::{OF_A_DOCUMENT, TWO_DOCUMENTS_ANEW};
 use crate::sample_bytes::INFOS;
 use crate::samples::{
-    DOTTED, EQUAL_NAMES, FROM_A_DRIVER, IN_LIST, NESTED, ONE_INT, ONE_STRING, Sample, TWO_DOCUMENTS,
+    DOTTED, EMPTY_LIST, EQUAL_NAMES, FROM_A_DRIVER, IN_LIST, NESTED, ONE_INT, ONE_STRING, Sample,
+    TWO_DOCUMENTS,
 };
 use crate::standing::{keys_there, stand};
 use crate::{KeyTable, plan_clear, plan_seal, seal_through};
@@ -29,34 +32,46 @@ fn joined(alloc: Global, parts: &[&[u8]]) -> Result<Vec<u8>, AllocError> {
     Ok(bytes)
 }
 
-/// The document sealed at these marks, with these blocks; `None` where they are too few.
+/// The data key of the tests behind another one.
+fn keys_of_tests(alloc: Global) -> Result<KeyTable, Fail> {
+    let mut keys = KeyTable::new(alloc);
+    keys.add([7; 16], DataKey::new([0; 96]))?;
+    keys.add(ID, DataKey::new(DATA_KEY))?;
+    Ok(keys)
+}
+
+/// The document sealed at these marks; `None` where a draw failed.
 fn seal(
     alloc: Global,
     rows: &Rows,
     document: &RawDoc<'_>,
     marks: &Marks,
-    blocks: &[[u8; 16]],
+    keys: &KeyTable,
+    entropy: &mut MemEntropy,
 ) -> Result<Option<Vec<u8>>, Fail> {
     if !stand(alloc, document, marks, rows) {
         return Err("marks".into());
     }
-    let plan = plan_seal(alloc, document, marks, rows).map_err(|_| "no plan")?;
-    let mut keys = KeyTable::new(alloc);
-    keys.add([7; 16], DataKey::new([0; 96]))?;
-    keys.add(ID, DataKey::new(DATA_KEY))?;
-    if !keys_there(&plan, &keys) {
+    let plan = match plan_seal(alloc, document, marks, rows) {
+        Ok(plan) => plan,
+        Err(_) => return Err("no plan".into()),
+    };
+    if !keys_there(&plan, keys) {
         return Err("keys".into());
     }
-    let mut entropy = MemEntropy::new(Vec::from_slice(alloc, blocks)?, Vec::new(alloc));
     let mut out = vec![in alloc; 0; plan.output_len()]?;
-    match seal_through(&plan, document, &keys, &Tables, &mut entropy, &mut out) {
+    match seal_through(&plan, document, keys, &Tables, entropy, &mut out) {
         Ok(()) => Ok(Some(out)),
         Err(_) => Ok(None),
     }
 }
 
-/// What a sample is sealed to, with these blocks; `None` where they are too few.
-fn sealed(alloc: Global, sample: &Sample, blocks: &[[u8; 16]]) -> Result<Option<Vec<u8>>, Fail> {
+/// What a sample is sealed to; `None` where a draw failed.
+fn sealed_by(
+    alloc: Global,
+    sample: &Sample,
+    entropy: &mut MemEntropy,
+) -> Result<Option<Vec<u8>>, Fail> {
     let infos = Infos::load(alloc, INFOS)?;
     let info = infos.info_of(sample.collection).ok_or("no info")?;
     let bytes = joined(alloc, sample.command)?;
@@ -68,7 +83,14 @@ fn sealed(alloc: Global, sample: &Sample, blocks: &[[u8; 16]]) -> Result<Option<
     for mark in sample.marks {
         marks.add(*mark)?;
     }
-    seal(alloc, info.rows(), &document, &marks, blocks)
+    let keys = keys_of_tests(alloc)?;
+    seal(alloc, info.rows(), &document, &marks, &keys, entropy)
+}
+
+/// The same with these blocks; `None` where they are too few.
+fn sealed(alloc: Global, sample: &Sample, blocks: &[[u8; 16]]) -> Result<Option<Vec<u8>>, Fail> {
+    let mut entropy = MemEntropy::new(Vec::from_slice(alloc, blocks)?, Vec::new(alloc));
+    sealed_by(alloc, sample, &mut entropy)
 }
 
 /// Whether a sample is sealed as elsewhere, with the blocks of 01 and of 02.
@@ -105,6 +127,34 @@ fn commands_are_sealed_as_elsewhere(rt: HostRuntime) -> Result<(), Fail> {
     assert!(rt; is_sealed(alloc, &DOTTED)?);
     assert!(rt; is_sealed(alloc, &NESTED)?);
     assert!(rt; is_sealed(alloc, &FROM_A_DRIVER)?);
+    Ok(())
+}
+
+#[test]
+fn documents_and_values_at_many_levels_are_sealed_as_elsewhere(
+    rt: HostRuntime,
+) -> Result<(), Fail> {
+    let alloc = rt.alloc();
+    assert!(rt; is_sealed(alloc, &OF_A_DOCUMENT)?);
+    assert!(rt; is_sealed(alloc, &UNDER_47_NAMES)?);
+    assert!(rt; is_sealed(alloc, &EMPTY_LIST)?);
+    Ok(())
+}
+
+#[test]
+fn sealing_after_a_failed_draw_draws_anew(rt: HostRuntime) -> Result<(), Fail> {
+    let alloc = rt.alloc();
+    let blocks = [[1; 16], [2; 16], [3; 16]];
+    let first = vec![in alloc; 0u64]?;
+    let mut entropy = MemEntropy::new(Vec::from_slice(alloc, &blocks)?, first);
+    assert!(rt; sealed_by(alloc, &ONE_INT, &mut entropy)?.is_none());
+    let whole = joined(alloc, ONE_INT.sealed)?;
+    assert!(rt; sealed_by(alloc, &ONE_INT, &mut entropy)? == Some(whole));
+    let second = vec![in alloc; 1u64]?;
+    let mut entropy = MemEntropy::new(Vec::from_slice(alloc, &blocks)?, second);
+    assert!(rt; sealed_by(alloc, &TWO_DOCUMENTS, &mut entropy)?.is_none());
+    let whole = joined(alloc, TWO_DOCUMENTS_ANEW)?;
+    assert!(rt; sealed_by(alloc, &TWO_DOCUMENTS, &mut entropy)? == Some(whole));
     Ok(())
 }
 

@@ -19,7 +19,7 @@ returns-clause-payload g c = λ block e.
     (value_bytes t) c.seal_payload_into.new.out sealed in
     let value : length c.value.result.now ≡ length (value_bytes t) = ap length c.value.ensures.spelling in
     let long : c.payload_len.result ≡ 66 + 16 * (length (value_bytes t) / 16 + 1) =
-    c.payload_len.ensures ∙ ap (λ (n : ℕ). 66 + 16 * (n / 16 + 1)) value in
+    c.payload_len.ensures.len ∙ ap (λ (n : ℕ). 66 + 16 * (n / 16 + 1)) value in
     take-put_mid c.args.at (c.args.at + c.payload_len.result - c.args.at) c.args.out.now c.seal_payload_into.new.out
     (c.args.at + c.payload_len.result)
     (omega (arith, size, long)) (omega (arith, c.requires.room))

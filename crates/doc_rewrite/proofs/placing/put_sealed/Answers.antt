@@ -15,7 +15,7 @@ returns-clause-element g c = λ block e.
     let put = c.put_payload.ensures.payload block e in
     let value : length c.value.result.now ≡ length (value_bytes t) = ap length c.value.ensures.spelling in
     let long : n ≡ 66 + 16 * (length (value_bytes t) / 16 + 1) =
-    c.payload_len-size.ensures ∙ ap (λ (k : ℕ). 66 + 16 * (k / 16 + 1)) value in
+    c.payload_len-size.ensures.len ∙ ap (λ (k : ℕ). 66 + 16 * (k / 16 + 1)) value in
     let name : length c.name.result.now ≡ length c.args.item.now.name = ap length c.name.ensures.name in
     let typed : c.put-typed.result ≤ length c.put-typed.new.out =
     omega (

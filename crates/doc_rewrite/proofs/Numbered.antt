@@ -1,0 +1,98 @@
+-- The number of an entry by its id, in a list that grows
+use Rattle.std.proofs.Common.{◌≡◌, ◌∙◌, ℕ, zero, suc, ◌+◌, Bool, true, false, cond, List, [], ◌∷◌, ◌++◌, length}
+use Rattle.std.proofs.Common.{Option, Some, None, HashMap, bytes_eq, refl, sym, ap, subst, arith, length-append}
+use Rattle.std.proofs.lemmas.List.{append_assoc}
+use Rattle.std.specs.Prelude.{option_map, slice_get}
+use Rattle.doc_rewrite.specs.declared.key_table.KeyEntry.{KeyEntry}
+use Rattle.doc_rewrite.specs.Keys.{key_in}
+use Rattle.doc_rewrite.specs.Numbers.{number_of_id, or_new, place_from}
+
+or_new_if : (test : Bool) (n : ℕ) (o : Option ℕ) (new : Bool) (m k : ℕ) → m ≡ k
+    → cond test (Some n) (or_new o new m) ≡ or_new (cond test (Some n) o) new k
+or_new_if true n o new m k e = refl
+or_new_if false n o new m k e = ap (or_new o new) e
+
+place_behind : (n : ℕ) (id : List ℕ) (es : List KeyEntry) (e : KeyEntry)
+    → place_from n id (es ++ e ∷ []) ≡ or_new (place_from n id es) (bytes_eq e.id id) (n + length es)
+place_behind n id [] e =
+    let k : n ≡ n + length {A = KeyEntry} [] = omega arith in
+    ap (λ (m : ℕ). cond (bytes_eq e.id id) (Some m) None) k
+place_behind n id (d ∷ es) e =
+    let k : n + 1 + length es ≡ n + length (d ∷ es) = omega arith in
+    ap (λ (o : Option ℕ). cond (bytes_eq d.id id) (Some n) o) (place_behind (n + 1) id es e)
+    ∙ or_new_if (bytes_eq d.id id) n (place_from (n + 1) id es) (bytes_eq e.id id) (n + 1 + length es)
+    (n + length (d ∷ es)) k
+
+-- the numbers by id, with one more entry
+pub added : {S : Type 0} (es : List KeyEntry) (e : KeyEntry) (old new : HashMap (List ℕ) ℕ S) (number : ℕ)
+    → ((id : List ℕ) → number_of_id new id ≡ or_new (number_of_id old id) (bytes_eq e.id id) number)
+    → ((id : List ℕ) → number_of_id old id ≡ place_from 0 id es) → number ≡ length es
+    → (id : List ℕ) → number_of_id new id ≡ place_from 0 id (es ++ e ∷ [])
+added es e old new number put known count id =
+    let size : number ≡ 0 + length es = omega (arith, count) in
+    put id ∙ ap (λ (o : Option ℕ). or_new o (bytes_eq e.id id) number) (known id)
+    ∙ ap (or_new (place_from 0 id es) (bytes_eq e.id id)) size
+    ∙ sym (place_behind 0 id es e)
+
+seam : (front : List KeyEntry) (e : KeyEntry) (es : List KeyEntry) (n : ℕ) → n ≡ length front
+    → slice_get (front ++ e ∷ es) n ≡ Some e
+seam [] e es zero k = refl
+seam [] e es (suc n) k = absurd (omega (arith, k))
+seam (d ∷ front) e es zero k = absurd (omega (arith, k))
+seam (d ∷ front) e es (suc n) k = seam front e es n (omega (arith, k))
+
+-- the number of an id is that of the first key
+abbrev Found : List KeyEntry → Option (List ℕ) → Option ℕ → Type 0
+Found all first None = first ≡ None
+Found all first (Some n) = option_map (λ e. e.key) (slice_get all n) ≡ first
+
+found_by : (test : Bool) (all : List KeyEntry) (e : KeyEntry) (n : ℕ) (first : Option (List ℕ)) (number : Option ℕ)
+    → slice_get all n ≡ Some e → Found all first number
+    → Found all (cond test (Some e.key) first) (cond test (Some n) number)
+found_by true all e n first number here others = ap (λ o. option_map (λ d. d.key) o) here
+found_by false all e n first number here others = others
+
+found_behind : (id : List ℕ) (front es : List KeyEntry)
+    → Found (front ++ es) (key_in es id) (place_from (length front) id es)
+found_behind id front [] = refl
+found_behind id front (e ∷ es) =
+    let all : (front ++ e ∷ []) ++ es ≡ front ++ e ∷ es = append_assoc front (e ∷ []) es in
+    let next : length (front ++ e ∷ []) ≡ length front + 1 = omega (arith, length-append front (e ∷ [])) in
+    let others : Found (front ++ e ∷ es) (key_in es id) (place_from (length front + 1) id es)
+    = subst (λ (ds : List KeyEntry). Found ds (key_in es id) (place_from (length front + 1) id es)) all
+    (subst (λ (n : ℕ). Found ((front ++ e ∷ []) ++ es) (key_in es id) (place_from n id es)) next
+    (found_behind id (front ++ e ∷ []) es)) in
+    found_by (bytes_eq e.id id) (front ++ e ∷ es) e (length front) (key_in es id) (place_from (length front + 1) id es)
+    (seam front e es (length front) refl) others
+
+-- the key of the number that an id has
+pub found_at : (id : List ℕ) (es : List KeyEntry) (n : ℕ) → place_from 0 id es ≡ Some n
+    → option_map (λ e. e.key) (slice_get es n) ≡ key_in es id
+found_at id es n k = subst (Found es (key_in es id)) k (found_behind id [] es)
+
+-- no entry has an id without a number
+pub found_none : (id : List ℕ) (es : List KeyEntry) → place_from 0 id es ≡ None → None ≡ key_in es id
+found_none id es k = sym (subst (Found es (key_in es id)) k (found_behind id [] es))
+
+behind_if : (test : Bool) (key : List ℕ) (first all others : Option (List ℕ)) → cond test (Some key) first ≡ None
+    → (first ≡ None → all ≡ others) → cond test (Some key) all ≡ others
+behind_if true key first all others k h = absurd cc
+behind_if false key first all others k h = h k
+
+before_if : (test : Bool) (own : List ℕ) (first all : Option (List ℕ)) (key : List ℕ)
+    → cond test (Some own) first ≡ Some key → (first ≡ Some key → all ≡ Some key) → cond test (Some own) all ≡ Some key
+before_if true own first all key k h = k
+before_if false own first all key k h = h k
+
+-- a look-up in two lists: in the second, where the first has nothing
+pub key_behind : (id : List ℕ) (es fs : List KeyEntry) → key_in es id ≡ None → key_in (es ++ fs) id ≡ key_in fs id
+key_behind id [] fs k = refl
+key_behind id (e ∷ es) fs k =
+    behind_if (bytes_eq e.id id) e.key (key_in es id) (key_in (es ++ fs) id) (key_in fs id) k (key_behind id es fs)
+
+-- and in the first
+pub key_before : (id : List ℕ) (es fs : List KeyEntry) (key : List ℕ) → key_in es id ≡ Some key
+    → key_in (es ++ fs) id ≡ Some key
+key_before id [] fs key k = absurd cc
+key_before id (e ∷ es) fs key k =
+    before_if (bytes_eq e.id id) e.key (key_in es id) (key_in (es ++ fs) id) key k (key_before id es fs key)

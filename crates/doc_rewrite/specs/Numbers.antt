@@ -1,0 +1,18 @@
+-- Where entries stand in a list of data keys, by their ids
+use Rattle.std.specs.Prelude.{ℕ, ◌+◌, Bool, List, [], ◌∷◌, Option, Some, None, bytes_eq, if◌then◌else◌}
+use Rattle.std.specs.HashMap.{HashMap, get_by}
+use Rattle.doc_rewrite.specs.declared.key_table.KeyEntry.{KeyEntry}
+
+-- the number that a map has for an id, whatever hashes its keys
+abbrev pub number_of_id : {S : Type 0} → HashMap (List ℕ) ℕ S → List ℕ → Option ℕ
+number_of_id numbers id = get_by (λ k. bytes_eq id k) numbers
+
+-- the number of the first entry with an id, among entries that are counted from n on
+abbrev pub place_from : ℕ → List ℕ → List KeyEntry → Option ℕ
+place_from n id [] = None
+place_from n id (e ∷ es) = if bytes_eq e.id id then Some n else place_from (n + 1) id es
+
+-- the number found, or else this one where a test holds
+abbrev pub or_new : Option ℕ → Bool → ℕ → Option ℕ
+or_new (Some n) test number = Some n
+or_new None test number = if test then Some number else None
