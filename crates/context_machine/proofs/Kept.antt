@@ -39,7 +39,7 @@ behind_kept [] k id = refl
 behind_kept (j ∷ js) k id = or_over (bytes_eq j.id id) (key_by_id js id) (key_by_id (js ++ (k ∷ [])) id)
     (one_key (bytes_eq k.id id) k) j (behind_kept js k id)
 
-needed_behind : (asked : List Need) (n : Need) (id : List ℕ)
+pub needed_behind : (asked : List Need) (n : Need) (id : List ℕ)
     → is_needed id (asked ++ (n ∷ [])) ≡ (is_needed id asked || bytes_eq n.id id)
 needed_behind [] n id = or_none (bytes_eq n.id id)
 needed_behind (i ∷ is) n id = ap (λ (b : Bool). bytes_eq i.id id || b) (needed_behind is n id)

@@ -1,4 +1,5 @@
 pub mod Kept
+mod Filled
 mod Frames
 pub mod Waits
 mod Tables

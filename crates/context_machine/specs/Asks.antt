@@ -3,10 +3,11 @@ use Rattle.std.specs.Prelude.{ℕ, ◌+◌, List, [], ◌∷◌, codes, decimal}
 use Rattle.bson_tree.specs.Tree.{Tree, Items, leaf, node, no_items, item}
 use Rattle.bson_codec.specs.Layout.{string_bytes, binary_bytes}
 
--- BSON 1.1: a string (02); a UUID, a binary (05) of subtype 04
+-- BSON 1.1: a string (02)
 abbrev pub text : List ℕ → Tree
 text name = leaf 0x02 (string_bytes name)
 
+-- BSON 1.1: a UUID, a binary (05) of subtype 04
 abbrev pub uuid : List ℕ → Tree
 uuid id = leaf 0x05 (binary_bytes 0x04 id)
 

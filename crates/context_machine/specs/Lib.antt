@@ -1,5 +1,6 @@
 pub mod Needs
 pub mod Kept
+pub mod Slots
 pub mod Asks
 pub mod Rings
 pub mod States

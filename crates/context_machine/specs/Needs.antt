@@ -16,6 +16,7 @@ abbrev pub with_new : List Need → List Need → List Need
 with_new needs [] = needs
 with_new needs (n ∷ ns) = with_new (put_new needs n) ns
 
+-- the same of all values, with none before
 abbrev pub first_needs : List Need → List Need
 first_needs ns = with_new [] ns
 

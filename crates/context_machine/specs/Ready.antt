@@ -55,9 +55,10 @@ IsTooLong size (stops.Refused reason at) = ⊥
 IsTooLong size stops.TooLong = 48000000 < size
 IsTooLong size stops.Memory = Unit {0}
 
--- the command that waited, once it is ready; and the one that was ready, once it is sealed
+-- the command that waited, once it is ready: the same with this table of data keys
 abbrev pub readied : Waits → List KeyEntry → Readied
 readied w table = record { command = w.command; info = w.info; kept = w.kept; table = table }
 
+-- the command that was ready, once it is sealed: the same with these bytes
 abbrev pub finished : Readied → List ℕ → Finished
 finished r bytes = record { command = r.command; info = r.info; kept = r.kept; table = r.table; bytes = bytes }

@@ -26,7 +26,12 @@ const ONE_KEY: [u8; 103] = [
     0x00, 0x00, 0x00, 0x00, 0x00, 0x00, 0x00,
 ];
 
-/// Whether these bytes are that filter.
+/// Whether these bytes are the filter of `people`.
+pub(crate) fn is_filter_of_people(bytes: &[u8]) -> bool {
+    bytes == PEOPLE.as_slice()
+}
+
+/// Whether these bytes are the filter of that one key.
 pub(crate) fn is_filter_of_one(bytes: &[u8]) -> bool {
     bytes == ONE_KEY.as_slice()
 }

@@ -88,6 +88,13 @@ impl<'a> DecryptNeedKeys<'a> {
         key_filter(alloc, self.wanted.needs())
     }
 
+    /// The first payload that needs each key, in reading order.
+    pub fn needs(&self) -> &[Need]
+        ensures needs { result.now ≡ first_needs (needs_in self.now.document) }
+    {
+        self.wanted.needs()
+    }
+
     /// The id of key `i` of those that are needed, in the order in which the document needs them first, counted from 0;
     /// `None` past the last.
     pub fn needed(&self, i: usize) -> Option<[u8; 16]>

@@ -16,7 +16,7 @@ use std::alloc::Global;
 use std::test::Fail;
 
 /// A key of this id with this material.
-fn key_of(alloc: Global, id: [u8; 16], material: &[u8]) -> Result<KeyDoc, Fail> {
+pub(crate) fn key_of(alloc: Global, id: [u8; 16], material: &[u8]) -> Result<KeyDoc, Fail> {
     let material = Bytes::from_vec(Vec::from_slice(alloc, material)?);
     Ok(KeyDoc {
         id,
@@ -27,7 +27,7 @@ fn key_of(alloc: Global, id: [u8; 16], material: &[u8]) -> Result<KeyDoc, Fail> 
 }
 
 /// The key of `ID`.
-fn right_key(alloc: Global) -> Result<KeyDoc, Fail> {
+pub(crate) fn right_key(alloc: Global) -> Result<KeyDoc, Fail> {
     key_of(alloc, ID, &material())
 }
 
@@ -37,14 +37,14 @@ fn other_key(alloc: Global) -> Result<KeyDoc, Fail> {
 }
 
 /// The key of `ID`, the last byte of its tag another.
-fn damaged_key(alloc: Global) -> Result<KeyDoc, Fail> {
+pub(crate) fn damaged_key(alloc: Global) -> Result<KeyDoc, Fail> {
     let mut material = material();
     material[159] ^= 1;
     key_of(alloc, ID, &material)
 }
 
 /// The key of `ID`, but a key service holds its master key.
-fn foreign_key(alloc: Global) -> Result<KeyDoc, Fail> {
+pub(crate) fn foreign_key(alloc: Global) -> Result<KeyDoc, Fail> {
     let mut key = right_key(alloc)?;
     key.provider = Provider::Other;
     Ok(key)

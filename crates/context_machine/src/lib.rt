@@ -34,6 +34,7 @@ mod need_keys;
 mod need_markings;
 mod opened_keys;
 mod ready;
+mod slots;
 mod wanted;
 
 pub use begun::Begun;
@@ -55,3 +56,9 @@ mod asking_tests;
 mod decrypting_samples;
 #[cfg(test)]
 mod decrypting_tests;
+#[cfg(test)]
+mod refusal_tests;
+#[cfg(test)]
+mod sealing_samples;
+#[cfg(test)]
+mod sealing_tests;

@@ -12,6 +12,7 @@ ghost use Rattle.doc_rewrite.specs.Sealing.{HasKeys};
 ghost use Rattle.encrypt_schema.specs.Commands.Targets.{rows_in};
 
 use crate::keys_asked;
+use crate::need::Need;
 use crate::opened_keys::{KeysStop, open_keys, open_keys_cached};
 use crate::ready::Ready;
 use crate::wanted::Wanted;
@@ -82,6 +83,13 @@ impl<'a> NeedKeys<'a> {
             ≡ doc_bytes (key_filter (ids_of (wanted_of self.now.info self.now.command)))) }
     {
         keys_asked::key_filter(alloc, self.wanted.needs())
+    }
+
+    /// The first value that needs each key, in reading order.
+    pub fn needs(&self) -> &[Need]
+        ensures needs { result.now ≡ wanted_of self.now.info self.now.command }
+    {
+        self.wanted.needs()
     }
 
     /// The id of key `i` of those that the command needs, counted from 0, in order of first use; `None` past the last.

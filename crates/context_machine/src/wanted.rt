@@ -3,33 +3,38 @@
 ghost use Rattle.std.specs.Prelude.{◌≡◌, ◌<◌, ◌∷◌, [], ◌++◌, false, true, drop, length, map, option_copied, option_map};
 ghost use Rattle.std.specs.Prelude.{slice_get, IfOk, OnOk};
 ghost use Rattle.key_vault.specs.Keys.{key_by_id};
-ghost use Rattle.context_machine.specs.Kept.{fed, is_kept};
-ghost use Rattle.context_machine.specs.Needs.{first_needs, is_needed, put_new};
+ghost use Rattle.context_machine.specs.Kept.{fed};
+ghost use Rattle.context_machine.specs.Needs.{first_needs, put_new};
+ghost use Rattle.context_machine.specs.Slots.{AreSlots};
 
 use crate::need::Need;
+use crate::slots::{Slots, add_slot, fill_slot, has_slot, number_of};
 use data_key::KeyDoc;
 use fle_outside::Memory;
 use std::alloc::Global;
+use std::collections::BTreeMap;
 use std::marker::Model;
 
 /// The first value that needs each key, in reading order, and the keys that are kept, in the order in which they were
-/// handed in. There is room for each key that is kept from now on.
+/// handed in. There is room for each key that is kept from now on, and a slot for its number.
 #[derive(Drop)]
 pub(crate) struct Wanted<'a> {
     needs: Vec<Need>,
+    slots: Slots,
     kept: Vec<&'a KeyDoc>,
 }
 
 impl<'a> Model for Wanted<'a> {
     ghost use Rattle.std.specs.Prelude.{◌≤◌, ◌+◌, map, vec_len, vec_capacity};
     ghost use Rattle.context_machine.specs.Kept.{Wants, lacking};
+    ghost use Rattle.context_machine.specs.Slots.{AreSlots};
 
     ghost Value = { Wants };
 
     ghost view = { λ w. record { needs = w.needs.items; kept = map (λ k. k.now) w.kept.items } };
 
-    ghost invariant = { λ w. vec_len w.kept + lacking (map (λ k. k.now) w.kept.items) w.needs.items
-        ≤ vec_capacity w.kept };
+    ghost invariant = { λ w. (vec_len w.kept + lacking (map (λ k. k.now) w.kept.items) w.needs.items
+        ≤ vec_capacity w.kept) × AreSlots w.needs.items (map (λ k. k.now) w.kept.items) w.slots };
 }
 
 impl<'a> Wanted<'a> {
@@ -37,9 +42,10 @@ impl<'a> Wanted<'a> {
     pub(crate) fn new(alloc: Global, uses: &[Need]) -> Result<Wanted<'a>, Memory>
         ensures none { IfOk result (λ w. w ≡ record { needs = first_needs uses.now; kept = [] }) }
     {
-        let needs = first_needs(alloc, uses)?;
+        let mut slots = BTreeMap::new(alloc);
+        let needs = first_needs(alloc, uses, &mut slots)?;
         match Vec::with_capacity(alloc, needs.len()) {
-            Ok(kept) => Ok(Wanted { needs, kept }),
+            Ok(kept) => Ok(Wanted { needs, slots, kept }),
             Err(_) => Err(Memory),
         }
     }
@@ -67,7 +73,7 @@ impl<'a> Wanted<'a> {
         ensures needs { self.new.needs ≡ self.old.needs }
         ensures fed { self.new.kept ≡ fed self.old.needs self.old.kept key.entry.now }
     {
-        if is_needed(&self.needs, &key.id) && !is_kept(&self.kept, &key.id) {
+        if fill_slot(&mut self.slots, &key.id, self.kept.len()) {
             if self.kept.push(key).is_err() {
                 unreachable!();
             }
@@ -78,26 +84,34 @@ impl<'a> Wanted<'a> {
     pub(crate) fn by_id(&self, id: &[u8; 16]) -> Option<&'a KeyDoc>
         ensures found { option_copied result ≡ key_by_id self.now.kept id.now }
     {
-        kept_by_id(&self.kept, id)
+        match number_of(&self.slots, id) {
+            Some(number) => kept_at(&self.kept, number),
+            None => None,
+        }
     }
 }
 
-/// The first of the values that need each key, in order.
-fn first_needs(alloc: Global, uses: &[Need]) -> Result<Vec<Need>, Memory>
+/// The first of the values that need each key, in order, and a free slot for each.
+fn first_needs(alloc: Global, uses: &[Need], slots: &mut Slots) -> Result<Vec<Need>, Memory>
+    requires none { AreSlots [] [] slots.old }
     ensures first { IfOk result (λ v. v.items ≡ first_needs uses.now) }
+    ensures slots { IfOk result (λ v. AreSlots v.items [] slots.new) }
 {
     let mut needs = Vec::new(alloc);
     for n in uses {
-        put_new(&mut needs, *n)?;
+        put_new(&mut needs, slots, *n)?;
     }
     Ok(needs)
 }
 
-/// Appends a value where its key isn't needed yet.
-fn put_new(needs: &mut Vec<Need>, n: Need) -> Result<(), Memory>
+/// Appends a value where its key isn't needed yet, and makes a slot for the key.
+fn put_new(needs: &mut Vec<Need>, slots: &mut Slots, n: Need) -> Result<(), Memory>
+    requires slots { AreSlots needs.old.items [] slots.old }
     ensures put { OnOk result (needs.new.items ≡ put_new needs.old.items n) }
+    ensures slots { OnOk result (AreSlots needs.new.items [] slots.new) }
 {
-    if !is_needed(needs, &n.id) {
+    if !has_slot(slots, &n.id) {
+        add_slot(slots, n.id)?;
         if needs.push(n).is_err() {
             return Err(Memory);
         }
@@ -105,33 +119,9 @@ fn put_new(needs: &mut Vec<Need>, n: Need) -> Result<(), Memory>
     Ok(())
 }
 
-/// Whether the key of this id is needed.
-fn is_needed(needs: &[Need], id: &[u8; 16]) -> bool
-    ensures needed { result ≡ is_needed id.now needs.now }
+/// The key of this number of those that are kept, counted from 0.
+fn kept_at<'a>(kept: &[&'a KeyDoc], i: usize) -> Option<&'a KeyDoc>
+    ensures found { option_copied result ≡ slice_get (map (λ k. k.now) kept.now) i }
 {
-    for n in needs {
-        if n.id == *id {
-            return true;
-        }
-    }
-    false
-}
-
-/// Whether a key of this id is kept.
-fn is_kept(kept: &[&KeyDoc], id: &[u8; 16]) -> bool
-    ensures kept { result ≡ is_kept id.now (map (λ k. k.now) kept.now) }
-{
-    kept_by_id(kept, id).is_some()
-}
-
-/// The first of the keys that has this id.
-fn kept_by_id<'a>(kept: &[&'a KeyDoc], id: &[u8; 16]) -> Option<&'a KeyDoc>
-    ensures found { option_copied result ≡ key_by_id (map (λ k. k.now) kept.now) id.now }
-{
-    for key in kept {
-        if key.id == *id {
-            return Some(*key);
-        }
-    }
-    None
+    if i < kept.len() { Some(kept[i]) } else { None }
 }

@@ -1,8 +1,9 @@
-use Rattle.std.proofs.Common.{◌≡◌, ◌+◌, ◌≤◌, [], List, ap, arith, length, map, rules}
+use Rattle.std.proofs.Common.{◌≡◌, ◌+◌, ◌≤◌, [], List, ap, arith, length, map, rules, subst, sym}
 use Rattle.std.specs.Prelude.{vec_len, vec_capacity}
 use denote.Ref.{Bor}
 use Rattle.data_key.specs.declared.key_doc.KeyDoc.{KeyDoc}
 use Rattle.context_machine.specs.Kept.{lacking}
+use Rattle.context_machine.specs.Slots.{AreSlots}
 use Rattle.context_machine.proofs.Kept.{lacks_all}
 use Rattle.context_machine.proofs.wanted.Wanted.new.Goals as goal
 
@@ -22,5 +23,8 @@ invariant_of-result c =
       empty,
       wide,
       number,
-    ) in
-    room
+    ) in (
+      room,
+      subst (λ (ks : List (Bor KeyDoc)). AreSlots needs (map (λ (k : Bor KeyDoc). k.now) ks) c.first_needs.new.slots)
+          (sym none) c.in_ok-needs.ensures.slots,
+    )
