@@ -1,6 +1,8 @@
 //! Whole runs under collection infos in JSON.
 
-use crate::tests::{INSERT, REPLY, Run, expect, look, plain};
+use crate::runs::{Run, expect, look, marking, sealing, seals};
+use crate::seal_tests::SEALED_INSERT;
+use crate::tests::{INSERT, REPLY};
 use fle_stream::Status;
 use std::test::Fail;
 
@@ -18,42 +20,37 @@ const UNRULED_REPLY: &[u8] =
      \x00\x02$db\x00\x03\x00\x00\x00hr\x00\x00\x01ok\x00\x00\x00\x00\x00\x00\x00\xf0?\x00";
 
 #[test]
-fn a_command_is_marked_under_rules_in_json(rt: HostRuntime) -> Result<(), Fail> {
-    let run = Run {
-        infos: RULES,
-        ..plain(INSERT)
-    };
-    expect(&rt, &look(rt.alloc(), run)?, Status::Done, REPLY, "");
-    Ok(())
-}
-
-#[test]
-fn under_an_empty_array_a_command_stays_as_it_is(rt: HostRuntime) -> Result<(), Fail> {
-    let run = Run {
-        infos: b"[]",
-        ..plain(INSERT)
-    };
-    expect(
-        &rt,
-        &look(rt.alloc(), run)?,
-        Status::Done,
-        UNRULED_REPLY,
-        "",
-    );
+fn a_command_is_sealed_under_rules_in_json(rt: HostRuntime) -> Result<(), Fail> {
+    let cases: [(&[u8], &[u8], &[u8]); 2] = [
+        (RULES, REPLY, SEALED_INSERT),
+        (b"[]", UNRULED_REPLY, INSERT),
+    ];
+    for (infos, reply, sealed) in cases {
+        let run = Run {
+            infos: &[infos],
+            ..marking(INSERT)
+        };
+        expect(&rt, &look(rt.alloc(), run)?, Status::Done, reply, "");
+        let run = Run {
+            infos: &[infos],
+            ..sealing(INSERT)
+        };
+        seals(&rt, rt.alloc(), run, sealed)?;
+    }
     Ok(())
 }
 
 #[test]
 fn the_fault_of_a_json_text_is_told_with_its_member(rt: HostRuntime) -> Result<(), Fail> {
     let cases: [(&[u8], &str); 3] = [
-        (b"[1]", "fle: 4 1 34 1\n"),
-        (b"[{]", "fle: 4 1 33 0\n"),
-        (b"{\"a\":1}", "fle: 4 1 34 0\n"),
+        (b"[1]", "fle: 4 2 34 1\n"),
+        (b"[{]", "fle: 4 2 33 0\n"),
+        (b"{\"a\":1}", "fle: 4 2 34 0\n"),
     ];
     for (infos, line) in cases {
         let run = Run {
-            infos,
-            ..plain(INSERT)
+            infos: &[infos],
+            ..sealing(INSERT)
         };
         expect(&rt, &look(rt.alloc(), run)?, Status::Setup, b"", line);
     }

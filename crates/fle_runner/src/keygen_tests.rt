@@ -1,12 +1,8 @@
 //! Whole runs over master keys and blocks in memory: the verb `keygen`.
 
 use crate::keys_tests::VAULT;
-use crate::program::fle;
-use crate::tests::{Seen, expect, folder_of, sink_of, words_of};
-use crypto_hooks::Tables;
-use fle_outside::{MemEntropy, MemSource};
+use crate::runs::{Run, expect, look, marking};
 use fle_stream::Status;
-use std::alloc::Global;
 use std::test::Fail;
 
 /// `examples/keys.bson`: a key with the name `hr-key`, and one with the names `finance` and `audit`, made outside this
@@ -65,98 +61,60 @@ fn first_blocks() -> [[u8; 16]; 8] {
     blocks(id, 0x80, 0xf0)
 }
 
-/// The master key, the bytes 00 to 5F.
-fn master() -> [u8; 96] {
-    let mut bytes = [0; 96];
-    for i in 0..96 {
-        bytes[i] = i as u8;
+/// A run of these words, with the blocks to come.
+fn making<'a>(words: &'a [&'a str], blocks: &'a [[u8; 16]]) -> Run<'a> {
+    Run {
+        words,
+        blocks,
+        ..marking(b"")
     }
-    bytes
-}
-
-/// Runs the program at a time over a master key's file, these blocks and calls of the source of blocks that fail.
-fn run(
-    alloc: Global,
-    words: &[&str],
-    master: &[u8],
-    blocks: &[[u8; 16]],
-    failing: &[u64],
-) -> Result<Seen, Fail> {
-    let words = words_of(alloc, words)?;
-    let mut input = MemSource::new(Vec::new(alloc), 1, Vec::new(alloc));
-    let mut files = folder_of(alloc, master, &[])?;
-    let mut out = sink_of(alloc, &[])?;
-    let mut diag = sink_of(alloc, &[])?;
-    let failing = Vec::from_slice(alloc, failing)?;
-    let mut entropy = MemEntropy::new(Vec::from_slice(alloc, blocks)?, failing);
-    let status = fle(
-        alloc,
-        &words,
-        1_700_000_000_000,
-        &mut input,
-        &mut files,
-        &mut out,
-        &mut diag,
-        &mut entropy,
-        &Tables,
-    );
-    Ok(Seen {
-        status,
-        out: Vec::from_slice(alloc, out.written())?,
-        line: Vec::from_slice(alloc, diag.written())?,
-    })
 }
 
 #[test]
 fn eight_blocks_make_a_key(rt: HostRuntime) -> Result<(), Fail> {
-    let words = ["keygen", "infos"];
-    let seen = run(rt.alloc(), &words, &master(), &first_blocks(), &[])?;
+    let alloc = rt.alloc();
+    let first = first_blocks();
+    let second = blocks(counted(0x10), 0x20, 0x80);
+    let seen = look(alloc, making(&["keygen", "master"], &first))?;
     expect(&rt, &seen, Status::Done, VAULT, "");
-    Ok(())
-}
-
-#[test]
-fn the_first_key_of_the_example_is_made(rt: HostRuntime) -> Result<(), Fail> {
-    let words = ["keygen", "infos", "hr-key"];
-    let seen = run(rt.alloc(), &words, &master(), &first_blocks(), &[])?;
+    let seen = look(alloc, making(&["keygen", "master", "hr-key"], &first))?;
     expect(&rt, &seen, Status::Done, &TWO_KEYS[..FIRST], "");
-    Ok(())
-}
-
-#[test]
-fn the_second_key_of_the_example_is_made(rt: HostRuntime) -> Result<(), Fail> {
-    let words = ["keygen", "infos", "finance", "audit"];
-    let blocks = blocks(counted(0x10), 0x20, 0x80);
-    let seen = run(rt.alloc(), &words, &master(), &blocks, &[])?;
+    let words = ["keygen", "master", "finance", "audit"];
+    let seen = look(alloc, making(&words, &second))?;
     expect(&rt, &seen, Status::Done, &TWO_KEYS[FIRST..], "");
     Ok(())
 }
 
 #[test]
-fn names_are_distinct_and_not_empty(rt: HostRuntime) -> Result<(), Fail> {
-    let words = ["keygen", "infos", "a", "a"];
-    let seen = run(rt.alloc(), &words, &master(), &first_blocks(), &[])?;
-    expect(&rt, &seen, Status::Words, b"", "fle: 2 0 0 -\n");
-    let words = ["keygen", "infos", ""];
-    let seen = run(rt.alloc(), &words, &master(), &first_blocks(), &[])?;
-    expect(&rt, &seen, Status::Words, b"", "fle: 2 0 0 -\n");
-    Ok(())
-}
-
-#[test]
 fn a_master_key_has_96_bytes(rt: HostRuntime) -> Result<(), Fail> {
-    let words = ["keygen", "infos"];
-    let seen = run(rt.alloc(), &words, &[0; 95], &first_blocks(), &[])?;
+    let alloc = rt.alloc();
+    let blocks = first_blocks();
+    let words = ["keygen", "master"];
+    let short = Run {
+        master: &[0; 95],
+        ..making(&words, &blocks)
+    };
+    let seen = look(alloc, short)?;
     expect(&rt, &seen, Status::Setup, b"", "fle: 4 1 10 0\n");
-    let seen = run(rt.alloc(), &words, &[b'='; 128], &first_blocks(), &[])?;
+    let text = Run {
+        master: &[b'='; 128],
+        ..making(&words, &blocks)
+    };
+    let seen = look(alloc, text)?;
     expect(&rt, &seen, Status::Setup, b"", "fle: 4 1 11 0\n");
     Ok(())
 }
 
 #[test]
 fn a_failing_draw_makes_no_key(rt: HostRuntime) -> Result<(), Fail> {
-    let words = ["keygen", "infos"];
-    let seen = run(rt.alloc(), &words, &master(), &first_blocks(), &[3])?;
-    expect(&rt, &seen, Status::EntropyFault, b"", "fle: 7 0 0 -\n");
+    let blocks = first_blocks();
+    for call in 0..8 {
+        let run = Run {
+            draws: &[call],
+            ..making(&["keygen", "master"], &blocks)
+        };
+        let seen = look(rt.alloc(), run)?;
+        expect(&rt, &seen, Status::EntropyFault, b"", "fle: 7 0 0 -\n");
+    }
     Ok(())
 }

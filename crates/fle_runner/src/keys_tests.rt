@@ -1,6 +1,6 @@
 //! Whole runs over vaults in memory: the verb `keys`.
 
-use crate::tests::{Run, expect, joined, look, plain};
+use crate::runs::{Run, expect, joined, look, marking};
 use fle_stream::Status;
 use std::test::Fail;
 
@@ -17,57 +17,23 @@ pub(crate) const VAULT: &[u8] =
     updateDate\x00\x00h\xe5\xcf\x8b\x01\x00\x00\x10status\x00\x00\x00\x00\x00\x03masterKey\x00\x19\
     \x00\x00\x00\x02provider\x00\x06\x00\x00\x00local\x00\x00\x00";
 
-/// The words of each run.
-const WORDS: [&str; 2] = ["keys", "infos"];
-
-/// A run over a vault in which nothing fails.
-fn vault(infos: &[u8]) -> Run<'_> {
-    Run {
-        words: &WORDS,
-        infos,
-        ..plain(b"")
-    }
-}
-
 #[test]
-fn a_key_is_told_in_one_line(rt: HostRuntime) -> Result<(), Fail> {
+fn a_key_is_told_in_one_line_and_an_id_once(rt: HostRuntime) -> Result<(), Fail> {
+    let alloc = rt.alloc();
     let line: &[u8] = b"00112233-4455-4677-8899-aabbccddeeff local 0\n";
-    expect(
-        &rt,
-        &look(rt.alloc(), vault(VAULT))?,
-        Status::Done,
-        line,
-        "",
-    );
-    Ok(())
-}
-
-#[test]
-fn a_vault_with_an_id_twice_is_at_fault(rt: HostRuntime) -> Result<(), Fail> {
-    let twice = joined(rt.alloc(), VAULT, VAULT)?;
-    let seen = look(rt.alloc(), vault(&twice))?;
-    expect(&rt, &seen, Status::Setup, b"", "fle: 4 1 25 2\n");
-    Ok(())
-}
-
-#[test]
-fn an_empty_vault_has_no_lines(rt: HostRuntime) -> Result<(), Fail> {
-    expect(&rt, &look(rt.alloc(), vault(b""))?, Status::Done, b"", "");
-    Ok(())
-}
-
-#[test]
-fn one_file_is_named(rt: HostRuntime) -> Result<(), Fail> {
-    let run = Run {
-        words: &["keys"],
-        ..plain(b"")
-    };
-    expect(
-        &rt,
-        &look(rt.alloc(), run)?,
-        Status::Words,
-        b"",
-        "fle: 2 0 0 -\n",
-    );
+    let twice = joined(alloc, &[VAULT, VAULT])?;
+    let cases: [(&[u8], Status, &[u8], &str); 3] = [
+        (b"", Status::Done, b"", ""),
+        (VAULT, Status::Done, line, ""),
+        (&twice, Status::Setup, b"", "fle: 4 1 25 2\n"),
+    ];
+    for (keys, status, out, line) in cases {
+        let run = Run {
+            words: &["keys", "keys"],
+            keys,
+            ..marking(b"")
+        };
+        expect(&rt, &look(alloc, run)?, status, out, line);
+    }
     Ok(())
 }

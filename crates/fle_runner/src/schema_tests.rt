@@ -1,6 +1,9 @@
-//! Whole runs over files of collection infos whose schemas are read or refused.
+//! Whole runs over files: vaults, collection infos and master keys that are read, or whose fault is told.
 
-use crate::tests::{INSERT, PEOPLE, Run, expect, joined, look, plain};
+use crate::keys_tests::VAULT;
+use crate::runs::{Run, expect, joined, look, marking, sealing, seals};
+use crate::seal_tests::SEALED_INSERT;
+use crate::tests::{INSERT, PEOPLE};
 use fle_stream::Status;
 use std::test::Fail;
 
@@ -46,35 +49,113 @@ const BESIDE_REPLY: &[u8] =
      \x030\x00\x0c\x00\x00\x00\x10c\x00\x01\x00\x00\x00\x00\x00\x02$db\x00\x03\x00\x00\x00hr\x00\x00\
      \x01ok\x00\x00\x00\x00\x00\x00\x00\xf0?\x00";
 
+/// `MASTER` in base64, and a line feed.
+const MASTER_AS_TEXT: &[u8] =
+    b"AAECAwQFBgcICQoLDA0ODxAREhMUFRYXGBkaGxwdHh8gISIjJCUmJygpKissLS4vMDEyMzQ1Njc4OTo7PD0+P0BBQkNER\
+     UZHSElKS0xNTk9QUVJTVFVWV1hZWltcXV5f\x0a";
+
 #[test]
 fn the_first_faulty_info_is_told_with_its_fault(rt: HostRuntime) -> Result<(), Fail> {
-    let alloc = rt.alloc();
-    let nameless = joined(alloc, PEOPLE, b"\x05\x00\x00\x00\x00")?;
-    let twice = joined(alloc, NOTES, NOTES)?;
-    let double = joined(alloc, STAFF, DOUBLE)?;
-    let cases: [(&[u8], &str); 4] = [
-        (&nameless, "fle: 4 1 31 2\n"),
-        (&twice, "fle: 4 1 32 2\n"),
-        (DOUBLE, "fle: 4 1 49 1\n"),
-        (&double, "fle: 4 1 49 2\n"),
+    let empty: &[u8] = b"\x05\x00\x00\x00\x00";
+    let cases: [([&[u8]; 2], &str, &str); 5] = [
+        ([PEOPLE, b"\x01"], "fle: 4 1 30 2\n", "fle: 4 2 30 2\n"),
+        ([PEOPLE, empty], "fle: 4 1 31 2\n", "fle: 4 2 31 2\n"),
+        ([NOTES, NOTES], "fle: 4 1 32 2\n", "fle: 4 2 32 2\n"),
+        ([DOUBLE, STAFF], "fle: 4 1 49 1\n", "fle: 4 2 49 1\n"),
+        ([STAFF, DOUBLE], "fle: 4 1 49 2\n", "fle: 4 2 49 2\n"),
     ];
-    for (infos, line) in cases {
+    for (infos, first, second) in &cases {
         let run = Run {
             infos,
-            ..plain(INSERT)
+            ..marking(INSERT)
         };
-        expect(&rt, &look(alloc, run)?, Status::Setup, b"", line);
+        expect(&rt, &look(rt.alloc(), run)?, Status::Setup, b"", first);
+        let run = Run {
+            infos,
+            ..sealing(INSERT)
+        };
+        expect(&rt, &look(rt.alloc(), run)?, Status::Setup, b"", second);
     }
     Ok(())
 }
 
 #[test]
 fn the_reply_says_whether_the_collection_has_rules(rt: HostRuntime) -> Result<(), Fail> {
-    let alloc = rt.alloc();
-    let run = Run {
-        infos: STAFF,
-        ..plain(BESIDE)
-    };
-    expect(&rt, &look(alloc, run)?, Status::Done, BESIDE_REPLY, "");
+    let seen = look(rt.alloc(), marking(BESIDE))?;
+    expect(&rt, &seen, Status::Done, BESIDE_REPLY, "");
     Ok(())
+}
+
+#[test]
+fn files_that_are_missing_are_told_in_the_order_of_the_words(rt: HostRuntime) -> Result<(), Fail> {
+    let forms: [(&[&str], &str); 7] = [
+        (&["mark", "hr", "none"], "fle: 4 1 1 0\n"),
+        (&["encrypt", "hr", "none", "none", "none"], "fle: 4 1 1 0\n"),
+        (&["encrypt", "hr", "keys", "none", "none"], "fle: 4 2 1 0\n"),
+        (
+            &["encrypt", "hr", "keys", "infos", "none"],
+            "fle: 4 3 1 0\n",
+        ),
+        (&["decrypt", "none", "master"], "fle: 4 1 1 0\n"),
+        (&["decrypt", "keys", "none"], "fle: 4 2 1 0\n"),
+        (&["keygen", "none"], "fle: 4 1 1 0\n"),
+    ];
+    for (words, line) in &forms {
+        let run = Run {
+            words,
+            ..marking(INSERT)
+        };
+        expect(&rt, &look(rt.alloc(), run)?, Status::Setup, b"", line);
+    }
+    Ok(())
+}
+
+#[test]
+fn files_at_fault_are_told_in_the_order_of_the_words(rt: HostRuntime) -> Result<(), Fail> {
+    let alloc = rt.alloc();
+    let twice = joined(alloc, &[VAULT, VAULT])?;
+    let run = Run {
+        keys: &twice,
+        master: &[0; 95],
+        ..sealing(INSERT)
+    };
+    expect(
+        &rt,
+        &look(alloc, run)?,
+        Status::Setup,
+        b"",
+        "fle: 4 1 25 2\n",
+    );
+    let run = Run {
+        master: &[0; 95],
+        ..sealing(INSERT)
+    };
+    expect(
+        &rt,
+        &look(alloc, run)?,
+        Status::Setup,
+        b"",
+        "fle: 4 3 10 0\n",
+    );
+    let run = Run {
+        master: &[b'='; 128],
+        ..sealing(INSERT)
+    };
+    expect(
+        &rt,
+        &look(alloc, run)?,
+        Status::Setup,
+        b"",
+        "fle: 4 3 11 0\n",
+    );
+    Ok(())
+}
+
+#[test]
+fn a_master_key_may_be_a_line_of_base64(rt: HostRuntime) -> Result<(), Fail> {
+    let run = Run {
+        master: MASTER_AS_TEXT,
+        ..sealing(INSERT)
+    };
+    seals(&rt, rt.alloc(), run, SEALED_INSERT)
 }

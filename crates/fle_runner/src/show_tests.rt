@@ -1,6 +1,6 @@
 //! Whole runs that show documents.
 
-use crate::tests::{Run, expect, look, plain};
+use crate::runs::{Run, expect, look, marking};
 use fle_stream::Status;
 use std::test::Fail;
 
@@ -8,7 +8,7 @@ use std::test::Fail;
 fn shown(input: &[u8]) -> Run<'_> {
     Run {
         words: &["show"],
-        ..plain(input)
+        ..marking(input)
     }
 }
 

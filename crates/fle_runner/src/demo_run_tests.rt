@@ -1,0 +1,90 @@
+//! Whole runs of the verb `demo`. What each line has to be is from a program in Python, over the AES of its package
+//! `cryptography` and its own HMAC.
+
+use crate::runs::{Run, expect, look, marking};
+use fle_stream::Status;
+use std::test::Fail;
+
+/// The line of one command.
+const LINE: &str =
+    "demo: 1 commands, 98 bytes in, 268 bytes out, 1 equal, 6762aee1ae2453ce65881e4120e70c89\n";
+
+/// A run of these words over an input that isn't read.
+fn words<'a>(words: &'a [&'a str]) -> Run<'a> {
+    Run {
+        words,
+        ..marking(b"\x05\x00\x00")
+    }
+}
+
+#[test]
+fn one_command_and_ten_come_back_equal(rt: HostRuntime) -> Result<(), Fail> {
+    let cases: [([&str; 3], &str); 3] = [
+        (["demo", "hr", "1"], LINE),
+        (
+            ["demo", "hr", "10"],
+            "demo: 10 commands, 980 bytes in, 2680 bytes out, 10 equal, 5f115f7d37243f944ef3f73d0f820c63\n",
+        ),
+        (
+            ["demo", "payroll", "2"],
+            "demo: 2 commands, 206 bytes in, 546 bytes out, 2 equal, 2e42d5e77f91caa62eb23d3bed746e04\n",
+        ),
+    ];
+    for (form, line) in &cases {
+        let seen = look(rt.alloc(), words(form))?;
+        expect(&rt, &seen, Status::Done, line.as_bytes(), "");
+    }
+    Ok(())
+}
+
+#[test]
+fn a_write_that_fails_ends_the_demo(rt: HostRuntime) -> Result<(), Fail> {
+    let run = Run {
+        sink: &[0],
+        ..words(&["demo", "hr", "1"])
+    };
+    let seen = look(rt.alloc(), run)?;
+    expect(&rt, &seen, Status::WriteFault, b"", "fle: 6 0 0 -\n");
+    Ok(())
+}
+
+#[test]
+fn n_is_a_number_as_it_is_printed(rt: HostRuntime) -> Result<(), Fail> {
+    for n in [
+        "",
+        "0",
+        "01",
+        "+1",
+        "-1",
+        "1 ",
+        "1e3",
+        "100001",
+        "4294967297",
+    ] {
+        let seen = look(rt.alloc(), words(&["demo", "hr", n]))?;
+        expect(&rt, &seen, Status::Words, b"", "fle: 2 0 0 -\n");
+    }
+    Ok(())
+}
+
+#[test]
+fn two_words_stand_behind_demo(rt: HostRuntime) -> Result<(), Fail> {
+    let forms: [&[&str]; 3] = [
+        &["demo", "hr"],
+        &["demo", "hr", "1", "2"],
+        &["demo", "", "1"],
+    ];
+    for form in &forms {
+        let seen = look(rt.alloc(), words(form))?;
+        expect(&rt, &seen, Status::Words, b"", "fle: 2 0 0 -\n");
+    }
+    Ok(())
+}
+
+#[test]
+fn the_database_has_at_most_63_bytes(rt: HostRuntime) -> Result<(), Fail> {
+    let long = "0123456789abcdef0123456789abcdef0123456789abcdef0123456789abcdef";
+    let seen = look(rt.alloc(), words(&["demo", long, "1"]))?;
+    expect(&rt, &seen, Status::Words, b"", "fle: 2 0 0 -\n");
+    Ok(())
+}

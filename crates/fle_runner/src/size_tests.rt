@@ -1,0 +1,152 @@
+//! Whole runs over many levels of names, and over more keys than are kept open.
+
+use crate::runs::{Run, document, expect, joined, look, marking, opening, sealing, seals};
+use fle_stream::Status;
+use std::alloc::Global;
+use std::test::Fail;
+
+/// The element `$db: "hr"`.
+const DB: &[u8] = b"\x02$db\x00\x03\x00\x00\x00hr\x00";
+
+/// A schema: an int, deterministic.
+const LEAF: &[u8] =
+    b"\x84\x00\x00\x00\x03encrypt\x00v\x00\x00\x00\x04keyId\x00\x1d\x00\x00\x00\x050\x00\x10\x00\
+     \x00\x00\x04\x00\x11\"3DUFw\x88\x99\xaa\xbb\xcc\xdd\xee\xff\x00\x02algorithm\x00,\x00\x00\x00A\
+     EAD_AES_256_CBC_HMAC_SHA_512-Deterministic\x00\x02bsonType\x00\x04\x00\x00\x00int\x00\x00\x00";
+
+/// The element `a: int 1`, sealed.
+const SEALED_ONE: &[u8] =
+    b"\x05a\x00R\x00\x00\x00\x06\x01\x00\x11\"3DUFw\x88\x99\xaa\xbb\xcc\xdd\xee\xff\x10\xe3l\xf4%\
+     \xab\xb5\xe3auy\x1d&p\x08\xb9\xd921]\xe4\xd8[\x15b\xbdK\xcbL]\x1dRY%we\x1f\xa6\xd1\xce\x8de\
+     \x90x\x16\x96\x04u\x89\xf65P\x1b'\xe5\xf0\xd6\xb9\xdc82\xbd\xe9\xfd&";
+
+/// The info of `deep`, whose schema has this many names `a`, each in the one before; the last is protected.
+fn deep_info(alloc: Global, names: usize) -> Result<Vec<u8>, Fail> {
+    let mut schema = Vec::from_slice(alloc, LEAF)?;
+    for _ in 0..names {
+        let inside = document(alloc, &[b"\x03a\x00", &schema])?;
+        schema = document(alloc, &[b"\x03properties\x00", &inside])?;
+    }
+    let validator = document(alloc, &[b"\x03$jsonSchema\x00", &schema])?;
+    let options = document(alloc, &[b"\x03validator\x00", &validator])?;
+    let name = b"\x02name\x00\x05\x00\x00\x00deep\x00";
+    document(alloc, &[name, b"\x03options\x00", &options])
+}
+
+/// An insert into `deep` of 47 names `a`, each in the one before; this is the last element.
+fn deep_insert(alloc: Global, last: &[u8]) -> Result<Vec<u8>, Fail> {
+    let mut inner = document(alloc, &[last])?;
+    for _ in 1..47 {
+        inner = document(alloc, &[b"\x03a\x00", &inner])?;
+    }
+    let documents = document(alloc, &[b"\x030\x00", &inner])?;
+    let insert = b"\x02insert\x00\x05\x00\x00\x00deep\x00";
+    document(alloc, &[insert, b"\x04documents\x00", &documents, DB])
+}
+
+#[test]
+fn a_value_is_sealed_below_47_names(rt: HostRuntime) -> Result<(), Fail> {
+    let alloc = rt.alloc();
+    let command = deep_insert(alloc, b"\x10a\x00\x01\x00\x00\x00")?;
+    let sealed = deep_insert(alloc, SEALED_ONE)?;
+    let info = deep_info(alloc, 47)?;
+    let run = Run {
+        infos: &[&info],
+        ..sealing(&command)
+    };
+    seals(&rt, alloc, run, &sealed)?;
+    let deeper = deep_info(alloc, 48)?;
+    let run = Run {
+        infos: &[&deeper],
+        ..sealing(&command)
+    };
+    let seen = look(alloc, run)?;
+    expect(&rt, &seen, Status::Setup, b"", "fle: 4 2 30 1\n");
+    Ok(())
+}
+
+/// 65 keys: each of seven equal blocks, and a vector of bytes 09.
+fn many_keys(alloc: Global) -> Result<Vec<u8>, Fail> {
+    let mut vault = Vec::new(alloc);
+    for i in 0..65 {
+        let blocks = [
+            [i; 16], [i; 16], [i; 16], [i; 16], [i; 16], [i; 16], [i; 16], [9; 16],
+        ];
+        let run = Run {
+            words: &["keygen", "master"],
+            blocks: &blocks,
+            ..marking(b"")
+        };
+        vault.extend_from_slice(&look(alloc, run)?.out)?;
+    }
+    Ok(vault)
+}
+
+/// The version 4 UUID that is made of a block of these bytes.
+fn id_of(byte: u8) -> [u8; 16] {
+    let mut id = [byte; 16];
+    id[6] = id[6] & 0x0f | 0x40;
+    id[8] = id[8] & 0x3f | 0x80;
+    id
+}
+
+/// The name of two digits under `k`, with this tag before it.
+fn name_of(tag: u8, i: u8) -> [u8; 5] {
+    [tag, b'k', b'0' + i / 10 % 10, b'0' + i % 10, 0]
+}
+
+/// The info of `people` with 65 names, each an int, deterministic, under a key of its own.
+fn many_rules(alloc: Global) -> Result<Vec<u8>, Fail> {
+    let (head, tail) = LEAF.split_at(36);
+    let (_, tail) = tail.split_at(16);
+    let mut rules = Vec::new(alloc);
+    for i in 0..65 {
+        rules.extend_from_slice(&name_of(3, i))?;
+        rules.extend_from_slice(head)?;
+        rules.extend_from_slice(&id_of(i))?;
+        rules.extend_from_slice(tail)?;
+    }
+    let properties = document(alloc, &[&rules])?;
+    let schema = document(alloc, &[b"\x03properties\x00", &properties])?;
+    let validator = document(alloc, &[b"\x03$jsonSchema\x00", &schema])?;
+    let options = document(alloc, &[b"\x03validator\x00", &validator])?;
+    let name = b"\x02name\x00\x07\x00\x00\x00people\x00";
+    document(alloc, &[name, b"\x03options\x00", &options])
+}
+
+/// An insert into `people` of these elements.
+pub(crate) fn insert_of(alloc: Global, elements: &[u8]) -> Result<Vec<u8>, Fail> {
+    let inner = document(alloc, &[elements])?;
+    let documents = document(alloc, &[b"\x030\x00", &inner])?;
+    let insert = b"\x02insert\x00\x07\x00\x00\x00people\x00";
+    document(alloc, &[insert, b"\x04documents\x00", &documents, DB])
+}
+
+#[test]
+fn more_keys_than_are_kept_open_seal_alike(rt: HostRuntime) -> Result<(), Fail> {
+    let alloc = rt.alloc();
+    let keys = many_keys(alloc)?;
+    let rules = many_rules(alloc)?;
+    let mut elements = Vec::new(alloc);
+    for i in 0..65 {
+        elements.extend_from_slice(&name_of(0x10, i))?;
+        elements.extend_from_slice(&[i, 0, 0, 0])?;
+    }
+    let command = insert_of(alloc, &elements)?;
+    let input = joined(alloc, &[&command, &command])?;
+    let run = Run {
+        keys: &keys,
+        infos: &[&rules],
+        ..sealing(&input)
+    };
+    let sealed = look(alloc, run)?.out;
+    assert!(rt; input.len() == 1290 && sealed.len() == 12_080, "lengths");
+    let (one, other) = sealed.split_at(sealed.len() / 2);
+    assert!(rt; one == other, "outputs");
+    let run = Run {
+        keys: &keys,
+        ..opening(&sealed)
+    };
+    expect(&rt, &look(alloc, run)?, Status::Done, &input, "");
+    Ok(())
+}
