@@ -1,27 +1,37 @@
--- Where the files of the words say what commands are sealed under, each command is sealed under it.
-use Rattle.std.proofs.Common.{◌≡◌, ℕ, ◌∙◌, false, nat_lt, Option, List, length, refl, sym, ap}
+-- Where the files of the words say what commands are sealed and opened under, each command is sealed under it, and
+-- opened again.
+use Rattle.std.proofs.Common.{◌≡◌, ℕ, ◌∙◌, ◌+◌, ◌^◌, false, nat_lt, Option, List, [], ◌∷◌, length, refl, sym, ap}
 use Rattle.std.proofs.Common.{subst, arith, ◌<◌}
 use Rattle.std.specs.List.{All}
 use Rattle.std.proofs.lemmas.Bool.Decides.{nat_tests}
+use Rattle.bson_tree.specs.Tree.{Items}
 use Rattle.encrypt_schema.specs.Language.Collection.{Collection}
 use Rattle.context_machine.specs.Rings.{ring}
 use Rattle.data_key.specs.declared.key_doc.KeyDoc.{KeyDoc}
 use Rattle.doc_rewrite.specs.Opened.{Keyring}
+use Rattle.fle_outside.specs.Blocks.{Block}
 use Rattle.fle_outside.specs.Files.{Files, file_of}
 use Rattle.fle_outside.specs.Seen.{EntropySeen, SinkSeen}
+use Rattle.fle_outside.specs.Writing.{Gains}
 use Rattle.fle_stream.specs.Ended.{Whole}
+use Rattle.fle_stream.specs.Outcome.{Outcome}
+use Rattle.fle_stream.specs.Plan.{draws_of, written}
 use Rattle.fle_stream.specs.Task.{Task, each, outcome_of, with_file}
 use Rattle.key_vault.specs.Loading.{vault}
 use Rattle.local_kms.specs.Master.{master_in}
+use Rattle.fle_runner.specs.Decrypt.{decrypt_task, decrypt_verdict}
 use Rattle.fle_runner.specs.Encrypt.{encrypt_verdict}
-use Rattle.fle_runner.specs.Headline.{AreByUuid, SealsStream, Setup, verdict_of}
-use Rattle.fle_runner.specs.HeadlineFiles.{HoldSetup, HoldsBytes, IsEncrypt}
+use Rattle.fle_runner.specs.Headline.{AreByUuid, AreReadable, AreSealedUnder, SealsStream, Setup, verdict_of}
+use Rattle.fle_runner.specs.HeadlineFiles.{HoldKeys, HoldSetup, HoldsBytes, IsDecrypt, IsEncrypt}
 use Rattle.fle_runner.specs.Infos.{infos_read}
+use Rattle.fle_runner.specs.ReadBack.{outputs_back, read_whole, stream}
 use Rattle.fle_runner.specs.Setup.{infos_limit, infos_or, master_limit, master_or, vault_limit, vault_or}
 use Rattle.fle_runner.specs.Setup.{with_infos, with_master, with_vault}
 use Rattle.fle_runner.specs.Verbs.{task, task_of}
 use Rattle.fle_runner.specs.Words.{Form, form_of}
+use Rattle.fle_runner.proofs.Backs.{reads_back, writes_back}
 use Rattle.fle_runner.proofs.Headline.{seals_stream}
+use Rattle.fle_runner.proofs.HeadlineBack.{come_back}
 use Rattle.fle_runner.proofs.HeadlineKeys.{vault_uuids}
 
 -- a file that is there and within its limit leads on
@@ -38,6 +48,7 @@ pub files_lead : (all : Files) (keys schemas master : List ℕ) (x : Setup) → 
     with_master 3 (file_of all master) (λ key. each (encrypt_verdict (ring held key) infos x.db))))
     ≡ each (verdict_of x)
 files_lead all keys schemas master x h =
+    let k = h.held in
     let third : List KeyDoc → List Collection → List ℕ → Task =
     λ (held : List KeyDoc) (infos : List Collection) (key : List ℕ). each (encrypt_verdict
     (ring held key) infos x.db) in
@@ -45,22 +56,22 @@ files_lead all keys schemas master x h =
     λ (held : List KeyDoc) (infos : List Collection). with_master 3 (file_of all master) (third held infos) in
     let first : List KeyDoc → Task =
     λ (held : List KeyDoc). with_infos 2 (file_of all schemas) (second held) in
-    leads 1 vault_limit all keys h.vault_bytes (λ bytes. vault_or 1 first (vault bytes)) h.vault_file
-    ∙ ap (vault_or 1 first) h.vault_says
-    ∙ leads 2 infos_limit all schemas h.schemas_bytes (λ bytes. infos_or 2 (second h.vault_keys) (infos_read bytes))
+    leads 1 vault_limit all keys k.vault_bytes (λ bytes. vault_or 1 first (vault bytes)) k.vault_file
+    ∙ ap (vault_or 1 first) k.vault_says
+    ∙ leads 2 infos_limit all schemas h.schemas_bytes (λ bytes. infos_or 2 (second k.vault_keys) (infos_read bytes))
     h.schemas_file
-    ∙ ap (infos_or 2 (second h.vault_keys)) h.schemas_say
-    ∙ leads 3 master_limit all master h.master_bytes (λ bytes. master_or 3 (third h.vault_keys x.infos)
+    ∙ ap (infos_or 2 (second k.vault_keys)) h.schemas_say
+    ∙ leads 3 master_limit all master k.master_bytes (λ bytes. master_or 3 (third k.vault_keys x.infos)
     (master_in bytes))
-    h.master_file
-    ∙ ap (master_or 3 (third h.vault_keys x.infos)) h.master_says
-    ∙ ap (λ (ks : Keyring). each (encrypt_verdict ks x.infos x.db)) (sym h.opened)
+    k.master_file
+    ∙ ap (master_or 3 (third k.vault_keys x.infos)) k.master_says
+    ∙ ap (λ (ks : Keyring). each (encrypt_verdict ks x.infos x.db)) (sym k.opens)
 
 -- the data keys are had by UUIDs
-pub held_uuids : (all : Files) (keys schemas master : List ℕ) (x : Setup) → HoldSetup all keys schemas master x
-    → AreByUuid x.keys
-held_uuids all keys schemas master x h =
-    subst AreByUuid (sym h.opened) (vault_uuids h.vault_bytes h.master_key h.vault_keys h.vault_says)
+pub held_uuids : (all : Files) (keys master : List ℕ) (opened : Keyring) → HoldKeys all keys master opened
+    → AreByUuid opened
+held_uuids all keys master opened h =
+    subst AreByUuid (sym h.opens) (vault_uuids h.vault_bytes h.master_key h.vault_keys h.vault_says)
 
 -- words and files ask that each command be sealed
 pub task_is : (now : ℕ) (words : List (List ℕ)) (all : Files) (x : Setup) → IsEncrypt words all x
@@ -76,5 +87,62 @@ pub encrypts : (now : ℕ) (words : List (List ℕ)) (all : Files) (told : List 
     → Whole (outcome_of (task now words all) told) entropy entropy_after out out_after
     → SealsStream x told entropy entropy_after out out_after
 encrypts now words all told x entropy entropy_after out out_after h bytes w =
-    seals_stream x told entropy entropy_after out out_after (held_uuids all h.keys h.schemas h.master x h.files) bytes
+    seals_stream x told entropy entropy_after out out_after (held_uuids all h.keys h.master x.keys h.files.held) bytes
     (subst (λ (t : Task). Whole (outcome_of t told) entropy entropy_after out out_after) (task_is now words all x h) w)
+
+-- words and files ask that each document be opened
+keys_lead : (all : Files) (keys master : List ℕ) (opened : Keyring) → HoldKeys all keys master opened
+    → decrypt_task (file_of all keys) (file_of all master) ≡ each (decrypt_verdict opened)
+keys_lead all keys master opened h =
+    let second : List KeyDoc → List ℕ → Task =
+    λ (held : List KeyDoc) (key : List ℕ). each (decrypt_verdict (ring held key)) in
+    let first : List KeyDoc → Task =
+    λ (held : List KeyDoc). with_master 2 (file_of all master) (second held) in
+    leads 1 vault_limit all keys h.vault_bytes (λ bytes. vault_or 1 first (vault bytes)) h.vault_file
+    ∙ ap (vault_or 1 first) h.vault_says
+    ∙ leads 2 master_limit all master h.master_bytes (λ bytes. master_or 2 (second h.vault_keys) (master_in bytes))
+    h.master_file
+    ∙ ap (master_or 2 (second h.vault_keys)) h.master_says
+    ∙ ap (λ (ks : Keyring). each (decrypt_verdict ks)) (sym h.opens)
+
+opening_is : (now : ℕ) (words : List (List ℕ)) (all : Files) (opened : Keyring) → IsDecrypt words all opened
+    → task now words all ≡ each (decrypt_verdict opened)
+opening_is now words all opened h =
+    ap (λ (form : Option Form). task_of now form all) h.form ∙ keys_lead all h.keys h.master opened h.files
+
+-- what a run of `decrypt` over sealed commands comes to
+pub decrypts : (now : ℕ) (words : List (List ℕ)) (all : Files) (x : Setup) (commands : List Items)
+    (blocks : List Block) (sealed : List Items)
+    → IsDecrypt words all x.keys → AreSealedUnder x commands blocks sealed → AreReadable x commands sealed
+    → length (stream sealed) < 2 ^ 40
+    → outcome_of (task now words all) (stream sealed) ≡ read_whole commands sealed
+decrypts now words all x commands blocks sealed h each_sealed readable few =
+    ap (λ (t : Task). outcome_of t (stream sealed)) (opening_is now words all x.keys h)
+    ∙ reads_back (decrypt_verdict x.keys) commands sealed (come_back x commands blocks sealed each_sealed readable) few
+
+-- opening draws no block
+no_draws : (number : ℕ) (commands sealed : List Items) → draws_of (outputs_back number commands sealed) ≡ 0
+no_draws number [] sealed = refl
+no_draws number (c ∷ cs) [] = refl
+no_draws number (c ∷ cs) (d ∷ ds) =
+    let none = no_draws (number + 1) cs ds in
+    omega (arith, none)
+
+no_block : (blocks : List Block) → length blocks ≡ 0 → blocks ≡ []
+no_block [] none = refl
+no_block (b ∷ bs) none = absurd cc
+
+-- so the commands are what is written
+pub opened_gains : (x : Setup) (commands : List Items) (blocks : List Block) (sealed : List Items) (o : Outcome)
+    (entropy entropy_after : EntropySeen) (out out_after : SinkSeen)
+    → AreSealedUnder x commands blocks sealed → AreReadable x commands sealed → o ≡ read_whole commands sealed
+    → Whole o entropy entropy_after out out_after → Gains out.told out_after.told (stream commands)
+opened_gains x commands blocks sealed o entropy entropy_after out out_after each_sealed readable is w =
+    let comes = come_back x commands blocks sealed each_sealed readable in
+    let none : length w.drawn ≡ 0 =
+    w.enough ∙ (ap (λ (p : Outcome). draws_of p.outputs) is ∙ no_draws 1 commands sealed) in
+    let bytes : written o.outputs w.drawn ≡ stream commands =
+    ap (λ (p : Outcome). written p.outputs w.drawn) is
+    ∙ (ap (λ (bs : List Block). written (read_whole commands sealed).outputs bs) (no_block w.drawn none)
+    ∙ writes_back (decrypt_verdict x.keys) commands sealed comes) in
+    subst (λ (more : List ℕ). Gains out.told out_after.told more) bytes w.gains

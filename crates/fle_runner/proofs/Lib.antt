@@ -1,3 +1,4 @@
+pub mod Counts
 pub mod Ways
 pub mod Descent
 pub mod Spots
@@ -19,3 +20,14 @@ pub mod TwoStreams
 pub mod Fed
 pub mod Seals
 pub mod Unseals
+pub mod DemoBytes
+pub mod Parts
+pub mod DemoSteps
+pub mod DemoOpened
+pub mod DemoKeys
+pub mod DemoVerdicts
+pub mod DemoLaid
+pub mod DemoBlocks
+pub mod DemoInfos
+pub mod DemoSums
+pub mod DemoLines

@@ -1,35 +1,48 @@
--- `encrypt DB KEYS SCHEMAS MASTER`: what the files of the words say commands are sealed under.
-use Rattle.std.specs.Prelude.{◌≡◌, ℕ, ◌≤◌, Some, Ok, List, length}
+-- `encrypt DB KEYS SCHEMAS MASTER` and `decrypt KEYS MASTER`: what the files of the words say commands are sealed and
+-- opened under, and what a run then wrote.
+use Rattle.std.specs.Prelude.{◌≡◌, ℕ, ◌<◌, ◌≤◌, ◌^◌, Some, Ok, List, length}
+use Rattle.std.specs.List.{All}
+use Rattle.bson_tree.specs.Tree.{Items}
 use Rattle.context_machine.specs.Rings.{ring}
 use Rattle.data_key.specs.declared.key_doc.KeyDoc.{KeyDoc}
+use Rattle.doc_rewrite.specs.Opened.{Keyring}
+use Rattle.fle_outside.specs.Blocks.{Block}
 use Rattle.fle_outside.specs.Files.{Files, file_of}
+use Rattle.fle_outside.specs.Writing.{Gains}
+use Rattle.fle_stream.specs.Ended.{IsSettled, World}
+use Rattle.fle_stream.specs.declared.status.Status.{Status}
+use Rattle.fle_stream.specs.declared.status.Status.TheVariants as statuses
 use Rattle.key_vault.specs.Loading.{vault}
 use Rattle.local_kms.specs.Master.{master_in}
-use Rattle.fle_runner.specs.Headline.{Setup}
+use Rattle.fle_runner.specs.Headline.{AreReadable, AreSealedUnder, SealsStream, Setup}
 use Rattle.fle_runner.specs.Infos.{infos_read}
+use Rattle.fle_runner.specs.ReadBack.{stream}
 use Rattle.fle_runner.specs.Setup.{infos_limit, master_limit, vault_limit}
-use Rattle.fle_runner.specs.Words.{encrypt, form_of}
+use Rattle.fle_runner.specs.Words.{decrypt, encrypt, form_of}
 
 -- the file of this name is there, and has these bytes, at most so many
 pub record HoldsBytes (all : Files) (name : List ℕ) (limit : ℕ) (bytes : List ℕ) : Type 0 where
   pub there : file_of all name ≡ Some bytes
   pub within : length bytes ≤ limit
 
--- the files of these names hold a key vault, collection infos and a master key: they say which data key an id has, and
--- the rules of the collections
-pub record HoldSetup (all : Files) (keys schemas master : List ℕ) (x : Setup) : Type 0 where
+-- the files of these names hold a key vault and a master key: they say which data key an id has
+pub record HoldKeys (all : Files) (keys master : List ℕ) (opened : Keyring) : Type 0 where
   pub vault_bytes : List ℕ
   pub vault_file : HoldsBytes all keys vault_limit vault_bytes
   pub vault_keys : List KeyDoc
   pub vault_says : vault vault_bytes ≡ Ok vault_keys
-  pub schemas_bytes : List ℕ
-  pub schemas_file : HoldsBytes all schemas infos_limit schemas_bytes
-  pub schemas_say : infos_read schemas_bytes ≡ Ok x.infos
   pub master_bytes : List ℕ
   pub master_file : HoldsBytes all master master_limit master_bytes
   pub master_key : List ℕ
   pub master_says : master_in master_bytes ≡ Ok master_key
-  pub opened : x.keys ≡ ring vault_keys master_key
+  pub opens : opened ≡ ring vault_keys master_key
+
+-- beside them one holds collection infos: the rules of the collections
+pub record HoldSetup (all : Files) (keys schemas master : List ℕ) (x : Setup) : Type 0 where
+  pub held : HoldKeys all keys master x.keys
+  pub schemas_bytes : List ℕ
+  pub schemas_file : HoldsBytes all schemas infos_limit schemas_bytes
+  pub schemas_say : infos_read schemas_bytes ≡ Ok x.infos
 
 -- the words are `encrypt DB KEYS SCHEMAS MASTER`, and the files are there, within their limits, and say this
 pub record IsEncrypt (words : List (List ℕ)) (all : Files) (x : Setup) : Type 0 where
@@ -38,3 +51,26 @@ pub record IsEncrypt (words : List (List ℕ)) (all : Files) (x : Setup) : Type 
   pub master : List ℕ
   pub form : form_of words ≡ Some (encrypt x.db keys schemas master)
   pub files : HoldSetup all keys schemas master x
+
+-- the words are `decrypt KEYS MASTER`, and the files are there, within their limits, and say this
+pub record IsDecrypt (words : List (List ℕ)) (all : Files) (opened : Keyring) : Type 0 where
+  pub keys : List ℕ
+  pub master : List ℕ
+  pub form : form_of words ≡ Some (decrypt keys master)
+  pub files : HoldKeys all keys master opened
+
+-- `encrypt`, where no object failed and memory lasted: every accepted command was sealed, and nothing else changed
+abbrev pub SealsAll : List (List ℕ) → World → World → Status → Type 0
+SealsAll words before after status =
+    (all : Files) (told : List ℕ) (x : Setup) → before.files.told ≡ Some all → before.input.told ≡ Some told
+    → IsEncrypt words all x → All (λ b. b < 256) told → IsSettled status
+    → SealsStream x told before.entropy after.entropy before.out after.out
+
+-- `decrypt` over sealed commands, where no object failed and memory lasted: the commands were written, byte for byte
+abbrev pub OpensAll : List (List ℕ) → World → World → Status → Type 0
+OpensAll words before after status =
+    (all : Files) (x : Setup) (commands : List Items) (blocks : List Block) (sealed : List Items)
+    → before.files.told ≡ Some all → before.input.told ≡ Some (stream sealed) → IsDecrypt words all x.keys
+    → AreSealedUnder x commands blocks sealed → AreReadable x commands sealed → length (stream sealed) < 2 ^ 40
+    → IsSettled status
+    → (status ≡ statuses.Done) × Gains before.out.told after.out.told (stream commands)

@@ -24,9 +24,11 @@ new_document master names now blocks = doc_bytes (key_fields (key_of_blocks mast
 abbrev pub blank_key : List (List ℕ) → KeyDoc
 blank_key names = record { id = replicate 16 0; names = names; material = replicate 160 0; provider = providers.Local }
 
+-- how many bytes the key document of these names has, whatever key is in it
 abbrev pub document_size : List (List ℕ) → ℕ → ℕ
 document_size names now = length (doc_bytes (key_fields (blank_key names) now now 0))
 
+-- what is made: eight random blocks become a key document of that size
 abbrev pub keygen_plan : List (List ℕ) → ℕ → List ℕ → Plan
 keygen_plan names now master = record {
   draws = 8;

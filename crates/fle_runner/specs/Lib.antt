@@ -9,9 +9,14 @@ pub mod Keys
 pub mod Keygen
 pub mod Encrypt
 pub mod Decrypt
+pub mod Generator
+pub mod DemoCommands
+pub mod Demo
+pub mod DemoStates
 pub mod Verbs
 pub mod Statuses
 pub mod Text
+pub mod DemoTotals
 pub mod ReadBack
 pub mod Headline
 pub mod HeadlineFiles

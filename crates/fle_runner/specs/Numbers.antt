@@ -38,6 +38,7 @@ infos_code kinds.Shape = 31
 infos_code kinds.Twice = 32
 infos_code (kinds.Schema fault) = 40 + schema_code fault
 
+-- the number of a fault of collection infos, as the line has it
 abbrev pub infos_number : InfoKind → Number
 infos_number kind = record { value = infos_code kind }
 
@@ -46,6 +47,7 @@ abbrev pub master_code : MasterFault → ℕ
 master_code masters.Length = 10
 master_code masters.Base64 = 11
 
+-- the number of a fault of a master key's file, as the line has it
 abbrev pub master_number : MasterFault → Number
 master_number fault = record { value = master_code fault }
 
@@ -60,5 +62,6 @@ vault_code vaults.IdTwice = 25
 vault_code vaults.NameTwice = 26
 vault_code vaults.TooMany = 27
 
+-- the number of a fault of a vault, as the line has it
 abbrev pub vault_number : VaultKind → Number
 vault_number kind = record { value = vault_code kind }

@@ -26,15 +26,17 @@ use Rattle.fle_runner.specs.declared.infos.InfosFault.TheVariants as infos_fault
 abbrev pub at_fault : ℕ → Number → ℕ → Finish
 at_fault file number document = finishes.Setup file (setups.Contents number) document
 
--- why a run ends whose file of collection infos is at fault, whose vault is, and whose master key is
+-- why a run ends whose file of collection infos is at fault
 abbrev pub infos_why : ℕ → InfosFault → Why
 infos_why file (infos_faults.Bad number document) = whys.Finished (at_fault file number document)
 infos_why file infos_faults.Memory = whys.Cut cuts.Memory
 
+-- why a run ends whose key vault is at fault
 abbrev pub vault_why : ℕ → VaultFault → Why
 vault_why file (vault_faults.Bad document kind) = whys.Finished (at_fault file (vault_number kind) document)
 vault_why file vault_faults.Memory = whys.Cut cuts.Memory
 
+-- why a run ends whose master key's file is at fault
 abbrev pub master_why : ℕ → MasterFault → Why
 master_why file fault = whys.Finished (at_fault file (master_number fault) 0)
 
@@ -44,31 +46,37 @@ infos_or file next (Ok infos) = next infos
 infos_or file next (Err (infos_faults.Bad number document)) = fails (at_fault file number document)
 infos_or file next (Err infos_faults.Memory) = fails finishes.Done
 
+-- what the vault's keys lead on to, or the end of a run whose vault is at fault
 abbrev pub vault_or : ℕ → (List KeyDoc → Task) → Result (List KeyDoc) Faulty → Task
 vault_or file next (Ok keys) = next keys
 vault_or file next (Err faulty) = fails (at_fault file (vault_number faulty.kind) faulty.document)
 
+-- what the master key leads on to, or the end of a run whose master key's file is at fault
 abbrev pub master_or : ℕ → (List ℕ → Task) → Result (List ℕ) MasterFault → Task
 master_or file next (Ok master) = next master
 master_or file next (Err fault) = fails (at_fault file (master_number fault) 0)
 
--- a file of collection infos and a vault have at most 64 MiB, a master key's file at most 129 bytes
+-- a file of collection infos has at most 64 MiB
 abbrev pub infos_limit : ℕ
 infos_limit = 67108864
 
+-- a vault has at most 64 MiB
 abbrev pub vault_limit : ℕ
 vault_limit = 67108864
 
+-- a master key's file has at most 129 bytes
 abbrev pub master_limit : ℕ
 master_limit = 129
 
--- the file of this number is missing, too long or at fault, or what it holds leads on
+-- the file of collection infos is missing, too long or at fault, or what it holds leads on
 abbrev pub with_infos : ℕ → Option (List ℕ) → (List Collection → Task) → Task
 with_infos number file next = with_file number infos_limit file (λ bytes. infos_or number next (infos_read bytes))
 
+-- the vault is missing, too long or at fault, or its keys lead on
 abbrev pub with_vault : ℕ → Option (List ℕ) → (List KeyDoc → Task) → Task
 with_vault number file next = with_file number vault_limit file (λ bytes. vault_or number next (vault bytes))
 
+-- the master key's file is missing, too long or at fault, or the key leads on
 abbrev pub with_master : ℕ → Option (List ℕ) → (List ℕ → Task) → Task
 with_master number file next = with_file number master_limit file (λ bytes. master_or number next (master_in bytes))
 

@@ -3,7 +3,7 @@ use Rattle.std.specs.Prelude.{◌≡◌, ◌⊎◌, Option, Some}
 use Rattle.fle_outside.specs.Counts.{Rose}
 use Rattle.fle_outside.specs.Seen.{EntropySeen, FolderSeen}
 use Rattle.fle_runner.specs.Keygen.{DrawsEight}
-use Rattle.fle_runner.specs.Words.{Form, keys, keygen}
+use Rattle.fle_runner.specs.Words.{DrawsNoBlock, Form, keys, keygen, demo}
 use Rattle.fle_stream.specs.declared.status.Status.{Status}
 use Rattle.fle_stream.specs.declared.status.Status.TheVariants as statuses
 
@@ -11,12 +11,18 @@ use Rattle.fle_stream.specs.declared.status.Status.TheVariants as statuses
 abbrev pub ReadsNoInput : Option Form → Type 0
 ReadsNoInput (Some (keys vault)) = Unit {0}
 ReadsNoInput (Some (keygen master names)) = Unit {0}
+ReadsNoInput (Some (demo db n)) = Unit {0}
 ReadsNoInput form = ⊥
 
 -- the words ask for a new key
 abbrev pub AsksKey : Option Form → Type 0
 AsksKey (Some (keygen master names)) = Unit {0}
 AsksKey form = ⊥
+
+-- the words ask for the demo
+abbrev pub AsksDemo : Option Form → Type 0
+AsksDemo (Some (demo db n)) = Unit {0}
+AsksDemo form = ⊥
 
 -- `keys` draws no block: 0, 4, 5, 6 or 8
 abbrev pub IsStatusOfKeys : Status → Type 0
@@ -32,21 +38,34 @@ abbrev pub IsStatusOfKeygen : Status → Type 0
 IsStatusOfKeygen statuses.EntropyFault = Unit {0}
 IsStatusOfKeygen status = IsStatusOfKeys status
 
+-- `demo` reads no file either: 0, 6 or 8
+abbrev pub IsStatusOfDemo : Status → Type 0
+IsStatusOfDemo statuses.Done = Unit {0}
+IsStatusOfDemo statuses.WriteFault = Unit {0}
+IsStatusOfDemo statuses.Memory = Unit {0}
+IsStatusOfDemo status = ⊥
+
 -- a run of these words may end with this status, as far as the verb decides it
 abbrev pub MayEnd : Option Form → Status → Type 0
 MayEnd (Some (keys vault)) status = IsStatusOfKeys status
 MayEnd (Some (keygen master names)) status = IsStatusOfKeygen status
+MayEnd (Some (demo db n)) status = IsStatusOfDemo status
 MayEnd form status = Unit {0}
 
 -- a run of these words ended so, with these objects before and after it
-pub record EndsByVerb {S N : Type 0} (form : Option Form) (status : Status) (input input_after : S)
-    (files files_after : FolderSeen) (seen : N → EntropySeen) (entropy entropy_after : N) : Type 0 where
-  -- `keys` ends with 0, 4, 5, 6 or 8, and `keygen` with these or 7
+pub record EndsByVerb {S F N : Type 0} (form : Option Form) (status : Status) (input input_after : S)
+    (shows : F → FolderSeen) (files files_after : F) (seen : N → EntropySeen)
+    (entropy entropy_after : N) : Type 0 where
+  -- the verbs without random blocks draw none, so they never end with 7
+  pub undrawn : DrawsNoBlock form → status ≡ statuses.EntropyFault → ⊥
+  -- `keys` ends with 0, 4, 5, 6 or 8, `keygen` with these or 7, and `demo` with 0, 6 or 8
   pub allowed : MayEnd form status
   -- they make no call on the input
   pub no_input : ReadsNoInput form → input_after ≡ input
   -- so with 5 a named file failed
-  pub by_folder : ReadsNoInput form → status ≡ statuses.ReadFault → Rose files.faults files_after.faults
+  pub by_folder : ReadsNoInput form → status ≡ statuses.ReadFault → Rose (shows files).faults (shows files_after).faults
   -- where `keygen` wants memory, it has drawn no block or the eight of a key
   pub none_or_eight : AsksKey form → status ≡ statuses.Memory
       → (entropy_after ≡ entropy) ⊎ DrawsEight (seen entropy) (seen entropy_after)
+  -- `demo` makes no call on the files or on the source of blocks
+  pub alone : AsksDemo form → (files_after ≡ files) × (entropy_after ≡ entropy)

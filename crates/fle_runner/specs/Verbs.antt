@@ -2,13 +2,14 @@
 use Rattle.std.specs.Prelude.{ℕ, Option, Some, None, List}
 use Rattle.fle_outside.specs.Files.{Files, file_of}
 use Rattle.fle_stream.specs.Task.{Task, fails}
-use Rattle.fle_runner.specs.Words.{Form, mark, show, keys, keygen, encrypt, decrypt, form_of}
+use Rattle.fle_runner.specs.Words.{Form, mark, show, keys, keygen, encrypt, decrypt, demo, form_of}
 use Rattle.fle_runner.specs.Mark.{mark_task}
 use Rattle.fle_runner.specs.Show.{show_task}
 use Rattle.fle_runner.specs.Keys.{keys_task}
 use Rattle.fle_runner.specs.Keygen.{keygen_task}
 use Rattle.fle_runner.specs.Encrypt.{encrypt_task}
 use Rattle.fle_runner.specs.Decrypt.{decrypt_task}
+use Rattle.fle_runner.specs.Demo.{demo_task}
 use Rattle.fle_stream.specs.declared.why.Finish.TheVariants as finishes
 
 abbrev pub task_for : ℕ → Form → Files → Task
@@ -19,7 +20,9 @@ task_for now (keygen master names) files = keygen_task names now (file_of files 
 task_for now (encrypt db vault schemas master) files =
     encrypt_task db (file_of files vault) (file_of files schemas) (file_of files master)
 task_for now (decrypt vault master) files = decrypt_task (file_of files vault) (file_of files master)
+task_for now (demo db n) files = demo_task db n
 
+-- what the words ask for: a task, or the end of a run whose words have no form
 abbrev pub task_of : ℕ → Option Form → Files → Task
 task_of now None files = fails finishes.Words
 task_of now (Some form) files = task_for now form files

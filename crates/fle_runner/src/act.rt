@@ -4,7 +4,7 @@ ghost use Rattle.std.specs.Prelude.{true, ◌≡◌, ◌<◌, ◌≤◌, ◌⊎�
 ghost use Rattle.fle_outside.specs.Counts.{Rose};
 ghost use Rattle.fle_outside.specs.Files.{Files};
 ghost use Rattle.fle_runner.specs.Keygen.{DrawsEight};
-ghost use Rattle.fle_runner.specs.Statuses.{AsksKey, MayEnd, ReadsNoInput};
+ghost use Rattle.fle_runner.specs.Statuses.{AsksDemo, AsksKey, MayEnd, ReadsNoInput};
 ghost use Rattle.fle_runner.specs.Verbs.{task};
 ghost use Rattle.fle_runner.specs.Words.{form_of, DrawsNoBlock};
 ghost use Rattle.fle_stream.specs.Codes.{status_of};
@@ -15,6 +15,7 @@ ghost use Rattle.fle_stream.specs.Task.{outcome_of};
 ghost use Rattle.fle_stream.specs.Turn.{RunTook};
 
 use crate::decrypt::decrypt;
+use crate::demo::demo;
 use crate::encrypt::encrypt;
 use crate::keygen::keygen;
 use crate::keys::keys;
@@ -71,6 +72,8 @@ pub fn act<S: Source, F: Folder, O: Sink, N: Entropy, B: Block256>(
         → (input.new ≡ input.old) × (result.why ≡ Why.Cut Cut.Input → ⊥) }
     ensures none_or_eight { AsksKey (form_of (map string_bytes words.now)) → result.why ≡ Why.Cut Cut.Memory
         → (entropy.new ≡ entropy.old) ⊎ DrawsEight (N.seen entropy.old) (N.seen entropy.new) }
+    ensures alone { AsksDemo (form_of (map string_bytes words.now))
+        → (files.new ≡ files.old) × (entropy.new ≡ entropy.old) }
     ensures undrawn { DrawsNoBlock (form_of (map string_bytes words.now)) → result.why ≡ Why.Cut Cut.Entropy → ⊥ }
 {
     match read_words(words) {
@@ -94,5 +97,6 @@ pub fn act<S: Source, F: Folder, O: Sink, N: Entropy, B: Block256>(
         Asked::Decrypt { keys, master } => {
             decrypt(alloc, keys, master, input, files, out, entropy, hooks)
         }
+        Asked::Demo { db, n } => demo(alloc, db, n, out, hooks),
     }
 }

@@ -33,9 +33,6 @@ use key_vault::{KeyCache, Vault};
 use local_kms::MasterKey;
 use std::alloc::Global;
 
-/// A document of the input has at most this many bytes, and so needs no more keys.
-const MOST_NEEDS: usize = 16_777_216;
-
 /// What the files of the words hold.
 #[derive(Drop)]
 pub struct OpeningFiles {
@@ -117,16 +114,13 @@ fn judge_wanting<B: Block256>(
 /// A document with the keys that it needs, those that there are.
 fn with_keys<'a>(state: DecryptNeedKeys<'a>, keys: &'a Vault) -> DecryptNeedKeys<'a>
     requires none { state.kept ≡ [] }
-    requires few { length (first_needs (needs_in state.document)) ≤ 16777216 }
     ensures document { result.document ≡ state.entry.document }
     ensures fed { AreFedFrom keys.entry.now (first_needs (needs_in state.entry.document)) result.kept }
 {
     let mut state = state;
-    for i in 0..MOST_NEEDS {
-        match state.needed(i) {
-            Some(id) => feed(&mut state, keys.by_id(&id)),
-            None => return state,
-        }
+    for i in 0..state.needs().len() {
+        let id = state.needs()[i].id;
+        feed(&mut state, keys.by_id(&id));
     }
     state
 }

@@ -18,6 +18,7 @@ usage: fle mark DB SCHEMAS
        fle show
        fle keygen MASTER [NAME ...]
        fle keys KEYS
+       fle demo DB N
        fle --help | --version
 
   mark DB SCHEMAS   read commands of the database DB from standard input and write the
@@ -38,6 +39,9 @@ usage: fle mark DB SCHEMAS
                     from standard input
   keys KEYS         write a line for each key of KEYS, a file of key documents; nothing
                     is read from standard input
+  demo DB N         make a data key and N commands of the database DB, 1 to 100000, seal
+                    and open each, and write a line that sums it up; nothing is read, and
+                    the line is the same in each run
 
 Documents, commands and replies are BSON, one after another. Where the status isn't 0,
 standard error has one line, `fle: S D R P`: the status, the number of the document or file,

@@ -10,16 +10,33 @@
 //! fle decrypt keys.bson master.key < documents.bson > opened.bson
 //! fle keys keys.bson
 //! fle keygen master.key hr-key >> keys.bson
+//! fle demo hr 1000
 //! ```
 #![tactic(auto)]
 
 mod act;
 mod decrypt;
+mod demo;
+mod demo_commands;
+mod demo_laws;
+mod demo_opening;
+#[cfg(test)]
+mod demo_run_tests;
+mod demo_sealing;
+mod demo_summing;
+mod demo_totals;
+#[cfg(test)]
+mod device_tests;
 mod encrypt;
 #[cfg(test)]
 mod filter_tests;
 mod gathered;
+mod generator;
 mod help;
+#[cfg(test)]
+mod hook_tests;
+#[cfg(test)]
+mod hostile_tests;
 mod infos;
 #[cfg(test)]
 mod json_tests;
@@ -30,13 +47,19 @@ mod keys;
 #[cfg(test)]
 mod keys_tests;
 mod laws;
+#[cfg(test)]
+mod limit_tests;
 mod mark;
 mod numbers;
+#[cfg(test)]
+mod opening_tests;
 mod placing;
 #[cfg(test)]
 mod placing_tests;
 mod program;
 mod refusing;
+#[cfg(test)]
+mod runs;
 #[cfg(test)]
 mod schema_tests;
 #[cfg(test)]
@@ -46,6 +69,8 @@ mod setup;
 mod show;
 #[cfg(test)]
 mod show_tests;
+#[cfg(test)]
+mod size_tests;
 #[cfg(test)]
 mod tests;
 #[cfg(test)]

@@ -4,8 +4,7 @@ ghost use Rattle.std.specs.Prelude.{true, ◌≡◌, ◌<◌, ℕ, List, None, S
 ghost use Rattle.std.specs.Int.{cast_unsigned, w64};
 ghost use Rattle.std.specs.List.{All};
 ghost use Rattle.fle_outside.specs.Files.{Files};
-ghost use Rattle.fle_runner.specs.Headline.{SealsStream, Setup};
-ghost use Rattle.fle_runner.specs.HeadlineFiles.{IsEncrypt};
+ghost use Rattle.fle_runner.specs.HeadlineFiles.{OpensAll, SealsAll};
 ghost use Rattle.fle_runner.specs.Statuses.{EndsByVerb};
 ghost use Rattle.fle_runner.specs.Verbs.{task};
 ghost use Rattle.fle_runner.specs.Words.{form_of, DrawsNoBlock};
@@ -53,10 +52,13 @@ pub fn fle<S: Source, F: Folder, O: Sink, G: Sink, N: Entropy, B: Block256>(
         (world (S.seen input.old) (F.seen files.old) (O.seen out.old) (G.seen diag.old) (N.seen entropy.old))
         (world (S.seen input.new) (F.seen files.new) (O.seen out.new) (G.seen diag.new) (N.seen entropy.new)) result }
     // `fle encrypt`: every accepted command was sealed, and nothing else changed.
-    ensures encrypts { (all : Files) (told : List ℕ) (x : Setup) → (F.seen files.old).told ≡ Some all
-        → (S.seen input.old).told ≡ Some told → IsEncrypt (map string_bytes words.now) all x
-        → All (λ b. b < 256) told → IsSettled result
-        → SealsStream x told (N.seen entropy.old) (N.seen entropy.new) (O.seen out.old) (O.seen out.new) }
+    ensures encrypts { SealsAll (map string_bytes words.now)
+        (world (S.seen input.old) (F.seen files.old) (O.seen out.old) (G.seen diag.old) (N.seen entropy.old))
+        (world (S.seen input.new) (F.seen files.new) (O.seen out.new) (G.seen diag.new) (N.seen entropy.new)) result }
+    // `fle decrypt` of what was so sealed: the commands were written, byte for byte.
+    ensures decrypts { OpensAll (map string_bytes words.now)
+        (world (S.seen input.old) (F.seen files.old) (O.seen out.old) (G.seen diag.old) (N.seen entropy.old))
+        (world (S.seen input.new) (F.seen files.new) (O.seen out.new) (G.seen diag.new) (N.seen entropy.new)) result }
     ensures read_sure { (S.seen input.old).assured ≡ true → (F.seen files.old).assured ≡ true
         → result ≡ Status.ReadFault → ⊥ }
     ensures write_sure { WritesSurely (task (cast_unsigned w64 now_ms) (map string_bytes words.now))
@@ -64,10 +66,8 @@ pub fn fle<S: Source, F: Folder, O: Sink, G: Sink, N: Entropy, B: Block256>(
     ensures entropy_sure { DrawsSurely (task (cast_unsigned w64 now_ms) (map string_bytes words.now))
         (world (S.seen input.old) (F.seen files.old) (O.seen out.old) (G.seen diag.old) (N.seen entropy.old)) result }
     // What each verb may end with, and what it then did with the input, the files and the blocks.
-    ensures verb { EndsByVerb (form_of (map string_bytes words.now)) result input.old input.new (F.seen files.old)
-        (F.seen files.new) N.seen entropy.old entropy.new }
-    // The verbs without random blocks draw none, so they never end with 7.
-    ensures undrawn { DrawsNoBlock (form_of (map string_bytes words.now)) → result ≡ Status.EntropyFault → ⊥ }
+    ensures verb { EndsByVerb (form_of (map string_bytes words.now)) result input.old input.new F.seen files.old
+        files.new N.seen entropy.old entropy.new }
 {
     let end = act(
         alloc,

@@ -31,9 +31,6 @@ use fle_stream::{Judge, Judged};
 use key_vault::{KeyCache, Vault};
 use std::alloc::Global;
 
-/// A command has at most this many bytes, and so needs no more keys.
-const MOST_NEEDS: usize = 16_777_216;
-
 /// What seals the commands of a database, with the keys that it opened.
 #[derive(Drop)]
 pub struct Sealer<'a, B> {
@@ -217,17 +214,14 @@ fn judge_wanting<B: Block256, N: Entropy>(
 /// A command with the keys that it needs, those that there are.
 fn with_keys<'a>(state: NeedKeys<'a>, keys: &'a Vault) -> NeedKeys<'a>
     requires none { state.kept ≡ [] }
-    requires few { length (wanted_of state.info state.command) ≤ 16777216 }
     ensures command { result.command ≡ state.entry.command }
     ensures info { result.info ≡ state.entry.info }
     ensures fed { AreFedFrom keys.entry.now (wanted_of state.entry.info state.entry.command) result.kept }
 {
     let mut state = state;
-    for i in 0..MOST_NEEDS {
-        match state.needed(i) {
-            Some(id) => feed(&mut state, keys.by_id(&id)),
-            None => return state,
-        }
+    for i in 0..state.needs().len() {
+        let id = state.needs()[i].id;
+        feed(&mut state, keys.by_id(&id));
     }
     state
 }

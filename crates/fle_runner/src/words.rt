@@ -1,9 +1,12 @@
 //! The words of a command line.
 
-ghost use Rattle.std.specs.Prelude.{◌≡◌, ◌≤◌, Bool, not, true, nat_lt, length, map, string_bytes};
+ghost use Rattle.std.specs.Prelude.{◌≡◌, ◌≤◌, Bool, IfSome, not, true, nat_lt, length, map, string_bytes};
 ghost use Rattle.data_key.specs.Written.{size_of};
-ghost use Rattle.fle_runner.specs.Words.{are_names, AreFew, asked_form, decrypt_words, each_once, encrypt_words};
-ghost use Rattle.fle_runner.specs.Words.{form_of, keygen_words, keys_words, mark_words, show_words, times, verb_form};
+ghost use Rattle.fle_runner.specs.Words.{are_names, AreFew, asked_form, count_in, counted_form, decrypt_words};
+ghost use Rattle.fle_runner.specs.Words.{demo_words, each_once, encrypt_words, form_of, is_count, keygen_words};
+ghost use Rattle.fle_runner.specs.Words.{keys_words, mark_words, show_words, times, verb_form};
+
+use itoa::Buffer;
 
 /// A database's name has at most this many bytes.
 const MAX_DB: usize = 63;
@@ -13,6 +16,9 @@ const MAX_NAMES: usize = 1000;
 
 /// They have at most this many bytes together.
 const MAX_NAME_BYTES: usize = 15_999_840;
+
+/// The demo has at most this many commands.
+const MAX_COMMANDS: u32 = 100_000;
 
 /// What the words ask for.
 #[derive(Clone, Copy)]
@@ -58,6 +64,13 @@ pub enum Asked<'a> {
         /// The name of the file of the master key.
         master: &'a str,
     },
+    /// Commands of a database, made, sealed and opened again.
+    Demo {
+        /// The database's name.
+        db: &'a str,
+        /// How many commands.
+        n: u32,
+    },
 }
 
 /// What the words after the program's name ask for.
@@ -93,6 +106,9 @@ fn verb_words<'a>(verb: &str, words: &'a [String]) -> Asked<'a>
     }
     if verb == "decrypt" {
         return decrypt_words(words);
+    }
+    if verb == "demo" {
+        return demo_words(words);
     }
     Asked::Nothing
 }
@@ -183,6 +199,48 @@ fn decrypt_words(words: &[String]) -> Asked<'_>
         },
         _ => Asked::Nothing,
     }
+}
+
+/// The words behind `demo`.
+fn demo_words(words: &[String]) -> Asked<'_>
+    ensures asked { asked_form result ≡ demo_words (map string_bytes words.now) }
+    ensures few { AreFew result }
+{
+    match words {
+        [db, count] if !db.is_empty() && db.len() <= MAX_DB => counted(db.as_str(), count.as_str()),
+        _ => Asked::Nothing,
+    }
+}
+
+/// So many commands of a database, where the word is a number of commands.
+fn counted<'a>(db: &'a str, count: &str) -> Asked<'a>
+    requires short { length db.now ≤ 63 }
+    ensures asked { asked_form result ≡ counted_form db.now (count_in count.now) }
+    ensures few { AreFew result }
+{
+    match count_in(count) {
+        Some(n) => Asked::Demo { db, n },
+        None => Asked::Nothing,
+    }
+}
+
+/// The number of commands that a word is.
+fn count_in(word: &str) -> Option<u32>
+    ensures count { result ≡ count_in word.now }
+    ensures few { IfSome result (λ n. n ≤ 100000) }
+{
+    match word.parse::<u32>() {
+        Ok(n) if is_count(word, n) => Some(n),
+        _ => None,
+    }
+}
+
+/// Whether a number is one of commands, and is printed as the word.
+fn is_count(word: &str, n: u32) -> bool
+    ensures count { result ≡ is_count word.now n }
+{
+    let mut digits = Buffer::new();
+    word == digits.format(n) && 1 <= n && n <= MAX_COMMANDS
 }
 
 /// Whether these are the names of a new key.

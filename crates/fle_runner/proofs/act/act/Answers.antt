@@ -2,9 +2,12 @@
 use Rattle.std.proofs.Common.{Option, sym, ap}
 use Rattle.fle_runner.specs.Words.{Form}
 use Rattle.fle_runner.specs.Verbs.{task_of}
+use Rattle.fle_runner.specs.Demo.{demo_text}
 use Rattle.fle_runner.specs.Show.{show_verdict}
+use Rattle.fle_runner.specs.Verdicts.{plain_plan}
 use Rattle.fle_stream.specs.declared.why.Finish.TheVariants as finishes
 use Rattle.fle_stream.proofs.Programs.{did_task, did_fail, ends_task, ends_each}
+use Rattle.fle_runner.proofs.Vaults.{ends_text}
 use Rattle.fle_runner.proofs.act.act.Goals as goal
 
 pub returns-in-Nothing-clause-did : goal.returns-in-Nothing-clause-did
@@ -72,3 +75,13 @@ pub returns-in-Decrypt-clause-placed : goal.returns-in-Decrypt-clause-placed
 returns-in-Decrypt-clause-placed g c = λ all has.
     ends_task _ (ap (λ (f : Option Form). task_of c.args.time f all) (sym c.in-Decrypt.ensures.asked))
     (c.decrypt.ensures.placed all has)
+
+pub returns-in-Demo-clause-did : goal.returns-in-Demo-clause-did
+returns-in-Demo-clause-did g c = λ all told has is.
+    did_task (ap (λ (f : Option Form). task_of c.args.time f all) (sym c.in-Demo.ensures.asked))
+    (c.demo.ensures.did told _ _ is)
+
+pub returns-in-Demo-clause-placed : goal.returns-in-Demo-clause-placed
+returns-in-Demo-clause-placed g c = λ all has.
+    ends_task _ (ap (λ (f : Option Form). task_of c.args.time f all) (sym c.in-Demo.ensures.asked))
+    (ends_text (plain_plan (demo_text c.in-Demo.db.now c.in-Demo.n)) _ c.demo.ensures.kind)

@@ -1,19 +1,10 @@
 -- The keys kept are the vault's for the document's payloads.
-use Rattle.std.proofs.Common.{◌≤◌, length, ap, arith, subst, sym}
-use Rattle.bson_codec.specs.Borrowed.{At}
-use Rattle.context_machine.specs.Needs.{first_needs}
-use Rattle.context_machine.specs.Rings.{needs_in, ring}
+use Rattle.std.proofs.Common.{ap}
+use Rattle.context_machine.specs.Rings.{ring}
 use Rattle.context_machine.specs.States.{Opens}
 use Rattle.fle_runner.specs.Decrypt.{decrypt_verdict}
-use Rattle.fle_runner.proofs.Fed.{few_payloads}
 use Rattle.fle_runner.proofs.Unseals.{keys_fail, vault_has}
 use Rattle.fle_runner.proofs.decrypt.judge_wanting.Goals as goal
-
-pub with_keys-state-requires-clause-few : goal.with_keys-state-requires-clause-few
-with_keys-state-requires-clause-few g c =
-    subst (λ (d : At). length (first_needs (needs_in d)) ≤ 16777216)
-    (sym (ap (λ (w : Opens). w.document) c.requires.begun))
-    (omega (arith, few_payloads c.args.document.now, c.requires.small))
 
 pub returns-in-Ok-clause-judged : goal.returns-in-Ok-clause-judged
 returns-in-Ok-clause-judged g c = λ e.

@@ -4,8 +4,11 @@ use Rattle.std.proofs.lemmas.Int.{to_z-of_z}
 use Rattle.std.specs.Int.{cast_unsigned, w64}
 use Rattle.fle_stream.specs.Ended.{IsSettled}
 use Rattle.fle_stream.specs.declared.status.Status.{Status}
-use Rattle.fle_stream.proofs.Endings.{settled_of, whole_of}
-use Rattle.fle_runner.proofs.HeadlineFiles.{encrypts}
+use Rattle.fle_stream.specs.Codes.{status_of_finish}
+use Rattle.fle_stream.specs.Outcome.{Outcome}
+use Rattle.fle_stream.proofs.Endings.{settled_of, settled_status, whole_of}
+use Rattle.fle_runner.specs.ReadBack.{stream}
+use Rattle.fle_runner.proofs.HeadlineFiles.{decrypts, encrypts, opened_gains}
 use Rattle.fle_runner.proofs.program.fle.Goals as goal
 
 pub returns-clause-ended : goal.returns-clause-ended
@@ -51,6 +54,16 @@ returns-clause-encrypts g c = λ all told x has is asks bytes settled.
     (whole_of (c.act-end.ensures.did all told has is).ran
     (subst (λ (s : Status). IsSettled s) c.report.ensures.status settled))
 
+pub returns-clause-decrypts : goal.returns-clause-decrypts
+returns-clause-decrypts g c = λ all x commands blocks sealed has is asks each readable few settled.
+    let back = decrypts c.cast_unsigned.result _ all x commands blocks sealed asks each readable few in
+    let ran = (c.act-end.ensures.did all (stream sealed) has is).ran in
+    let ended = subst (λ (s : Status). IsSettled s) c.report.ensures.status settled in (
+      c.report.ensures.status
+          ∙ (settled_status ran ended ∙ ap (λ (o : Outcome). status_of_finish o.finish) back),
+      opened_gains x commands blocks sealed _ _ _ _ _ each readable back (whole_of ran ended),
+    )
+
 pub returns-clause-write_sure : goal.returns-clause-write_sure
 returns-clause-write_sure g c =
     let same : c.cast_unsigned.result ≡ cast_unsigned w64 c.args.now_ms =
@@ -65,8 +78,10 @@ returns-clause-entropy_sure g c =
 
 pub returns-clause-verb : goal.returns-clause-verb
 returns-clause-verb g c = record {
+  undrawn = search rules;
   allowed = search rules;
   no_input = search rules;
   by_folder = search rules;
   none_or_eight = search rules;
+  alone = search rules;
 }

@@ -1,16 +1,6 @@
 -- The keys kept are the vault's for the command's values.
-use Rattle.std.proofs.Common.{◌≤◌, length, arith, subst, sym}
-use Rattle.bson_codec.specs.Borrowed.{At}
-use Rattle.context_machine.specs.Waiting.{wanted_of}
-use Rattle.encrypt_schema.specs.Commands.Targets.{rows_in}
-use Rattle.fle_runner.proofs.Fed.{few_needs}
 use Rattle.fle_runner.proofs.Seals.{keys_sealed, keys_told}
 use Rattle.fle_runner.proofs.sealing.judge_wanting.Goals as goal
-
-pub with_keys-state-requires-clause-few : goal.with_keys-state-requires-clause-few
-with_keys-state-requires-clause-few g c =
-    subst (λ (d : At). length (wanted_of c.args.state.info d) ≤ 16777216) (sym c.requires.same)
-    (omega (arith, few_needs (rows_in c.args.state.info) c.args.command.now, c.requires.small))
 
 pub returns-in-Ok-clause-judged : goal.returns-in-Ok-clause-judged
 returns-in-Ok-clause-judged g c =
