@@ -29,7 +29,7 @@ pub fn run_sealing(
     turns: u32,
 ) -> Result<u32, AllocError>
     requires { size ≤ MOST_BYTES }
-    ensures { IfOk result (λ sum. 0 < turns
+    ensures sum { IfOk result (λ sum. 0 < turns
         → sum ≡ checksum (value_turns DATA_KEY ASSOCIATED (message_bytes size) turns)) }
 {
     let plain = message(alloc, size)?;
@@ -45,7 +45,7 @@ pub fn run_sealing(
 /// found last.
 pub fn run_opening(alloc: Global, size: usize, turns: u32) -> Result<u32, AllocError>
     requires { size ≤ MOST_BYTES }
-    ensures { IfOk result (λ sum. 0 < turns → sum ≡ checksum (message_bytes size)) }
+    ensures sum { IfOk result (λ sum. 0 < turns → sum ≡ checksum (message_bytes size)) }
 {
     let plain = message(alloc, size)?;
     let mut sealed = vec![in alloc; 0u8; sealed_len(size)]?;

@@ -24,7 +24,7 @@ pub fn document<S: Source>(
 /// Checks a document some times over, and says whether it was right the last time.
 pub fn run(document: &[u8], turns: u32) -> bool
     requires { length document.now ≤ 67108864 }
-    ensures { 0 < turns → result ≡ is_ok (document_in document.now) }
+    ensures right { 0 < turns → result ≡ is_ok (document_in document.now) }
 {
     let mut right = false;
     for _turn in 0..turns {

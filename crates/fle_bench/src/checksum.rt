@@ -7,7 +7,7 @@ use sha2::{Digest, Sha256};
 
 /// The checksum of the bytes.
 pub fn checksum(bytes: &[u8]) -> u32
-    ensures { result ≡ checksum bytes.now }
+    ensures sum { result ≡ checksum bytes.now }
 {
     u32::from_be_bytes(first_4(&Sha256::digest(bytes)))
 }

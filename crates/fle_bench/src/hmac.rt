@@ -19,7 +19,7 @@ use std::alloc::{AllocError, Global};
 /// bytes of the code before.
 pub fn run(alloc: Global, setup: KeySetup, size: usize, turns: u32) -> Result<u32, AllocError>
     requires { 16 ≤ size }
-    ensures { IfOk result (λ sum. 0 < turns
+    ensures sum { IfOk result (λ sum. 0 < turns
         → sum ≡ checksum (code_turns CBC_AES256.key CBC_AES256.iv (message_bytes size) turns)) }
 {
     let text = message(alloc, size)?;

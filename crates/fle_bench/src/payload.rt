@@ -41,7 +41,7 @@ pub fn run_sealing(
     turns: u32,
 ) -> Result<u32, AllocError>
     requires { size ≤ MOST_BYTES }
-    ensures { IfOk result (λ sum. 0 < turns
+    ensures sum { IfOk result (λ sum. 0 < turns
         → sum ≡ checksum (payload_turns algorithm DATA_KEY KEY_ID BINARY VECTOR (binary_value size) turns)) }
 {
     let plain = binary(alloc, size)?;
@@ -59,7 +59,7 @@ pub fn run_opening(
     turns: u32,
 ) -> Result<u32, AllocError>
     requires { size ≤ MOST_BYTES }
-    ensures { IfOk result (λ sum. 0 < turns → sum ≡ checksum (binary_value size)) }
+    ensures sum { IfOk result (λ sum. 0 < turns → sum ≡ checksum (binary_value size)) }
 {
     let plain = binary(alloc, size)?;
     let mut payload = vec![in alloc; 0u8; payload_len(size + 5)]?;

@@ -11,5 +11,5 @@ pub loop-turn-preserved : goal.loop-turn-preserved
 loop-turn-preserved c =
     let code = repeated-next (λ (b : List ℕ). hmac c.args.key.now (last 16 b ++ drop 16 c.args.text.now)) c.args.first _
     c.loop-turn._turn
-    (rw c.loop-turn.invariant.fed at c.code_once-code.ensures _ c.new-keyed.ensures) in
+    (rw c.loop-turn.invariant.fed at c.code_once-code.ensures _ c.new-keyed.ensures.keyed) in
     record { fed = c.last_block-block.ensures ∙ ap (last 16) code; code = λ _. code }
