@@ -1,4 +1,4 @@
-"""Schemas and commands made by chance, most of them near to what the rules accept."""
+"""Random schemas and commands, most of them near to what the rules accept."""
 import struct
 
 from plain.bson import ARRAY, BINARY, DOCUMENT, INT, REGEX, STRING, array, binary, spell, text
@@ -6,9 +6,9 @@ from plain.rules import MARKED, PASSING
 
 ALGORITHMS = {"D": "AEAD_AES_256_CBC_HMAC_SHA_512-Deterministic", "R": "AEAD_AES_256_CBC_HMAC_SHA_512-Random"}
 # Names of types that a rule may state, with their type bytes; the deterministic algorithm may take the first eleven.
-TYPES = [("string", 2), ("binData", 5), ("objectId", 7), ("date", 9), ("regex", 11), ("dbPointer", 12), ("javascript", 13),
-         ("symbol", 14), ("int", 16), ("timestamp", 17), ("long", 18), ("double", 1), ("object", 3), ("array", 4), ("bool", 8),
-         ("javascriptWithScope", 15), ("decimal", 19)]
+TYPES = [("string", 2), ("binData", 5), ("objectId", 7), ("date", 9), ("regex", 11), ("dbPointer", 12),
+         ("javascript", 13), ("symbol", 14), ("int", 16), ("timestamp", 17), ("long", 18), ("double", 1), ("object", 3),
+         ("array", 4), ("bool", 8), ("javascriptWithScope", 15), ("decimal", 19)]
 RAW = [1, 2, 5, 6, 7, 8, 9, 10, 11, 12, 13, 14, 15, 16, 17, 18, 19, 127, 255]
 NAMES = ["a", "b", "c", "d", "ssn", "0", "$x", "a.b", "", "documents"]
 UNREAD = ["ordered", "lsid", "comment", "writeConcern", "hint", "limit", "sort", "collation"]
@@ -22,8 +22,8 @@ def some_raw(chance, tag):
     bytes_of = chance.randbytes
     scope = text(some_text(chance)) + spell([(10, "n", b"")])
     return {1: lambda: bytes_of(8), 2: lambda: text(some_text(chance)),
-            5: lambda: binary(chance.choice([0, 2, 4, 6]), bytes_of(chance.randrange(9))), 6: lambda: b"", 7: lambda: bytes_of(12),
-            8: lambda: bytes([chance.randrange(2)]), 9: lambda: bytes_of(8), 10: lambda: b"", 11: lambda: b"a.c\0i\0",
+            5: lambda: binary(chance.choice([0, 2, 4, 6]), bytes_of(chance.randrange(9))), 6: lambda: b"",
+            7: lambda: bytes_of(12), 8: lambda: bytes([chance.randrange(2)]), 9: lambda: bytes_of(8), 10: lambda: b"", 11: lambda: b"a.c\0i\0",
             12: lambda: text("db.c") + bytes_of(12), 13: lambda: text("f()"), 14: lambda: text("sym"),
             15: lambda: struct.pack("<i", 4 + len(scope)) + scope, 16: lambda: bytes_of(4), 17: lambda: bytes_of(8),
             18: lambda: bytes_of(8), 19: lambda: bytes_of(16), 127: lambda: b"", 255: lambda: b""}[tag]()
@@ -79,8 +79,12 @@ def some_infos(chance):
     infos, file = {}, b""
     for name in ["people", "staff", "notes", "v"]:
         rules, view = {}, name == "v"
-        options = [] if name == "notes" else [(DOCUMENT, "validator", [(DOCUMENT, "$jsonSchema", some_schema(chance, rules, (), None, None, 3))])]
-        file += spell([(STRING, "name", text(name)), (STRING, "type", text("view" if view else "collection")), (DOCUMENT, "options", options)])
+        options = []
+        if name != "notes":
+            schema = some_schema(chance, rules, (), None, None, 3)
+            options = [(DOCUMENT, "validator", [(DOCUMENT, "$jsonSchema", schema)])]
+        file += spell([(STRING, "name", text(name)), (STRING, "type", text("view" if view else "collection")),
+                       (DOCUMENT, "options", options)])
         infos[name] = ({} if view else rules, view)
     return infos, file
 
@@ -111,9 +115,12 @@ def suited(chance, rules, path, depth):
 
 
 def some_dotted(chance, rules, algorithms="DR"):
-    """A dotted path: often that of a rule with one of these algorithms, or one longer, shorter or beside it, or positional."""
+    """A dotted path: often that of a rule with one of these algorithms, or a longer, shorter or other one, or positional."""
     known = [path for path, rule in rules.items() if rule[0] in algorithms or chance.random() < 0.02]
-    path = list(chance.choice(known)) if known and chance.random() < 0.85 else chance.choices(["d", "e", "f", "x"], k=chance.randrange(1, 3))
+    if known and chance.random() < 0.85:
+        path = list(chance.choice(known))
+    else:
+        path = chance.choices(["d", "e", "f", "x"], k=chance.randrange(1, 3))
     if chance.random() < 0.05:
         path.insert(chance.randrange(1, len(path) + 1), chance.choice(["0", "17", "$", "$[]", "x"]))
     if chance.random() < 0.02:
@@ -125,15 +132,19 @@ def some_dotted(chance, rules, algorithms="DR"):
 
 def some_compared(chance, rules, path, name):
     rule = rules.get(path)
-    return suited_value(chance, rule, name) if rule and chance.random() < 0.98 else some_element(chance, name, 1 if rule or chance.random() < 0.1 else 0)
+    if rule and chance.random() < 0.98:
+        return suited_value(chance, rule, name)
+    return some_element(chance, name, 1 if rule or chance.random() < 0.1 else 0)
 
 
 def some_operators(chance, rules, path, depth):
     elements = []
     for _ in range(chance.randrange(1, 3)):
-        name = chance.choices(["$eq", "$ne", "$in", "$nin", "$not", "$exists", "$gt", "x"], weights=[5, 3, 5, 2, 3, 2, 0.1, 0.1])[0]
+        name = chance.choices(["$eq", "$ne", "$in", "$nin", "$not", "$exists", "$gt", "x"],
+                              weights=[5, 3, 5, 2, 3, 2, 0.1, 0.1])[0]
         if name in ("$in", "$nin") and chance.random() < 0.95:
-            elements.append((ARRAY, name, [some_compared(chance, rules, path, str(at)) for at in range(chance.randrange(4))]))
+            among = [some_compared(chance, rules, path, str(at)) for at in range(chance.randrange(4))]
+            elements.append((ARRAY, name, among))
         elif name == "$not" and depth and chance.random() < 0.9:
             elements.append((DOCUMENT, name, some_operators(chance, rules, path, depth - 1)))
         elif name == "$not":
@@ -153,7 +164,8 @@ def some_filter(chance, rules, depth):
                 parts.append(some_element(chance, "x", 0))
             elements.append((ARRAY, chance.choice(["$and", "$or", "$nor"]), parts))
         elif draw < 0.2:
-            elements.append(some_element(chance, chance.choices(["$comment", "$where", "$and"], weights=[20, 1, 1])[0], 1))
+            word = chance.choices(["$comment", "$where", "$and"], weights=[20, 1, 1])[0]
+            elements.append(some_element(chance, word, 1))
         else:
             path = some_dotted(chance, rules, "D")
             name = ".".join(path)
@@ -180,11 +192,13 @@ def some_update(chance, rules):
         return suited(chance, rules, (), 3)
     elements = []
     for _ in range(chance.randrange(1, 4)):
-        operator = chance.choices(["$set", "$setOnInsert", "$unset", "$rename", "$inc", "$push", "a"], weights=[8, 3, 3, 0.3, 0.5, 0.5, 0.05])[0]
+        operator = chance.choices(["$set", "$setOnInsert", "$unset", "$rename", "$inc", "$push", "a"],
+                                  weights=[8, 3, 3, 0.3, 0.5, 0.5, 0.05])[0]
         arguments = [some_argument(chance, rules, operator) for _ in range(chance.randrange(4))]
         if operator in ("$inc", "$push") and chance.random() < 0.8:
             arguments = [some_element(chance, "other", 0)]
-        elements.append((DOCUMENT, operator, arguments) if chance.random() < 0.99 else some_element(chance, operator, 0))
+        well = chance.random() < 0.99
+        elements.append((DOCUMENT, operator, arguments) if well else some_element(chance, operator, 0))
     return elements
 
 
@@ -197,7 +211,8 @@ def some_item(chance, rules, verb):
         if chance.random() < 0.02:
             item[1] = chance.choice([(ARRAY, "u", []), (INT, "u", bytes(4))])
     if chance.random() < 0.3:
-        item.insert(chance.randrange(len(item) + 1), some_element(chance, chance.choice(["multi", "upsert", "limit", "collation"]), 1))
+        at = chance.randrange(len(item) + 1)
+        item.insert(at, some_element(chance, chance.choice(["multi", "upsert", "limit", "collation"]), 1))
     if chance.random() < 0.015:
         item.append(some_element(chance, chance.choice(["arrayFilters", "c", "q", "u"]), 1))
     if chance.random() < 0.01:
@@ -216,7 +231,8 @@ def some_contents(chance, rules, verb):
     if chance.random() < 0.3:
         shown = [some_element(chance, chance.choice(NAMES), 0) for _ in range(chance.randrange(3))]
         if chance.random() < 0.5:
-            shown.append((DOCUMENT, "s", [(INT, chance.choices(["$slice", "$meta", "$elemMatch"], weights=[9, 9, 1])[0], bytes(4))]))
+            word = chance.choices(["$slice", "$meta", "$elemMatch"], weights=[9, 9, 1])[0]
+            shown.append((DOCUMENT, "s", [(INT, word, bytes(4))]))
         fields.append((DOCUMENT, "projection", shown))
     if chance.random() < 0.02:
         fields.append(some_element(chance, chance.choice(["min", "max", "let"]), 1))
@@ -227,16 +243,18 @@ def some_command(chance, infos):
     verb = chance.choices(MARKED + ["passing"], weights=[3, 4, 2, 3, 1])[0]
     name = chance.choices(["people", "staff", "notes", "unknown", "v"], weights=[60, 60, 10, 5, 1])[0]
     if verb == "passing":
-        return [some_element(chance, chance.choice(PASSING), 1)] + [(STRING, "$db", text("admin"))] * (chance.random() < 0.8)
-    command = [(STRING, verb, text(name))] + some_contents(chance, infos.get(name, ({}, False))[0], verb) + [(STRING, "$db", text("hr"))]
+        first = some_element(chance, chance.choice(PASSING), 1)
+        return [first] + [(STRING, "$db", text("admin"))] * (chance.random() < 0.8)
+    contents = some_contents(chance, infos.get(name, ({}, False))[0], verb)
+    command = [(STRING, verb, text(name))] + contents + [(STRING, "$db", text("hr"))]
     if chance.random() < 0.3:
         command.insert(chance.randrange(1, len(command) + 1), some_element(chance, chance.choice(UNREAD), 1))
     while chance.random() < 0.04:
         at = chance.randrange(len(command) + 1)
         command.insert(at, chance.choice([
             (STRING, "$db", text("x")), (INT, "$db", bytes(4)), (STRING, verb, text(name)), (ARRAY, "documents", []),
-            (ARRAY, "updates", [(INT, "0", bytes(4))]), (DOCUMENT, "deletes", []), (STRING, "aggregate", text(name)), (STRING, verb, text("")),
-            (ARRAY, "filter", []), (DOCUMENT, "let", [])]))
+            (ARRAY, "updates", [(INT, "0", bytes(4))]), (DOCUMENT, "deletes", []), (STRING, "aggregate", text(name)),
+            (STRING, verb, text("")), (ARRAY, "filter", []), (DOCUMENT, "let", [])]))
         if chance.random() < 0.3:
             del command[chance.randrange(len(command))]
     return command

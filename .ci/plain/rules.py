@@ -6,9 +6,11 @@ order, which is the order of tuples of child numbers, and at one place the least
 import re
 import struct
 
-from plain.bson import ARRAY, BINARY, DOCUMENT, INT, REGEX, STRING, binary, spell, text, words_of
+from plain.bson import (ARRAY, BINARY, DOCUMENT, INT, REGEX, STRING, binary, places_of, spell, text, with_values,
+                        words_of)
 
-PASSING = ["ping", "hello", "getMore", "killCursors", "endSessions", "listCollections", "commitTransaction", "abortTransaction"]
+PASSING = ["ping", "hello", "getMore", "killCursors", "endSessions", "listCollections", "commitTransaction",
+           "abortTransaction"]
 MARKED = ["insert", "update", "delete", "find"]
 UNSTORABLE = (6, 10, 127, 255)
 
@@ -215,8 +217,8 @@ class Contents:
                 self.refuse(place + (number,), 14)
 
     def item_of_updates(self, place, elements):
-        self.fields(place, elements, {"q": self.document_or(self.filter), "u": self.replacement, "arrayFilters": self.unusable,
-                                      "c": self.unusable}, ["q", "u"])
+        self.fields(place, elements, {"q": self.document_or(self.filter), "u": self.replacement,
+                                      "arrayFilters": self.unusable, "c": self.unusable}, ["q", "u"])
 
     def item_of_deletes(self, place, elements):
         self.fields(place, elements, {"q": self.document_or(self.filter)}, ["q"])
@@ -273,24 +275,27 @@ def judge(infos, command, db):
     return min(Contents(rules_of(infos, command)).command(command).offences, default=None)
 
 
-def marked(rules, marks, place, elements):
-    result = []
-    for number, (tag, name, value) in enumerate(elements):
-        here = place + (number,)
-        if here in marks:
-            algorithm, key, _ = rules[marks[here]]
-            fields = [(tag, "v", spell(value)), (INT, "a", struct.pack("<i", "DR".index(algorithm) + 1)), (BINARY, "ki", binary(4, key))]
-            result.append((BINARY, name, binary(6, b"\0" + spell(fields))))
-        elif isinstance(value, list):
-            result.append((tag, name, marked(rules, marks, here, value)))
-        else:
-            result.append((tag, name, value))
-    return result
+def marked(rules, marks, command):
+    """The command with a marking in the place of each value that has a rule."""
+    values = {}
+    for place, tag, value in places_of(command):
+        if place in marks:
+            algorithm, key, _ = rules[marks[place]]
+            number = struct.pack("<i", "DR".index(algorithm) + 1)
+            fields = [(tag, "v", value), (INT, "a", number), (BINARY, "ki", binary(4, key))]
+            values[place] = BINARY, binary(6, b"\0" + spell(fields))
+    return with_values(command, values)
+
+
+def marks_of(rules, command):
+    """The rule of each place of a command that isn't refused: a dictionary from places to paths."""
+    return Contents(rules).command(command).marks if rules else {}
 
 
 def reply(infos, command):
     """The marking reply to a command that isn't refused."""
     rules = rules_of(infos, command)
-    marks = Contents(rules).command(command).marks if rules else {}
-    return spell([(8, "hasEncryptionPlaceholders", bytes([bool(marks)])), (8, "schemaRequiresEncryption", bytes([bool(rules)])),
-                  (DOCUMENT, "result", marked(rules, marks, (), command)), (1, "ok", struct.pack("<d", 1.0))])
+    marks = marks_of(rules, command)
+    return spell([(8, "hasEncryptionPlaceholders", bytes([bool(marks)])),
+                  (8, "schemaRequiresEncryption", bytes([bool(rules)])),
+                  (DOCUMENT, "result", marked(rules, marks, command)), (1, "ok", struct.pack("<d", 1.0))])

@@ -1,0 +1,106 @@
+"""Vaults, and documents with payloads, at random: some keys are missing, foreign or damaged, some payloads are
+changed."""
+import base64
+
+from plain.bson import ARRAY, BINARY, DOCUMENT, INT, STRING, array, binary, spell, text
+from plain.chance import NAMES, RAW, TYPES, some_raw
+from plain.sealing import Vault, derived_vector, padded, sealed
+
+FOREIGN = ["aws", "azure", "gcp", "kmip", "Local", "local:a", "loca", ""]
+
+
+def changed(chance, contents):
+    """The same bytes with one bit changed, or a few bytes cut off or put behind."""
+    draw = chance.random()
+    if draw < 0.5 and contents:
+        at = chance.randrange(len(contents))
+        return contents[:at] + bytes([contents[at] ^ 1 << chance.randrange(8)]) + contents[at + 1:]
+    count = chance.choice([1, 2, 16])
+    return contents[:-count] if draw < 0.75 else contents + chance.randbytes(count)
+
+
+def some_blocks(chance, plain):
+    """Whole blocks that hold a text, mostly with another padding than the right one."""
+    if chance.random() < 0.5:
+        last = chance.choice([0, 1, 2, 15, 16, 17, 255])
+        return plain + chance.randbytes(-(len(plain) + 1) % 16) + bytes([last])
+    blocks = padded(plain)
+    at = len(blocks) - chance.randrange(1, blocks[-1] + 1)
+    return blocks[:at] + chance.randbytes(1) + blocks[at + 1:]
+
+
+# ---- vaults
+
+def some_material(chance, master, damaged):
+    """A data key under the master key; or what is damaged in one of four ways."""
+    way = chance.choice(["other key", "changed", "length", "padding"]) if damaged else ""
+    key = chance.randbytes(chance.choice([0, 64, 95, 97, 111, 112]) if way == "length" else 96)
+    blocks = some_blocks(chance, key) if way == "padding" else padded(key)
+    material = sealed(chance.randbytes(96) if way == "other key" else master, b"", chance.randbytes(16), blocks)
+    return changed(chance, material) if way == "changed" else material
+
+
+def key_document(chance, number, key_id, provider, material):
+    fields = [(BINARY, "_id", binary(4, key_id)), (BINARY, "keyMaterial", binary(0, material)),
+              (9, "creationDate", chance.randbytes(8)), (INT, "status", bytes(4)),
+              (DOCUMENT, "masterKey", [(STRING, "provider", text(provider))])]
+    names = [text(f"key-{number}-{at}") for at in range(chance.randrange(3))]
+    if names or chance.random() < 0.5:
+        fields.append((ARRAY, "keyAltNames", array(STRING, names)))
+    if chance.random() < 0.3:
+        chance.shuffle(fields)
+    return spell(fields)
+
+
+def some_vault(chance, ids):
+    """A vault for these ids, where in four of ten one in four keys is spoiled; its file, and that of the master key."""
+    master, keys, file = chance.randbytes(96), {}, b""
+    spoiled = 0.25 if chance.random() < 0.4 else 0
+    for number, key_id in enumerate(chance.sample(ids, len(ids)) + [chance.randbytes(16)]):
+        way = chance.choice(["missing", "foreign", "damaged"]) if chance.random() < spoiled else ""
+        if way != "missing":
+            provider = chance.choice(FOREIGN) if way == "foreign" else "local"
+            material = some_material(chance, master, way == "damaged")
+            file += key_document(chance, number, key_id, provider, material)
+            keys[key_id] = provider, material
+    text_of_master = base64.b64encode(master)
+    return Vault(master, keys), file, chance.choice([master, text_of_master, text_of_master + b"\n"])
+
+
+# ---- documents to be opened
+
+def some_plain(chance):
+    """A type and bytes that are mostly a value of it; some nest about as deeply as a document may."""
+    draw = chance.random()
+    if draw < 0.03:
+        plain = []
+        for _ in range(chance.randrange(93, 100)):
+            plain = [(DOCUMENT, "", plain)]
+        return DOCUMENT, spell(plain)
+    tag = chance.randrange(256) if draw < 0.04 else chance.choice(RAW) if draw < 0.06 else chance.choice(TYPES)[1]
+    plain = spell([(2, "s", text("t"))]) if tag in (DOCUMENT, ARRAY) or tag not in RAW else some_raw(chance, tag)
+    return tag, changed(chance, plain) if chance.random() < 0.02 else plain
+
+
+def some_payload(chance, vault, ids):
+    key_id, (tag, plain) = chance.choice(ids), some_plain(chance)
+    key, head = vault.data_key(key_id), bytes([chance.choice([1, 2]), *key_id, tag])
+    key = chance.randbytes(96) if isinstance(key, int) else key
+    vector = derived_vector(key, head, plain) if head[0] == 1 else chance.randbytes(16)
+    contents = head + sealed(key, head, vector, some_blocks(chance, plain) if chance.random() < 0.02 else padded(plain))
+    return changed(chance, contents) if chance.random() < 0.02 else contents
+
+
+def some_sealed(chance, vault, ids, depth):
+    """Elements of a document, payloads among them."""
+    elements = []
+    for name in chance.choices(NAMES, k=chance.randrange(4)):
+        draw = chance.random()
+        if draw < 0.3 and depth:
+            elements.append((chance.choice([DOCUMENT, ARRAY]), name, some_sealed(chance, vault, ids, depth - 1)))
+        elif draw < 0.7:
+            elements.append((BINARY, name, binary(6, some_payload(chance, vault, ids))))
+        else:
+            tag = chance.choice(RAW)
+            elements.append((tag, name, some_raw(chance, tag)))
+    return elements
