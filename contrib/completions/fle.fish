@@ -6,6 +6,7 @@ complete -c fle -n __fish_use_subcommand -a mark -d "Write the marking reply to 
 complete -c fle -n __fish_use_subcommand -a show -d "Write the text of each document"
 complete -c fle -n __fish_use_subcommand -a keygen -d "Make a data key and write its document"
 complete -c fle -n __fish_use_subcommand -a keys -d "Write a line for each key of a vault"
+complete -c fle -n __fish_use_subcommand -a demo -d "Seal and open made commands, and sum them up"
 complete -c fle -n __fish_use_subcommand -a --help -d "What fle does"
 complete -c fle -n __fish_use_subcommand -a --version -d "Which fle this is"
 complete -c fle -n '__fish_seen_subcommand_from mark; and test (count (commandline -opc)) -eq 3' -F

@@ -30,7 +30,11 @@ func run(stream []byte, words ...string) ([]byte, error) {
 
 func main() {
 	person := bson.D{{Key: "ssn", Value: "123-45-6789"}, {Key: "n", Value: int32(1)}}
-	plain, err := bson.Marshal(bson.D{{Key: "insert", Value: "people"}, {Key: "documents", Value: bson.A{person}}, {Key: "$db", Value: "hr"}})
+	plain, err := bson.Marshal(bson.D{
+		{Key: "insert", Value: "people"},
+		{Key: "documents", Value: bson.A{person}},
+		{Key: "$db", Value: "hr"},
+	})
 	check(err)
 	sealed, err := run(plain, "encrypt", "hr", keys, schemas, master)
 	check(err)

@@ -1,8 +1,8 @@
 #!/usr/bin/env python3
 """Seals commands by `fle encrypt` and opens them by `fle decrypt`, with the BSON of pymongo's package `bson`.
 
-Builds three commands, pipes them through the program in one run, shows that no protected value is left in what comes out,
-opens it and compares. Run from the top: /usr/bin/python3 examples/python/seal.py
+Builds three commands, pipes them through the program in one run, shows that no protected value is left in what comes
+out, opens it and compares. Run from the top: /usr/bin/python3 examples/python/seal.py
 """
 import os
 import subprocess
@@ -44,7 +44,8 @@ def commands():
     person = {"ssn": "123-45-6789", "salary": 70000, "n": 1}
     return [{"insert": "people", "documents": [person, {"ssn": "987-65-4321", "n": 2}], "$db": "hr"},
             {"find": "people", "filter": {"ssn": "123-45-6789"}, "$db": "hr"},
-            {"update": "people", "updates": [{"q": {"ssn": {"$in": ["a", "b"]}}, "u": {"$set": {"salary": 80000}}}], "$db": "hr"}]
+            {"update": "people",
+             "updates": [{"q": {"ssn": {"$in": ["a", "b"]}}, "u": {"$set": {"salary": 80000}}}], "$db": "hr"}]
 
 
 def is_payload(value):
@@ -55,10 +56,12 @@ def main():
     plain = commands()
     sealed = seal(plain)
     first = sealed[0]["documents"][0]
-    checks = [("each protected value is a payload, and nothing else is", is_payload(first["ssn"]) and is_payload(first["salary"]) and first["n"] == 1),
+    checks = [("each protected value is a payload, and nothing else is",
+               is_payload(first["ssn"]) and is_payload(first["salary"]) and first["n"] == 1),
               ("a filter has the payload that was stored", sealed[1]["filter"]["ssn"] == first["ssn"]),
               ("no value is left in clear", b"123-45-6789" not in b"".join(map(bson.encode, sealed))),
-              ("what is opened is what was sealed, byte for byte", list(map(bson.encode, unseal(sealed))) == list(map(bson.encode, plain)))]
+              ("what is opened is what was sealed, byte for byte",
+               list(map(bson.encode, unseal(sealed))) == list(map(bson.encode, plain)))]
     again = seal(plain[:1])[0]["documents"][0]
     checks += [("a deterministic value is sealed alike again", again["ssn"] == first["ssn"]),
                ("a random one isn't", again["salary"] != first["salary"])]
