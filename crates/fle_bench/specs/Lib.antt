@@ -1,4 +1,5 @@
 pub mod Checksum
+pub mod Documents
 pub mod Message
 pub mod Payload
 pub mod Value

@@ -53,6 +53,9 @@ pub enum Subject {
     BsonCheck,
     /// The look-up of a document's names among the rules of a schema, which both stand on standard input.
     RuleNames,
+    /// A command whose protected values are sealed, behind the rules for them, or a document that is opened; they stand
+    /// on standard input.
+    Document(Direction),
 }
 
 /// The subject that a word names.
@@ -82,6 +85,8 @@ pub fn subject_of(word: &str) -> Option<Subject>
         "payload-open-random" => Some(Subject::Payload(Direction::Open, Algorithm::Random)),
         "bson-check" => Some(Subject::BsonCheck),
         "rule-names" => Some(Subject::RuleNames),
+        "document-seal" => Some(Subject::Document(Direction::Seal)),
+        "document-open" => Some(Subject::Document(Direction::Open)),
         _ => None,
     }
 }

@@ -14,11 +14,14 @@ mod aead;
 mod bson;
 mod cbc;
 mod checksum;
+mod documents;
 mod hmac;
 mod input;
 mod job;
+mod opening;
 mod payload;
 mod rules;
+mod sealing;
 
 use crate::job::{Direction, MOST_BYTES, Subject, subject_of};
 use fle_outside::StdinSource;
@@ -61,6 +64,13 @@ fn main(rt: HostRuntime) -> anyhow::Result<()> {
         Subject::RuleNames => {
             let bytes = bson::document(rt.alloc(), &mut StdinSource::new(rt.stdin()), size)?;
             rules::run(rt.alloc(), &bytes, turns)
+        }
+        Subject::Document(direction) => {
+            let bytes = bson::document(rt.alloc(), &mut StdinSource::new(rt.stdin()), size)?;
+            let Some(sum) = documents::run(rt.alloc(), direction, &bytes, turns) else {
+                anyhow::bail!("the input is not what is sealed or opened");
+            };
+            sum
         }
     };
     println!(rt; "{word} {size} {turns} {checksum:08x}")?;

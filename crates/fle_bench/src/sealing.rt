@@ -1,0 +1,172 @@
+//! A command sealed some times over, at marks that are made once.
+
+ghost use Rattle.std.specs.Prelude.{◌≡◌, ◌+◌, ◌<◌, ◌≤◌, ◌∷◌, [], drop, length, IfSome, IsTrue, MatchOption};
+ghost use Rattle.doc_rewrite.specs.Keys.{key_in};
+ghost use Rattle.doc_rewrite.specs.Plans.{AreMarksOf};
+ghost use Rattle.doc_rewrite.specs.Sealing.{HasKeys};
+ghost use Rattle.doc_rewrite.specs.Sites.{sites_of as sites_by};
+ghost use Rattle.encrypt_schema.specs.Commands.Visits.{roles};
+ghost use Rattle.fle_bench.specs.Checksum.{checksum};
+ghost use Rattle.fle_bench.specs.Documents.{sealed_bytes, sealed_command};
+
+use crate::checksum::checksum;
+use crate::documents::{SameBlock, keys};
+use bson_codec::{RawDoc, check_bson, first_doc};
+use command_marker::{Marked, Target, mark_command, target};
+use crypto_hooks::Tables;
+use doc_rewrite::{KeyTable, Site, plan_seal, seal_through, sites_of};
+use encrypt_schema::{Infos, Marks, Rows};
+use fle_outside::Failed;
+use std::alloc::Global;
+
+/// Seals the protected values of a command, some times over, and gives the checksum of what was written last. The bytes
+/// are those of collection infos, one, and of the command, on the database `hr`; `None` where they aren't, where the
+/// command is refused, where another key is asked for, or for want of memory.
+pub fn run_sealing(alloc: Global, bytes: &[u8], turns: u32) -> Option<u32>
+    requires { length bytes.now ≤ 67108864 }
+{
+    let Ok((info, rest)) = first_doc(bytes) else {
+        return None;
+    };
+    let Ok(command) = check_bson(rest) else {
+        return None;
+    };
+    let Ok(infos) = Infos::load(alloc, info.bytes()) else {
+        return None;
+    };
+    let Ok(Target::Collection(name)) = target(b"hr", &command) else {
+        return None;
+    };
+    let Some(info) = infos.info_of(name) else {
+        return None;
+    };
+    match mark_command(alloc, info.rows(), command) {
+        Ok(marked) => seal_marked(alloc, &marked, turns),
+        Err(_) => None,
+    }
+}
+
+/// The checksum of a marked command that was sealed some times over.
+fn seal_marked(alloc: Global, marked: &Marked<'_>, turns: u32) -> Option<u32>
+    ensures sum { IfSome result (λ sum. 0 < turns
+        → sum ≡ checksum (sealed_command marked.now.rows marked.now.command)) }
+{
+    let keys = keys(alloc)?;
+    if !are_keyed(alloc, marked, &keys) {
+        return None;
+    }
+    let mut out = room(alloc, marked)?;
+    if seal(
+        alloc,
+        &marked.command(),
+        marked.marks(),
+        marked.rows(),
+        &keys,
+        &mut out,
+        turns,
+    ) {
+        Some(checksum(&out))
+    } else {
+        None
+    }
+}
+
+/// The room for a marked command when it is sealed.
+fn room(alloc: Global, marked: &Marked<'_>) -> Option<Vec<u8>> {
+    match plan_seal(alloc, &marked.command(), marked.marks(), marked.rows()) {
+        Ok(plan) => match vec![in alloc; 0u8; plan.output_len()] {
+            Ok(out) => Some(out),
+            Err(_) => None,
+        },
+        Err(_) => None,
+    }
+}
+
+/// Whether the key of each protected value is there; false for want of memory, too.
+fn are_keyed(alloc: Global, marked: &Marked<'_>, keys: &KeyTable) -> bool
+    ensures keyed { IsTrue result → HasKeys (key_in keys.now)
+        (sites_by marked.now.rows (roles marked.now.rows marked.now.command.start marked.now.command.tree)) }
+{
+    match sites_of(alloc, marked.marks(), marked.rows()) {
+        Ok(sites) => sites_keyed(&sites, keys),
+        Err(_) => false,
+    }
+}
+
+/// The same of values that are to be sealed.
+fn sites_keyed(sites: &[Site], keys: &KeyTable) -> bool
+    ensures keyed { IsTrue result → HasKeys (key_in keys.now) sites.now }
+{
+    for i in 0..sites.len() {
+        match site_at(sites, i) {
+            Some(site) => if keys.find(&site.key_id).is_none() {
+                return false;
+            },
+            None => return false,
+        }
+    }
+    true
+}
+
+/// The value of this number, counted from 0.
+fn site_at(sites: &[Site], i: usize) -> Option<Site>
+    ensures first { MatchOption result (drop i sites.now ≡ []) (λ s. drop i sites.now ≡ s ∷ drop (i + 1) sites.now) }
+{
+    if i < sites.len() {
+        Some(sites[i])
+    } else {
+        None
+    }
+}
+
+/// Seals a document some times over, and says whether it did the last time.
+fn seal(
+    alloc: Global,
+    document: &RawDoc<'_>,
+    marks: &Marks,
+    rows: &Rows,
+    keys: &KeyTable,
+    out: &mut [u8],
+    turns: u32,
+) -> bool
+    requires stands { AreMarksOf rows.now marks.now document.now }
+    requires keyed { HasKeys (key_in keys.now) (sites_by rows.now marks.now) }
+    ensures sealed { 0 < turns → IsTrue result
+        → out.new ≡ sealed_bytes keys.now (sites_by rows.now marks.now) document.now }
+{
+    let mut done = true;
+    for _turn in 0..turns {
+        done = seal_once(alloc, document, marks, rows, keys, out);
+    }
+    done
+}
+
+/// Plans a document and seals it, where it fits; false where it doesn't, and for want of memory.
+#[tactic(auto, using(crate::proofs::SameBlocks::sealed_same))]
+fn seal_once(
+    alloc: Global,
+    document: &RawDoc<'_>,
+    marks: &Marks,
+    rows: &Rows,
+    keys: &KeyTable,
+    out: &mut [u8],
+) -> bool
+    requires stands { AreMarksOf rows.now marks.now document.now }
+    requires keyed { HasKeys (key_in keys.now) (sites_by rows.now marks.now) }
+    ensures sealed { IsTrue result → out.new ≡ sealed_bytes keys.now (sites_by rows.now marks.now) document.now }
+{
+    let Ok(plan) = plan_seal(alloc, document, marks, rows) else {
+        return false;
+    };
+    if plan.output_len() != out.len() {
+        return false;
+    }
+    let mut blocks = SameBlock {
+        left: marks.len(),
+        faults: 0,
+    };
+    match seal_through(&plan, document, keys, &Tables, &mut blocks, out) {
+        Ok(()) => true,
+        Err(Failed) => false,
+    }
+}
