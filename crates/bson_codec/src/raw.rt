@@ -101,6 +101,7 @@ pub fn name_length(bytes: &[u8], at: usize) -> Result<usize, BsonFault>
     }
 }
 
+/// The width of a value that always has so many bytes; Short at the end where they aren't there.
 #[tactic(auto, unfolding(crate::specs::Reading::bytes_at))]
 pub fn fixed_length(width: usize, bytes: &[u8], at: usize) -> Result<usize, BsonFault>
     requires { at + length bytes.now < 2 ^ 63 }
@@ -116,6 +117,7 @@ pub fn fixed_length(width: usize, bytes: &[u8], at: usize) -> Result<usize, Bson
     Ok(width)
 }
 
+/// The length of a bool: one byte, 00 or 01.
 #[tactic(auto, unfolding(crate::specs::Reading::bool_at))]
 pub fn bool_length(bytes: &[u8], at: usize) -> Result<usize, BsonFault>
     requires { at + length bytes.now < 2 ^ 63 }
@@ -132,6 +134,7 @@ pub fn bool_length(bytes: &[u8], at: usize) -> Result<usize, BsonFault>
     Ok(n)
 }
 
+/// The length of a string: its length in four bytes, the text, and 00.
 #[tactic(auto, unfolding(crate::specs::Reading::string_at))]
 pub fn string_length(bytes: &[u8], at: usize) -> Result<usize, BsonFault>
     requires { at + length bytes.now < 2 ^ 63 }
@@ -144,6 +147,7 @@ pub fn string_length(bytes: &[u8], at: usize) -> Result<usize, BsonFault>
     Ok(n + 4)
 }
 
+/// The length of a binary: its length in four bytes, the subtype, and the contents.
 #[tactic(auto, unfolding(crate::specs::Reading::binary_at))]
 pub fn binary_length(bytes: &[u8], at: usize) -> Result<usize, BsonFault>
     requires { at + length bytes.now < 2 ^ 63 }
@@ -155,6 +159,7 @@ pub fn binary_length(bytes: &[u8], at: usize) -> Result<usize, BsonFault>
     Ok(n + 5)
 }
 
+/// The length of a regular expression: two names, the pattern and the options.
 #[tactic(auto, unfolding(crate::specs::Reading::regex_at))]
 pub fn regex_length(bytes: &[u8], at: usize) -> Result<usize, BsonFault>
     requires { at + length bytes.now < 2 ^ 63 }
@@ -167,6 +172,7 @@ pub fn regex_length(bytes: &[u8], at: usize) -> Result<usize, BsonFault>
     Ok(n + 1 + (m + 1))
 }
 
+/// The length of a pointer: a string and 12 bytes of an id.
 #[tactic(auto, unfolding(crate::specs::Reading::pointer_at))]
 pub fn pointer_length(bytes: &[u8], at: usize) -> Result<usize, BsonFault>
     requires { at + length bytes.now < 2 ^ 63 }
