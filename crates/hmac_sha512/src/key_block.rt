@@ -18,7 +18,7 @@ const OPAD: u8 = 0x5C;
 
 /// The key as one block: hashed first if it is longer than a block, then filled with zeros.
 pub fn block_of_key(key: &[u8]) -> [u8; 128]
-    ensures { result ≡ key_block key.now }
+    ensures block { result ≡ key_block key.now }
 {
     if key.len() > BLOCK {
         let digest: [u8; 64] = Sha512::digest(key);
@@ -40,14 +40,14 @@ fn zero_filled(bytes: &[u8]) -> [u8; 128]
 
 /// SHA-512 begun on the key's block under the inner pad.
 pub fn inner_state(block: &[u8; 128]) -> Sha512
-    ensures { (k : List ℕ) → block.now ≡ key_block k → Holds512 result (padded_key 0x36 k) }
+    ensures state { (k : List ℕ) → block.now ≡ key_block k → Holds512 result (padded_key 0x36 k) }
 {
     begun(block, IPAD)
 }
 
 /// SHA-512 begun on the key's block under the outer pad.
 pub fn outer_state(block: &[u8; 128]) -> Sha512
-    ensures { (k : List ℕ) → block.now ≡ key_block k → Holds512 result (padded_key 0x5C k) }
+    ensures state { (k : List ℕ) → block.now ≡ key_block k → Holds512 result (padded_key 0x5C k) }
 {
     begun(block, OPAD)
 }

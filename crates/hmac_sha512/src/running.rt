@@ -45,7 +45,7 @@ impl Mac {
     /// The code of the message that was read.
     #[tactic(auto, unfolding(crate::specs::Hmac::hmac))]
     pub fn finish(self) -> [u8; 64]
-        ensures { (k m : List ℕ) → HasRead self k m → result ≡ hmac k m }
+        ensures code { (k m : List ℕ) → HasRead self k m → result ≡ hmac k m }
     {
         let Mac { inner, mut outer } = self;
         let digest: [u8; 64] = inner.finalize();

@@ -7,7 +7,7 @@ use crate::running::Mac;
 
 /// The code of one message under a key, HMAC-SHA-512 (RFC 2104). Both may have any length.
 pub fn mac(key: &[u8], message: &[u8]) -> [u8; 64]
-    ensures { result ≡ hmac key.now message.now }
+    ensures code { result ≡ hmac key.now message.now }
 {
     let mut running = Mac::new(key);
     running.update(message);
