@@ -13,7 +13,7 @@ const ROUNDS: usize = 14;
 
 /// Encrypts a block: Cipher of FIPS 197, 5.1.
 pub fn cipher(schedule: &Schedule, block: [u8; 16]) -> [u8; 16]
-    ensures { result ≡ cipher schedule.now block }
+    ensures sealed { result ≡ cipher schedule.now block }
 {
     let w = schedule.words();
     let mut state = add_round_key(block, round_key(w, 0));
@@ -26,7 +26,7 @@ pub fn cipher(schedule: &Schedule, block: [u8; 16]) -> [u8; 16]
 
 /// Decrypts a block: InvCipher of FIPS 197, 5.3.
 pub fn inv_cipher(schedule: &Schedule, block: [u8; 16]) -> [u8; 16]
-    ensures { result ≡ inv_cipher schedule.now block }
+    ensures opened { result ≡ inv_cipher schedule.now block }
 {
     let w = schedule.words();
     let mut state = add_round_key(block, round_key(w, ROUNDS));

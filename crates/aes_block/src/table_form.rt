@@ -10,14 +10,14 @@ use crate::sealing::sealed;
 
 /// Encrypts a block: Cipher of FIPS 197, 5.1.
 pub fn cipher_tables(schedule: &Schedule, block: [u8; 16]) -> [u8; 16]
-    ensures { result ≡ cipher schedule.now block }
+    ensures sealed { result ≡ cipher schedule.now block }
 {
     sealed(schedule.sealing(), block)
 }
 
 /// Decrypts a block: InvCipher of FIPS 197, 5.3.
 pub fn inv_cipher_tables(schedule: &Schedule, block: [u8; 16]) -> [u8; 16]
-    ensures { result ≡ inv_cipher schedule.now block }
+    ensures opened { result ≡ inv_cipher schedule.now block }
 {
     opened(schedule.opening(), block)
 }

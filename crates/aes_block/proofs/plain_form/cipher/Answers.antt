@@ -13,5 +13,7 @@ loop-r-preserved c = cc (rounds-next c.words-w.result.now c.args.block c.loop-r.
     (c.loop-r.r + 1 - 1) (omega arith) (omega arith) c.loop-r.invariant)
 
 pub returns : goal.returns
-returns c = cc (cipher-last c.words-w.result.now c.args.block c.loop-r.state (c.loop-r.r - 1)
-    (omega arith) c.loop-r.invariant)
+returns c = record {
+  sealed = cc (cipher-last c.words-w.result.now c.args.block c.loop-r.state (c.loop-r.r - 1)
+      (omega arith) c.loop-r.invariant);
+}

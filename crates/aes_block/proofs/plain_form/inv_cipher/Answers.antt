@@ -13,5 +13,7 @@ loop-r-preserved c = cc (inv_rounds-next c.words-w.result.now c.args.block c.loo
     (14 - c.loop-r.r) (c.loop-r.r + 1 - 1) (omega arith) (omega arith) c.loop-r.invariant)
 
 pub returns : goal.returns
-returns c = cc (inv_cipher-last c.words-w.result.now c.args.block c.loop-r.state (c.loop-r.r - 1)
-    (omega arith) c.loop-r.invariant)
+returns c = record {
+  opened = cc (inv_cipher-last c.words-w.result.now c.args.block c.loop-r.state (c.loop-r.r - 1)
+      (omega arith) c.loop-r.invariant);
+}
