@@ -11,7 +11,7 @@ use std::alloc::{AllocError, Global};
 
 /// Encrypts a block by one closure, and decrypts what came by another.
 pub fn there_and_back(schedule: &Schedule, block: [u8; 16]) -> [u8; 16]
-    ensures { result ≡ inv_cipher schedule.now (cipher schedule.now block) }
+    ensures back { result ≡ inv_cipher schedule.now (cipher schedule.now block) }
 {
     let seal = |s: &Schedule, b: [u8; 16]| -> [u8; 16]
         ensures { result ≡ cipher s.entry.now b }
@@ -30,7 +30,7 @@ pub fn there_and_back_boxed(
     schedule: &Schedule,
     block: [u8; 16],
 ) -> Result<[u8; 16], AllocError>
-    ensures { IfOk result (λ r. r ≡ inv_cipher schedule.now (cipher schedule.now block)) }
+    ensures back { IfOk result (λ r. r ≡ inv_cipher schedule.now (cipher schedule.now block)) }
 {
     let seal = |s: &Schedule, b: [u8; 16]| -> [u8; 16]
         ensures { result ≡ cipher s.entry.now b }
