@@ -9,7 +9,7 @@ pub const BLOCK: usize = 16;
 /// The block that begins at a place.
 pub fn block_at(bytes: &[u8], at: usize) -> [u8; 16]
     requires { at + 16 ≤ length bytes.now }
-    ensures { result ≡ take 16 (drop at bytes.now) }
+    ensures block { result ≡ take 16 (drop at bytes.now) }
 {
     let mut block = [0; BLOCK];
     block.copy_from_slice(&bytes[at..at + BLOCK]);
@@ -19,14 +19,14 @@ pub fn block_at(bytes: &[u8], at: usize) -> [u8; 16]
 /// Writes a block at a place.
 pub fn put(out: &mut [u8], at: usize, block: [u8; 16])
     requires { at + 16 ≤ length out.old }
-    ensures { out.new ≡ take at out.old ++ (block ++ drop (at + 16) out.old) }
+    ensures put { out.new ≡ take at out.old ++ (block ++ drop (at + 16) out.old) }
 {
     out[at..at + BLOCK].copy_from_slice(&block);
 }
 
 /// The exclusive or of two blocks, byte by byte.
 pub fn xored(a: [u8; 16], b: [u8; 16]) -> [u8; 16]
-    ensures { result ≡ xor_bytes a b }
+    ensures sum { result ≡ xor_bytes a b }
 {
     let mut out = [0; BLOCK];
     for i in 0..BLOCK {

@@ -24,7 +24,7 @@ pub fn padded_len(n: usize) -> usize
 pub fn padded_block(plain: &[u8], at: usize) -> [u8; 16]
     requires inside { at ≤ length plain.now }
     requires whole { at % 16 ≡ 0 }
-    ensures { result ≡ take 16 (drop at (pad plain.now)) }
+    ensures block { result ≡ take 16 (drop at (pad plain.now)) }
 {
     let rest = &plain[at..];
     if rest.len() < BLOCK {

@@ -19,7 +19,7 @@ pub fn cbc_seal_into<B: Block256>(
 )
     requires hooks { B.answers hooks.now }
     requires room { length out.old ≡ 16 * (length plain.now / 16 + 1) }
-    ensures { out.new ≡ cbc_sealed schedule.now iv (pad plain.now) }
+    ensures sealed { out.new ≡ cbc_sealed schedule.now iv (pad plain.now) }
 {
     let mut before = iv;
     for i in 0..out.len() / BLOCK {
