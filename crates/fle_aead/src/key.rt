@@ -53,7 +53,7 @@ impl Clone for DataKey {
 impl DataKey {
     /// The key of these bytes.
     pub fn new(bytes: [u8; 96]) -> DataKey
-        ensures { result ≡ bytes }
+        ensures bytes { result ≡ bytes }
     {
         DataKey {
             schedule: expand(&part_at(&bytes, 32)),
@@ -65,7 +65,7 @@ impl DataKey {
 
     /// The 96 bytes of the key.
     pub fn bytes(&self) -> &[u8; 96]
-        ensures { result.now ≡ self.now }
+        ensures bytes { result.now ≡ self.now }
     {
         &self.bytes
     }

@@ -25,7 +25,7 @@ pub fn sealed_len(n: usize) -> usize
 /// values under it become equal bytes.
 pub fn derive_iv(key: &DataKey, aad: &[u8], plain: &[u8]) -> [u8; 16]
     requires { length aad.now < 2 ^ 31 }
-    ensures { result ≡ derived_iv key.now aad.now plain.now }
+    ensures vector { result ≡ derived_iv key.now aad.now plain.now }
 {
     key.derived_iv(aad, plain)
 }
@@ -42,7 +42,7 @@ pub fn seal_into<B: Block256>(
     requires hooks { B.answers hooks.now }
     requires aad { length aad.now < 2 ^ 31 }
     requires room { length out.old ≡ 48 + 16 * (length plain.now / 16 + 1) }
-    ensures { IsSealed key.now aad.now iv plain.now out.new }
+    ensures sealed { IsSealed key.now aad.now iv plain.now out.new }
 {
     let (body, tag) = out.split_at_mut(out.len() - TAG);
     seal_body(hooks, key, iv, plain, body);

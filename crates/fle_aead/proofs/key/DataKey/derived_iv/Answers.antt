@@ -9,4 +9,4 @@ unfolding derived_iv
 returns c = ∥∥₁_elim c.self.invariant.2 (hlevel props) (λ has.
     let read = c.update-3.ensures.read _ _ (c.update-2.ensures.read _ _ (c.update.ensures.read _ _
     (c.begin-vector.ensures.begins _ has))) in
-    c.first_16.ensures ∙ ap (take 16) (rw (c.bit_length.ensures, c.self.view_is) at (c.finish.ensures _ _ read)))
+    c.first_16.ensures ∙ ap (take 16) (rw (c.bit_length.ensures, c.self.view_is) at (c.finish.ensures.code _ _ read)))
