@@ -21,7 +21,7 @@ pub fn payload_len(n: usize) -> usize
 /// The initialization vector of a deterministic payload: the one that the key, its id, the original
 /// type and the value's bytes determine.
 pub fn det_iv(key: &DataKey, key_id: [u8; 16], tag: u8, plain: &[u8]) -> [u8; 16]
-    ensures { result ≡ derived_iv key.now (head 1 key_id tag) plain.now }
+    ensures vector { result ≡ derived_iv key.now (head 1 key_id tag) plain.now }
 {
     derive_iv(key, &head_of(DETERMINISTIC, key_id, tag), plain)
 }
