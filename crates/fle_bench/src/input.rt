@@ -21,7 +21,7 @@ pub fn message(alloc: Global, size: usize) -> Result<Vec<u8>, AllocError>
 /// The last block of a turn's answer.
 pub fn last_block(bytes: &[u8]) -> [u8; 16]
     requires { 16 ≤ length bytes.now }
-    ensures { result ≡ last 16 bytes.now }
+    ensures last { result ≡ last 16 bytes.now }
 {
     let mut block = [0; 16];
     block.copy_from_slice(&bytes[bytes.len() - 16..]);
@@ -31,7 +31,7 @@ pub fn last_block(bytes: &[u8]) -> [u8; 16]
 /// The last 18 bytes of a turn's answer, as many as a value's associated data.
 pub fn last_18(bytes: &[u8]) -> [u8; 18]
     requires { 18 ≤ length bytes.now }
-    ensures { result ≡ last 18 bytes.now }
+    ensures last { result ≡ last 18 bytes.now }
 {
     let mut end = [0; 18];
     end.copy_from_slice(&bytes[bytes.len() - 18..]);

@@ -9,7 +9,7 @@ loop-turn-init c = record { fed = first-fed _ c.args.first 18 (search rules); ou
 
 pub loop-turn-preserved : goal.loop-turn-preserved
 loop-turn-preserved c =
-    let sealed = rw (c.loop-turn.invariant.fed, c.new.ensures) at c.seal_once.ensures in
+    let sealed = rw (c.loop-turn.invariant.fed, c.new.ensures.bytes) at c.seal_once.ensures in
     let out = repeated-next (λ (b : List ℕ). sealed_value c.args.bytes (last 18 b) c.args.plain.now) c.args.first _
     c.loop-turn._turn sealed.form in
-    record { fed = c.last_18-aad.ensures ∙ ap (last 18) out; out = λ _. out }
+    record { fed = c.last_18-aad.ensures.last ∙ ap (last 18) out; out = λ _. out }

@@ -15,8 +15,8 @@ pub loop-turn-preserved : goal.loop-turn-preserved
 loop-turn-preserved g c =
     let out = repeated-next (λ (b : List ℕ). cbc_sealed c.args.schedule.now (last 16 b) (pad c.args.plain.now))
     c.args.first _ c.loop-turn._turn
-    (rw c.loop-turn.invariant.fed at c.cbc_seal_into.ensures) in
+    (rw c.loop-turn.invariant.fed at c.cbc_seal_into.ensures.sealed) in
     record {
-      fed = c.last_block-iv.ensures ∙ ap (last 16) out;
+      fed = c.last_block-iv.ensures.last ∙ ap (last 16) out;
       out = λ _. out;
     }

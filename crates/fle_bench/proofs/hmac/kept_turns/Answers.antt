@@ -12,4 +12,4 @@ loop-turn-preserved c =
     let code = repeated-next (λ (b : List ℕ). hmac c.args.key.now (last 16 b ++ drop 16 c.args.text.now)) c.args.first _
     c.loop-turn._turn
     (rw c.loop-turn.invariant.fed at c.code_once-code.ensures _ c.new-keyed.ensures.keyed) in
-    record { fed = c.last_block-block.ensures ∙ ap (last 16) code; code = λ _. code }
+    record { fed = c.last_block-block.ensures.last ∙ ap (last 16) code; code = λ _. code }

@@ -12,8 +12,8 @@ loop-turn-init c = record { fed = first-fed _ KEY_ID 16 (search rules); out = se
 
 pub loop-turn-preserved : goal.loop-turn-preserved
 loop-turn-preserved c =
-    let sealed = rw (c.loop-turn.invariant.fed, c.new-key.ensures) at c.seal_once.ensures in
+    let sealed = rw (c.loop-turn.invariant.fed, c.new-key.ensures.bytes) at c.seal_once.ensures in
     let out = repeated-next (λ (b : List ℕ). payload_of c.args.algorithm DATA_KEY (last 16 b) 5 VECTOR c.args.plain.now)
     KEY_ID _ c.loop-turn._turn
     (payload-is _ _ _ _ _ _ _ sealed) in
-    record { fed = c.last_block-id.ensures ∙ ap (last 16) out; out = λ _. out }
+    record { fed = c.last_block-id.ensures.last ∙ ap (last 16) out; out = λ _. out }
