@@ -49,7 +49,7 @@ AimsAt db c (Err (faults.Refused reason at)) =
     target_verdict db c.start c.tree ≡ Some (record { reason = reason; at = at })
 AimsAt db c (Err faults.Memory) = ⊥
 
--- the marks of a command, where its contents are not refused; else this is the verdict; want of memory may come
+-- the marks of a command, where its contents are not refused; else this is the verdict; memory may run out
 -- at any time
 abbrev pub TellsMarks : List Row → At → Result (List Mark) MarkFault → Type 0
 TellsMarks rows c (Ok marks) = (marks ≡ roles rows c.start c.tree) × (content_verdict rows c.start c.tree ≡ None)
@@ -62,7 +62,7 @@ pub record Command : Type 0 where
   pub rows : List Row
   pub command : At
 
--- the command is marked, where its contents are not refused; else this is the verdict; want of memory may come
+-- the command is marked, where its contents are not refused; else this is the verdict; memory may run out
 -- at any time
 abbrev pub MarksAs : List Row → At → Result Command MarkFault → Type 0
 MarksAs rows c (Ok marked) =

@@ -46,7 +46,7 @@ reply_clear_to c = reply false false c
 abbrev pub reply_limit : ℕ
 reply_limit = 48000000
 
--- these are the bytes of the reply, or it has too many; want of memory may come at any time
+-- these are the bytes of the reply, or it has too many; memory may run out at any time
 abbrev pub RepliesAs : List ℕ → Result (Vec ℕ Global) ReplyFault → Type 0
 RepliesAs bytes (Ok reply) = (reply.items ≡ bytes) × (length bytes ≤ reply_limit)
 RepliesAs bytes (Err faults.TooLong) = reply_limit < length bytes

@@ -68,7 +68,7 @@ key_in is = do
   provider ← or_fault faults.Provider (provider_in (standing (codes "masterKey") is))
   Ok (record { id = id; names = names; material = material; provider = provider })
 
--- what reading a key answers is what the document says; want of memory may come at any time
+-- what reading a key answers is what the document says; memory may run out at any time
 abbrev pub Reads : Result KeyDoc KeyFault → Result KeyDoc KeyFault → Type 0
 Reads (Ok key) read = read ≡ Ok key
 Reads (Err faults.Memory) read = Unit {0}

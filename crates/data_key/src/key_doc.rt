@@ -25,7 +25,7 @@ pub struct KeyDoc {
     pub provider: Provider,
 }
 
-/// The first field of a key document that is faulty, in the order in which they are judged; or want of memory.
+/// The first field of a key document that is faulty, in the order in which they are judged; or memory ran out.
 #[derive(Clone, Copy, Debug, PartialEq, Eq)]
 pub enum KeyFault {
     /// `_id` isn't one binary of subtype 04 with 16 bytes.

@@ -33,7 +33,7 @@ abbrev pub world : SourceSeen → FolderSeen → SinkSeen → SinkSeen → Entro
 world input files out diag entropy = record { input = input; files = files; out = out; diag = diag; entropy = entropy }
 
 -- how a task ends: one that fails ends so, and no end is of words or files where each document is judged; a folder's
--- failure and want of memory may come first
+-- failure may come first, and memory may run out
 abbrev pub EndsAs : Task → Why → Type 0
 EndsAs t (whys.Cut cuts.Folder) = Unit {0}
 EndsAs t (whys.Cut cuts.Memory) = Unit {0}
@@ -102,7 +102,7 @@ IsSettled statuses.EntropyFault = ⊥
 IsSettled statuses.Memory = ⊥
 IsSettled statuses.Limit = Unit {0}
 
--- where the status is no fault and no want of memory, every output was written whole
+-- where the status is no fault and memory sufficed, every output was written whole
 abbrev pub WritesAll : (Files → Task) → World → World → Status → Type 0
 WritesAll task before after status =
     (all : Files) (told : List ℕ) → before.files.told ≡ Some all → before.input.told ≡ Some told

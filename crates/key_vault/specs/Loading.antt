@@ -31,7 +31,7 @@ abbrev pub are_new : (List ℕ → Bool) → List (List ℕ) → List (List ℕ)
 are_new known before [] = true
 are_new known before (name ∷ names) = not (is_among name before || known name) && are_new known (name ∷ before) names
 
--- a faulty field of a key document (want of memory is no fault of it)
+-- a faulty field of a key document (that memory ran out is no fault of it)
 abbrev pub kind_of : KeyFault → VaultKind
 kind_of key_faults.Id = kinds.Id
 kind_of key_faults.AltNames = kinds.AltNames
@@ -50,7 +50,7 @@ judged before (Ok key) =
 unfoldable pub key_behind : List KeyDoc → Items → Result KeyDoc VaultKind
 key_behind before is = if nat_lt (length before) key_limit then judged before (key_in is) else Err kinds.TooMany
 
--- what reading a key answers is what the document states; want of memory may come at any time
+-- what reading a key answers is what the document states; memory may run out at any time
 abbrev pub Reads : Result KeyDoc VaultFault → ℕ → Result KeyDoc VaultKind → Type 0
 Reads (Ok key) number read = read ≡ Ok key
 Reads (Err (faults.Bad document kind)) number read = (document ≡ number) × (read ≡ Err kind)
@@ -95,7 +95,7 @@ keys_from (suc n) before (byte ∷ bytes) = and_others (keys_from n) before (fro
 unfoldable pub vault : List ℕ → Result (List KeyDoc) Faulty
 vault bytes = keys_from (length bytes) [] bytes
 
--- what loading answers is what is read; want of memory may come at any time
+-- what loading answers is what is read; memory may run out at any time
 abbrev pub Loads : Result (List KeyDoc) VaultFault → Result (List KeyDoc) Faulty → Type 0
 Loads (Ok keys) read = read ≡ Ok keys
 Loads (Err (faults.Bad document kind)) read = read ≡ Err (record { document = document; kind = kind })

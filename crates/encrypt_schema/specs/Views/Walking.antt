@@ -39,7 +39,7 @@ abbrev pub element_visits : List Row → Station → List (List ℕ) → Elem �
 element_visits rows parent elder e =
     element_visit parent elder e ∷ visits_in rows (station rows parent (entry e.name e.tree)) e.start e.tree
 
--- the own marks stand behind those before and nothing is refused; or this is refused; want of memory may come
+-- the own marks stand behind those before and nothing is refused; or this is refused; memory may run out
 -- at any time
 abbrev pub Told : List Mark → Option Refusal → List Mark → List Mark → Result (Unit {0}) MarkFault → Type 0
 Told own refused before after (Ok _) = (after ≡ before ++ own) × (refused ≡ None)

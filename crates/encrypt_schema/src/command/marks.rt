@@ -72,7 +72,7 @@ impl Marks {
         }
     }
 
-    /// Adds a mark behind the others. `Memory`, with the marks as before, for want of memory alone.
+    /// Adds a mark behind the others. `Memory`, with the marks as before, only where memory runs out.
     pub fn add(&mut self, mark: Mark) -> Result<(), Memory>
         ensures added { MatchResult result (λ _. self.new ≡ self.old ++ mark ∷ []) (λ _. self.new ≡ self.old) }
     {
