@@ -1,4 +1,19 @@
 //! A marking service: which values of a command are protected, and the command with their markings.
+//!
+//! [`target`] answers where a command goes: to a collection, whose rules the caller looks up, or past it, as `ping`
+//! does; and refuses one for its fields. [`mark_command`] lists the protected values under those rules, or refuses the
+//! command for its contents: with the first place that is refused, and the least reason there. [`reply`] writes the
+//! command with a marking in place of each (MongoDB Client Side Encryption, BSON binary subtype 6), and
+//! [`reply_clear`] writes one that passes as it is.
+//!
+//! ```text
+//! let bytes = match target(b"hr", &command)? {
+//!     Target::Pass => reply_clear(alloc, &command)?,
+//!     Target::Collection(name) => reply(alloc, &mark_command(alloc, rows_of(name), command)?)?,
+//! };
+//! ```
+//!
+//! It reads no schema and seals nothing, and whether the collection is a view is the caller's to ask.
 #![tactic(auto)]
 
 mod commands;
