@@ -82,11 +82,7 @@ impl DataKey {
         requires { length aad.now < 2 ^ 31 }
         ensures { result ≡ tag self.now aad.now body.now }
     {
-        let mut code = self.mac.begin();
-        code.update(aad);
-        code.update(body);
-        code.update(&bit_length(aad));
-        first_32(&code.finish())
+        first_32(&self.mac.code(aad, body, &bit_length(aad)))
     }
 
     /// The initialization vector of associated data and a message.
@@ -94,11 +90,7 @@ impl DataKey {
         requires { length aad.now < 2 ^ 31 }
         ensures { result ≡ derived_iv self.now aad.now plain.now }
     {
-        let mut vector = self.iv.begin();
-        vector.update(aad);
-        vector.update(&bit_length(aad));
-        vector.update(plain);
-        first_16(&vector.finish())
+        first_16(&self.iv.code(aad, &bit_length(aad), plain))
     }
 }
 

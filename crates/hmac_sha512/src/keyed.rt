@@ -1,11 +1,12 @@
 //! A key that serves many messages.
 
-ghost use Rattle.std.specs.Prelude.{◌≡◌, List, [], ℕ};
+ghost use Rattle.std.specs.Prelude.{◌≡◌, ◌++◌, List, [], ℕ};
+ghost use Rattle.hmac_sha512.specs.Hmac.{hmac};
 ghost use Rattle.hmac_sha512.specs.States.{HasKey, HasRead};
 
 use crate::key_block::{block_of_key, inner_state, outer_state};
 use crate::running::Mac;
-use sha2::Sha512;
+use sha2::{Digest, Sha512};
 
 /// A key whose two pads the hash function has read, so that each message costs two of its blocks
 /// less.
@@ -32,6 +33,21 @@ impl KeyedMac {
         ensures begins { (k : List ℕ) → HasKey self.now k → HasRead result k [] }
     {
         Mac::resumed(copy_of(&self.inner), copy_of(&self.outer))
+    }
+
+    /// The code of a message that lies in three parts, under the key: [`KeyedMac::begin`] with fewer copies of states.
+    #[tactic(auto, unfolding(crate::specs::Hmac::hmac))]
+    pub fn code(&self, first: &[u8], second: &[u8], third: &[u8]) -> [u8; 64]
+        ensures code { (k : List ℕ) → HasKey self.now k → result ≡ hmac k ((first.now ++ second.now) ++ third.now) }
+    {
+        let mut inner = copy_of(&self.inner);
+        inner.update(first);
+        inner.update(second);
+        inner.update(third);
+        let digest: [u8; 64] = inner.finalize();
+        let mut outer = copy_of(&self.outer);
+        outer.update(digest);
+        outer.finalize()
     }
 }
 

@@ -44,6 +44,8 @@ fn a_kept_key_serves_a_second_message(rt: HostRuntime) {
             running.update(case.data);
             assert!(rt; running.finish().starts_with(case.code));
         }
+        let (front, back) = case.data.split_at(3);
+        assert!(rt; keyed.code(front, b"", back).starts_with(case.code));
     }
 }
 

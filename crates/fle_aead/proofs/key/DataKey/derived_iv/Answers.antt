@@ -6,7 +6,5 @@ use Rattle.fle_aead.proofs.key.DataKey.derived_iv.Goals as goal
 
 pub returns : goal.returns
 unfolding derived_iv
-returns c = ∥∥₁_elim c.self.invariant.2 (hlevel props) (λ has.
-    let read = c.update-3.ensures.read _ _ (c.update-2.ensures.read _ _ (c.update.ensures.read _ _
-    (c.begin-vector.ensures.begins _ has))) in
-    c.first_16.ensures ∙ ap (take 16) (rw (c.bit_length.ensures, c.self.view_is) at (c.finish.ensures.code _ _ read)))
+returns c = ∥∥₁_elim c.self.invariant.2 (hlevel props) (λ has. c.first_16.ensures
+  ∙ ap (take 16) (rw (c.bit_length.ensures, c.self.view_is) at (c.code.ensures.code _ has)))

@@ -6,7 +6,5 @@ use Rattle.fle_aead.proofs.key.DataKey.tag.Goals as goal
 
 pub returns : goal.returns
 unfolding tag
-returns c = ∥∥₁_elim c.self.invariant.1 (hlevel props) (λ has.
-    let read = c.update-3.ensures.read _ _ (c.update-2.ensures.read _ _ (c.update.ensures.read _ _
-    (c.begin-code.ensures.begins _ has))) in
-    c.first_32.ensures ∙ ap (take 32) (rw (c.bit_length.ensures, c.self.view_is) at (c.finish.ensures.code _ _ read)))
+returns c = ∥∥₁_elim c.self.invariant.1 (hlevel props) (λ has. c.first_32.ensures
+  ∙ ap (take 32) (rw (c.bit_length.ensures, c.self.view_is) at (c.code.ensures.code _ has)))
