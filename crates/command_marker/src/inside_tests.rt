@@ -1,11 +1,10 @@
 //! Commands that stand inside another document: offsets are those of the bytes that were checked.
 
-use crate::command_tests::{
-    AGGREGATE, NESTED, NO_DOCUMENTS, NULL, OTHER_DB, Outcome, PEOPLE, STAFF, outcome_of, stored,
-};
-use crate::tests::{NESTED_REPLY, reply_of};
+use crate::command_tests::{AGGREGATE, Outcome, PEOPLE, outcome_of, stored};
+use crate::tests::reply_of;
 use bson_codec::{RawDoc, check_bson};
 use encrypt_schema::{Reason, Rows};
+use sample_documents::{NESTED, NESTED_REPLY, NO_DOCUMENTS, NULL, OTHER_DB, STAFF};
 use std::alloc::Global;
 use std::test::Fail;
 

@@ -2,9 +2,9 @@
 //! file, each write. What was written is whole outputs, or the front of them where the output failed.
 
 use crate::runs::{Run, expect, joined, look, marking, sealing};
-use crate::update_tests::{SEALED_SET, SEALED_SET_INSIDE, SET, SET_INSIDE};
-use crate::verdict_tests::NULL;
+use crate::update_tests::{SEALED_SET, SEALED_SET_INSIDE, SET_INSIDE};
 use fle_stream::Status;
+use sample_documents::{NULL, SET};
 use std::test::Fail;
 
 #[test]

@@ -3,11 +3,10 @@
 ghost use Rattle.std.specs.Prelude.{⊤};
 
 use crate::runs::{expect, joined, look_with, opening, sealing};
-use crate::seal_tests::SEALED_INSERT;
-use crate::tests::INSERT;
 use aes_block::{Schedule, cipher, inv_cipher};
 use crypto_hooks::Block256;
 use fle_stream::Status;
+use sample_documents::{INSERT, SEALED_INSERT};
 use std::cell::Cell;
 use std::process::Abort;
 use std::test::Fail;

@@ -2,9 +2,8 @@
 //! differ in what is protected alone.
 
 use crate::runs::{document, expect, joined, look, opening, sealing};
-use crate::seal_tests::SEALED_INSERT;
-use crate::tests::INSERT;
 use fle_stream::Status;
+use sample_documents::{INSERT, SEALED_INSERT};
 use std::alloc::Global;
 use std::test::Fail;
 

@@ -1,9 +1,8 @@
 //! Whole runs under collection infos in JSON.
 
 use crate::runs::{Run, expect, look, marking, sealing, seals};
-use crate::seal_tests::SEALED_INSERT;
-use crate::tests::{INSERT, REPLY};
 use fle_stream::Status;
+use sample_documents::{INSERT, REPLY, SEALED_INSERT};
 use std::test::Fail;
 
 /// `ssn` of `people` is deterministic and a string.

@@ -2,9 +2,9 @@
 //! refuses a payload.
 
 use crate::runs::{Run, expect, look, opening};
-use crate::seal_tests::{SEALED_INSERT, SEALED_RANDOM};
-use crate::tests::REPLY;
+use crate::seal_tests::SEALED_RANDOM;
 use fle_stream::Status;
+use sample_documents::{REPLY, SEALED_INSERT};
 use std::test::Fail;
 
 /// `{insert: "notes", documents: [{s: a payload}], $db: "hr"}`; the payload is deterministic, of the text `x`, and

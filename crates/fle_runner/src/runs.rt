@@ -3,11 +3,11 @@
 use crate::keys_tests::VAULT;
 use crate::program::fle;
 use crate::schema_tests::{NOTES, STAFF, VIEW};
-use crate::tests::PEOPLE;
 use crate::update_tests::PAIR;
 use crypto_hooks::{Block256, Tables};
 use fle_outside::{MemEntropy, MemFolder, MemSink, MemSource};
 use fle_stream::Status;
+use sample_documents::PEOPLE;
 use std::alloc::Global;
 use std::process::Abort;
 use std::test::Fail;

@@ -2,9 +2,8 @@
 
 use crate::keys_tests::VAULT;
 use crate::runs::{Run, expect, joined, look, marking, sealing, seals};
-use crate::seal_tests::SEALED_INSERT;
-use crate::tests::{INSERT, PEOPLE};
 use fle_stream::Status;
+use sample_documents::{INSERT, PEOPLE, SEALED_INSERT};
 use std::test::Fail;
 
 /// The info of `staff`: `a.b` deterministic and an int, its key and algorithm stated by `encryptMetadata` of `a`.

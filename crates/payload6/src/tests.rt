@@ -8,6 +8,7 @@ use crypto_hooks::Tables;
 use encrypt_schema::Infos;
 use fle_aead::DataKey;
 use fle_vectors::DATA_KEY;
+use sample_documents::INSERT;
 use std::test::Fail;
 
 /// The id of the data key, the UUID 00112233-4455-4677-8899-aabbccddeeff.
@@ -138,12 +139,6 @@ const PEOPLE: &[u8] =
      \x00\x04\x00\x11\x223DUFw\x88\x99\xaa\xbb\xcc\xdd\xee\xff\x00\x02algorithm\x00,\x00\x00\x00AEAD\
      _AES_256_CBC_HMAC_SHA_512-Deterministic\x00\x02bsonType\x00\x07\x00\x00\x00string\x00\x00\x00\
      \x00\x00\x00\x00\x00";
-
-/// `{insert: "people", documents: [{ssn: "123-45-6789", n: int 1}], $db: "hr"}`.
-const INSERT: &[u8] =
-    b"X\x00\x00\x00\x02insert\x00\x07\x00\x00\x00people\x00\x04documents\x00)\x00\x00\x00\x030\x00!\
-     \x00\x00\x00\x02ssn\x00\x0c\x00\x00\x00123-45-6789\x00\x10n\x00\x01\x00\x00\x00\x00\x00\x02$db\
-     \x00\x03\x00\x00\x00hr\x00\x00";
 
 /// The marking of `ssn`, 57 bytes.
 const MARKING: &[u8] =

@@ -3,17 +3,9 @@
 use crate::{mark_document, mark_update};
 use bson_codec::{RawDoc, check_bson};
 use encrypt_schema::{Class, Mark, MarkFault, Marks, Reason, Role, Rows};
+use sample_documents::STAFF;
 use std::alloc::Global;
 use std::test::Fail;
-
-/// A schema: `a.b` deterministic and an int.
-const NESTED: &[u8] = b"\xe1\x00\x00\x00\x03properties\x00\xd0\x00\x00\x00\x03a\x00\xc8\x00\x00\x00\
-\x02bsonType\x00\x07\x00\x00\x00object\x00\x03encryptMetadata\x00d\x00\x00\x00\
-\x04keyId\x00\x1d\x00\x00\x00\x050\x00\x10\x00\x00\x00\x04\
-\x00\x11\x223DUFw\x88\x99\xaa\xbb\xcc\xdd\xee\xff\x00\
-\x02algorithm\x00,\x00\x00\x00AEAD_AES_256_CBC_HMAC_SHA_512-Deterministic\x00\x00\
-\x03properties\x00-\x00\x00\x00\x03b\x00%\x00\x00\x00\x03encrypt\x00\x17\x00\x00\x00\
-\x02bsonType\x00\x04\x00\x00\x00int\x00\x00\x00\x00\x00\x00\x00";
 
 /// A schema: `x` and `y` deterministic strings under one key, `z` random under that key.
 const PAIR: &[u8] = b"\x98\x01\x00\x00\x03properties\x00\x87\x01\x00\x00\
@@ -137,7 +129,7 @@ fn int_at(start: u32, end: u32) -> Mark {
 
 #[test]
 fn a_nested_value_is_marked(rt: HostRuntime) -> Result<(), Fail> {
-    let rows = read_rows(rt.alloc(), NESTED)?;
+    let rows = read_rows(rt.alloc(), STAFF)?;
     let mut marks = Marks::new(rt.alloc());
     match mark_whole(&mut marks, &rows, &check_bson(DOCUMENT)?)? {
         Ok(()) => {}
@@ -150,7 +142,7 @@ fn a_nested_value_is_marked(rt: HostRuntime) -> Result<(), Fail> {
 
 #[test]
 fn an_array_on_the_way_is_refused_where_it_stands(rt: HostRuntime) -> Result<(), Fail> {
-    let rows = read_rows(rt.alloc(), NESTED)?;
+    let rows = read_rows(rt.alloc(), STAFF)?;
     let mut marks = Marks::new(rt.alloc());
     match mark_whole(&mut marks, &rows, &check_bson(ARRAY)?)? {
         Err(MarkFault::Refused { reason, at }) => {
@@ -168,7 +160,7 @@ fn stored_values_of_updates_are_marked(rt: HostRuntime) -> Result<(), Fail> {
     let cases: [(&[u8], u32, u32); 3] = [(SET, 19, 23), (SET_DOCUMENT, 24, 28), (DOCUMENT, 14, 18)];
     for (update, start, end) in cases {
         assert_eq!(rt;
-            see(rt.alloc(), NESTED, update)?,
+            see(rt.alloc(), STAFF, update)?,
             Seen::Marked(1, Some(int_at(start, end)))
         );
     }
@@ -177,7 +169,7 @@ fn stored_values_of_updates_are_marked(rt: HostRuntime) -> Result<(), Fail> {
 
 #[test]
 fn updates_without_stored_values_pass(rt: HostRuntime) -> Result<(), Fail> {
-    assert_eq!(rt; see(rt.alloc(), NESTED, UNSET)?, Seen::Marked(0, None));
+    assert_eq!(rt; see(rt.alloc(), STAFF, UNSET)?, Seen::Marked(0, None));
     assert_eq!(rt; see(rt.alloc(), PAIR, RENAME_ALIKE)?, Seen::Marked(0, None));
     Ok(())
 }
@@ -193,7 +185,7 @@ fn updates_are_refused_where_they_first_offend(rt: HostRuntime) -> Result<(), Fa
         (INC, Reason::OperatorOnProtected, 19),
     ];
     for (update, reason, at) in cases {
-        assert_eq!(rt; see(rt.alloc(), NESTED, update)?, Seen::Refused(reason, at));
+        assert_eq!(rt; see(rt.alloc(), STAFF, update)?, Seen::Refused(reason, at));
     }
     assert_eq!(rt;
         see(rt.alloc(), PAIR, RENAME_OTHERWISE)?,

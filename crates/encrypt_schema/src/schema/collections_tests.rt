@@ -2,22 +2,9 @@
 
 use crate::schema::test_documents::{NO_PROPERTIES, NONE, joined, put_document, within};
 use crate::{Algorithm, Class, InfoFault, InfoKind, Infos, KeyRef, Policy, SchemaFault};
+use sample_documents::PEOPLE;
 use std::alloc::Global;
 use std::test::Fail;
-
-/// `{name: "people", type: "collection", options: {validator: {$jsonSchema: {bsonType: "object",
-/// properties: {ssn: {encrypt: {keyId: [K], algorithm: DET, bsonType: "string"}}, salary: {encrypt:
-/// {keyId: [K], algorithm: RAND}}}}}}}`, K being the UUID 00112233-4455-4677-8899-aabbccddeeff.
-const PEOPLE: &[u8] =
-    b"\x80\x01\x00\x00\x02name\x00\x07\x00\x00\x00people\x00\x02type\x00\x0b\x00\x00\x00collection\
-     \x00\x03options\x00L\x01\x00\x00\x03validator\x00<\x01\x00\x00\x03$jsonSchema\x00*\x01\x00\x00\
-     \x02bsonType\x00\x07\x00\x00\x00object\x00\x03properties\x00\x04\x01\x00\x00\x03ssn\x00\x87\x00\
-     \x00\x00\x03encrypt\x00y\x00\x00\x00\x04keyId\x00\x1d\x00\x00\x00\x050\x00\x10\x00\x00\x00\x04\
-     \x00\x11\x223DUFw\x88\x99\xaa\xbb\xcc\xdd\xee\xff\x00\x02algorithm\x00,\x00\x00\x00AEAD_AES_256\
-     _CBC_HMAC_SHA_512-Deterministic\x00\x02bsonType\x00\x07\x00\x00\x00string\x00\x00\x00\x03salary\
-     \x00k\x00\x00\x00\x03encrypt\x00]\x00\x00\x00\x04keyId\x00\x1d\x00\x00\x00\x050\x00\x10\x00\x00\
-     \x00\x04\x00\x11\x223DUFw\x88\x99\xaa\xbb\xcc\xdd\xee\xff\x00\x02algorithm\x00%\x00\x00\x00AEAD\
-     _AES_256_CBC_HMAC_SHA_512-Random\x00\x00\x00\x00\x00\x00\x00\x00";
 
 /// The key's id.
 const KEY: [u8; 16] = [

@@ -1,0 +1,24 @@
+//! Documents that the tests of several crates run over, as named constants: commands, their replies, what they are
+//! sealed to, infos and a vault (BSON, bsonspec.org).
+//!
+//! No byte of them comes from the code under test: each file of constants names the program that wrote its own.
+//!
+//! ```text
+//! let command = sample_documents::INSERT;
+//! ```
+#![tactic(auto)]
+
+mod commands;
+mod infos;
+mod replies;
+mod sealed;
+mod vaults;
+
+pub use commands::{
+    ARRAY, BOTH, INSERT, INTO_UNKNOWN, INTO_VIEW, NESTED, NO_DOCUMENTS, NOTES, NULL, NUMBER,
+    OTHER_DB, PING, SET,
+};
+pub use infos::{PEOPLE, STAFF};
+pub use replies::{NESTED_REPLY, NOTES_REPLY, REPLY};
+pub use sealed::{SEALED_BOTH, SEALED_INSERT};
+pub use vaults::TWO_KEYS;
