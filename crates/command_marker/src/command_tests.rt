@@ -3,20 +3,11 @@
 use crate::{Target, mark_command, target};
 use bson_codec::{RawDoc, check_bson};
 use encrypt_schema::{Mark, MarkFault, Reason, Role, Rows};
-use sample_documents::{ARRAY, NESTED, NO_DOCUMENTS, NULL, NUMBER, OTHER_DB, PING, SET, STAFF};
+use sample_documents::{
+    ARRAY, NESTED, NO_DOCUMENTS, NULL, NUMBER, OTHER_DB, PEOPLE_SCHEMA, PING, SET, STAFF,
+};
 use std::alloc::Global;
 use std::test::Fail;
-
-/// The schema of `people`: `ssn` deterministic and a string, `salary` random.
-pub(crate) const PEOPLE: &[u8] =
-    b"*\x01\x00\x00\x02bsonType\x00\x07\x00\x00\x00object\x00\x03properties\x00\x04\x01\
-\x00\x00\x03ssn\x00\x87\x00\x00\x00\x03encrypt\x00y\x00\x00\x00\x04keyId\x00\x1d\x00\
-\x00\x00\x050\x00\x10\x00\x00\x00\x04\x00\x11\x223DUFw\x88\x99\xaa\xbb\xcc\xdd\xee\
-\xff\x00\x02algorithm\x00,\x00\x00\x00AEAD_AES_256_CBC_HMAC_SHA_512-Deterministic\
-\x00\x02bsonType\x00\x07\x00\x00\x00string\x00\x00\x00\x03salary\x00k\x00\x00\x00\
-\x03encrypt\x00]\x00\x00\x00\x04keyId\x00\x1d\x00\x00\x00\x050\x00\x10\x00\x00\x00\
-\x04\x00\x11\x223DUFw\x88\x99\xaa\xbb\xcc\xdd\xee\xff\x00\x02algorithm\x00%\x00\x00\
-\x00AEAD_AES_256_CBC_HMAC_SHA_512-Random\x00\x00\x00\x00\x00";
 
 /// `{insert: "people", documents: [{ssn: "x", n: 1, salary: 7}], $db: "hr"}`.
 const TWO: &[u8] =
@@ -141,7 +132,11 @@ fn protected_values_are_marked(rt: HostRuntime) -> Result<(), Fail> {
     let cases: [(&[u8], &[u8], Outcome); 3] = [
         (STAFF, NESTED, Outcome::Marked(1, stored(54, 58, 0x10, 0))),
         (STAFF, NUMBER, Outcome::Marked(0, None)),
-        (PEOPLE, TWO, Outcome::Marked(2, stored(71, 75, 0x10, 1))),
+        (
+            PEOPLE_SCHEMA,
+            TWO,
+            Outcome::Marked(2, stored(71, 75, 0x10, 1)),
+        ),
     ];
     for (schema, command, expected) in cases {
         assert_eq!(rt; what_becomes(rt.alloc(), schema, command)?, expected);
@@ -152,8 +147,8 @@ fn protected_values_are_marked(rt: HostRuntime) -> Result<(), Fail> {
 #[test]
 fn compared_and_updated_values_are_marked(rt: HostRuntime) -> Result<(), Fail> {
     let cases: [(&[u8], &[u8], Option<Mark>); 3] = [
-        (PEOPLE, FIND, compared(38, 44, 0x02, 0)),
-        (PEOPLE, DELETE, compared(74, 80, 0x02, 0)),
+        (PEOPLE_SCHEMA, FIND, compared(38, 44, 0x02, 0)),
+        (PEOPLE_SCHEMA, DELETE, compared(74, 80, 0x02, 0)),
         (STAFF, SET, stored(72, 76, 0x10, 0)),
     ];
     for (schema, command, mark) in cases {
@@ -167,11 +162,11 @@ fn compared_and_updated_values_are_marked(rt: HostRuntime) -> Result<(), Fail> {
 fn contents_are_refused_where_they_stand(rt: HostRuntime) -> Result<(), Fail> {
     let cases: [(&[u8], &[u8], Reason, u32); 6] = [
         (STAFF, ARRAY, Reason::ArrayOnPath, 47),
-        (PEOPLE, NULL, Reason::TypeNotAllowed, 50),
-        (PEOPLE, SEALED, Reason::AlreadyEncrypted, 53),
-        (PEOPLE, NO_DOCUMENTS, Reason::BadField, 0),
-        (PEOPLE, TWICE, Reason::BadField, 50),
-        (PEOPLE, NO_DOCUMENT, Reason::BadField, 41),
+        (PEOPLE_SCHEMA, NULL, Reason::TypeNotAllowed, 50),
+        (PEOPLE_SCHEMA, SEALED, Reason::AlreadyEncrypted, 53),
+        (PEOPLE_SCHEMA, NO_DOCUMENTS, Reason::BadField, 0),
+        (PEOPLE_SCHEMA, TWICE, Reason::BadField, 50),
+        (PEOPLE_SCHEMA, NO_DOCUMENT, Reason::BadField, 41),
     ];
     for (schema, command, reason, at) in cases {
         assert_eq!(rt;
@@ -194,7 +189,7 @@ fn fields_are_refused_before_contents(rt: HostRuntime) -> Result<(), Fail> {
     ];
     for (command, reason, at) in cases {
         assert_eq!(rt;
-            what_becomes(rt.alloc(), PEOPLE, command)?,
+            what_becomes(rt.alloc(), PEOPLE_SCHEMA, command)?,
             Outcome::Refused(reason, at)
         );
     }
@@ -203,6 +198,9 @@ fn fields_are_refused_before_contents(rt: HostRuntime) -> Result<(), Fail> {
 
 #[test]
 fn a_command_passes_whatever_its_database(rt: HostRuntime) -> Result<(), Fail> {
-    assert_eq!(rt; what_becomes(rt.alloc(), PEOPLE, PING)?, Outcome::Passed);
+    assert_eq!(rt;
+        what_becomes(rt.alloc(), PEOPLE_SCHEMA, PING)?,
+        Outcome::Passed
+    );
     Ok(())
 }

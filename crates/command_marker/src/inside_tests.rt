@@ -1,10 +1,10 @@
 //! Commands that stand inside another document: offsets are those of the bytes that were checked.
 
-use crate::command_tests::{AGGREGATE, Outcome, PEOPLE, outcome_of, stored};
+use crate::command_tests::{AGGREGATE, Outcome, outcome_of, stored};
 use crate::tests::reply_of;
 use bson_codec::{RawDoc, check_bson};
 use encrypt_schema::{Reason, Rows};
-use sample_documents::{NESTED, NESTED_REPLY, NO_DOCUMENTS, NULL, OTHER_DB, STAFF};
+use sample_documents::{NESTED, NESTED_REPLY, NO_DOCUMENTS, NULL, OTHER_DB, PEOPLE_SCHEMA, STAFF};
 use std::alloc::Global;
 use std::test::Fail;
 
@@ -59,7 +59,7 @@ fn values_are_refused_by_the_offsets_of_what_was_checked(rt: HostRuntime) -> Res
         (AGGREGATE, Reason::NotACommand, 22),
     ];
     for (command, reason, at) in cases {
-        let refused = what_becomes(rt.alloc(), PEOPLE, command)?;
+        let refused = what_becomes(rt.alloc(), PEOPLE_SCHEMA, command)?;
         assert_eq!(rt; refused, Outcome::Refused(reason, at));
     }
     Ok(())
@@ -72,7 +72,7 @@ fn a_command_itself_is_refused_at_0_wherever_it_begins(rt: HostRuntime) -> Resul
         (b"\x05\x00\x00\x00\x00", Reason::NotACommand),
     ];
     for (command, reason) in cases {
-        let refused = what_becomes(rt.alloc(), PEOPLE, command)?;
+        let refused = what_becomes(rt.alloc(), PEOPLE_SCHEMA, command)?;
         assert_eq!(rt; refused, Outcome::Refused(reason, 0));
     }
     Ok(())

@@ -1,11 +1,12 @@
 //! Replies, byte for byte. The expected bytes were made from the layout of commands and markings, outside this
 //! code.
 
-use crate::command_tests::PEOPLE;
 use crate::{Target, mark_command, reply, reply_clear, target};
 use bson_codec::{RawDoc, check_bson};
 use encrypt_schema::Rows;
-use sample_documents::{INSERT, NESTED, NESTED_REPLY, NOTES, NOTES_REPLY, PING, REPLY, STAFF};
+use sample_documents::{
+    INSERT, NESTED, NESTED_REPLY, NOTES, NOTES_REPLY, PEOPLE_SCHEMA, PING, REPLY, STAFF,
+};
 use std::alloc::Global;
 use std::test::Fail;
 
@@ -64,7 +65,7 @@ fn reply_under(alloc: Global, schema: &[u8], command: &[u8]) -> Result<Vec<u8>, 
 
 #[test]
 fn a_protected_field_is_marked(rt: HostRuntime) -> Result<(), Fail> {
-    let bytes = reply_under(rt.alloc(), PEOPLE, INSERT)?;
+    let bytes = reply_under(rt.alloc(), PEOPLE_SCHEMA, INSERT)?;
     assert!(rt; bytes.as_slice() == REPLY);
     Ok(())
 }
@@ -78,7 +79,7 @@ fn a_nested_protected_field_is_marked(rt: HostRuntime) -> Result<(), Fail> {
 
 #[test]
 fn both_fields_of_one_name_are_marked(rt: HostRuntime) -> Result<(), Fail> {
-    let bytes = reply_under(rt.alloc(), PEOPLE, EQUAL_NAMES)?;
+    let bytes = reply_under(rt.alloc(), PEOPLE_SCHEMA, EQUAL_NAMES)?;
     assert!(rt; bytes.as_slice() == EQUAL_NAMES_REPLY);
     Ok(())
 }

@@ -1,7 +1,7 @@
 //! Documents with payloads that were made outside this repository, by Python's hmac and OpenSSL's AES-256-CBC.
 
 use crate::sample_bytes::{SALARY_7_BY_02, SALARY_8_BY_03, SSN};
-use crate::samples::Sample;
+use crate::samples::{BOTH_FRONT, Sample};
 use encrypt_schema::{Mark, Role};
 
 /// `{insert: "people", documents: [{salary: payload}], $db: "hr"}`, its payload
@@ -83,7 +83,7 @@ pub(crate) const OF_A_DOCUMENT: Sample = Sample {
 
 /// What the insert of two documents is sealed to under the blocks of 02 and of 03.
 pub(crate) const TWO_DOCUMENTS_ANEW: &[&[u8]] = &[
-    b"n\x01\x00\x00\x02insert\x00\x07\x00\x00\x00people\x00\x04documents\x00?\x01\x00",
+    BOTH_FRONT,
     b"\x00\x030\x00d\x00\x00\x00\x05salary\x00R\x00\x00\x00\x06",
     SALARY_7_BY_02,
     b"\x00\x031\x00\xd0\x00\x00\x00\x05ssn\x00b\x00\x00\x00\x06",

@@ -58,6 +58,10 @@ pub(crate) const ONE_INT: Sample = Sample {
     ],
 };
 
+/// What every sealed form of an insert of two documents begins with.
+pub(crate) const BOTH_FRONT: &[u8] =
+    b"n\x01\x00\x00\x02insert\x00\x07\x00\x00\x00people\x00\x04documents\x00?\x01\x00";
+
 /// `{insert: "people", documents: [{salary: int 7}, {ssn: "123-45-6789", salary: int 8}], $db: "hr"}`.
 pub(crate) const TWO_DOCUMENTS: Sample = Sample {
     collection: b"people",
@@ -91,7 +95,7 @@ pub(crate) const TWO_DOCUMENTS: Sample = Sample {
         },
     ],
     sealed: &[
-        b"n\x01\x00\x00\x02insert\x00\x07\x00\x00\x00people\x00\x04documents\x00?\x01\x00",
+        BOTH_FRONT,
         b"\x00\x030\x00d\x00\x00\x00\x05salary\x00R\x00\x00\x00\x06",
         SALARY_7,
         b"\x00\x031\x00\xd0\x00\x00\x00\x05ssn\x00b\x00\x00\x00\x06",

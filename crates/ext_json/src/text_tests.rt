@@ -4,6 +4,7 @@
 use crate::{Shown, first_bad_text, show_text, write_text};
 use bson_codec::check_bson;
 use fle_outside::MemSink;
+use sample_documents::PING;
 use std::alloc::Global;
 use std::process::Abort;
 use std::test::Fail;
@@ -180,10 +181,7 @@ fn names_stand_in_documents_alone(rt: HostRuntime) -> Result<(), Fail> {
 #[test]
 fn commands_have_their_text(rt: HostRuntime) -> Result<(), Fail> {
     let cases: [(&[u8], &[u8]); 2] = [
-        (
-            b"\x1E\x00\x00\x00\x10ping\x00\x01\x00\x00\x00\x02$db\x00\x06\x00\x00\x00admin\x00\x00",
-            br#"{"ping":{"$numberInt":"1"},"$db":"admin"}"#,
-        ),
+        (PING, br#"{"ping":{"$numberInt":"1"},"$db":"admin"}"#),
         (
             b"\x1D\x00\x00\x00\x05k\x00\x10\x00\x00\x00\x04\x00\x11\"3DUFw\x88\x99\xAA\xBB\xCC\xDD\xEE\xFF\x00",
             br#"{"k":{"$binary":{"base64":"ABEiM0RVRneImaq7zN3u/w==","subType":"04"}}}"#,

@@ -3,18 +3,9 @@
 use crate::mark_filter;
 use bson_codec::check_bson;
 use encrypt_schema::{Mark, MarkFault, Marks, Reason, Role, Rows};
-use sample_documents::STAFF;
+use sample_documents::{PEOPLE_SCHEMA, STAFF};
 use std::alloc::Global;
 use std::test::Fail;
-
-/// The schema of people: `ssn` deterministic and a string, `salary` random.
-const PEOPLE: &[u8] =
-    b"*\x01\x00\x00\x02bsonType\x00\x07\x00\x00\x00object\x00\x03properties\x00\x04\x01\x00\x00\x03ssn\x00\x87\x00\
-      \x00\x00\x03encrypt\x00y\x00\x00\x00\x04keyId\x00\x1D\x00\x00\x00\x050\x00\x10\x00\x00\x00\x04\x00\x11\"3DUFw\
-      \x88\x99\xAA\xBB\xCC\xDD\xEE\xFF\x00\x02algorithm\x00,\x00\x00\x00AEAD_AES_256_CBC_HMAC_SHA_512-Deterministic\
-      \x00\x02bsonType\x00\x07\x00\x00\x00string\x00\x00\x00\x03salary\x00k\x00\x00\x00\x03encrypt\x00]\x00\x00\x00\
-      \x04keyId\x00\x1D\x00\x00\x00\x050\x00\x10\x00\x00\x00\x04\x00\x11\"3DUFw\x88\x99\xAA\xBB\xCC\xDD\xEE\xFF\x00\
-      \x02algorithm\x00%\x00\x00\x00AEAD_AES_256_CBC_HMAC_SHA_512-Random\x00\x00\x00\x00\x00";
 
 /// Marks a filter under the rules of a schema: why and where it is refused, or the starts of what is compared.
 fn outcome(
@@ -84,7 +75,7 @@ fn compared_values_are_marked(rt: HostRuntime) -> Result<(), Fail> {
         ),
     ];
     for (filter, expected) in cases {
-        match outcome(rt.alloc(), PEOPLE, filter)? {
+        match outcome(rt.alloc(), PEOPLE_SCHEMA, filter)? {
             Ok(starts) => assert_eq!(rt; &starts[..], expected),
             Err(_) => return Err("it is refused".into()),
         }
@@ -134,7 +125,7 @@ fn values_are_refused_where_they_stand(rt: HostRuntime) -> Result<(), Fail> {
         ),
     ];
     for (filter, reason, at) in cases {
-        match outcome(rt.alloc(), PEOPLE, filter)? {
+        match outcome(rt.alloc(), PEOPLE_SCHEMA, filter)? {
             Err(refused) => assert_eq!(rt; refused, (reason, at)),
             Ok(_) => return Err("it isn't refused".into()),
         }

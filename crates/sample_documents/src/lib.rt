@@ -18,7 +18,7 @@ pub use commands::{
     ARRAY, BOTH, INSERT, INTO_UNKNOWN, INTO_VIEW, NESTED, NO_DOCUMENTS, NOTES, NULL, NUMBER,
     OTHER_DB, PING, SET,
 };
-pub use infos::{PEOPLE, STAFF};
+pub use infos::{PEOPLE, PEOPLE_SCHEMA, STAFF};
 pub use replies::{NESTED_REPLY, NOTES_REPLY, REPLY};
 pub use sealed::{SEALED_BOTH, SEALED_INSERT};
 pub use vaults::TWO_KEYS;
