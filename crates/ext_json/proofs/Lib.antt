@@ -15,3 +15,4 @@ pub mod QuotedUtf8
 pub mod TextUtf8
 pub mod LaidOut
 pub mod Deepest
+pub mod Sending

@@ -12,3 +12,4 @@ pub mod Infos
 pub mod Answered
 pub mod WrapperView
 pub mod PutMember
+pub mod Pieces

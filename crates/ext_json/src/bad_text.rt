@@ -40,6 +40,7 @@ fn bad_inside(levels: u32, document: &RawDoc<'_>) -> Option<u32>
     bad_elements(levels - 1, document)
 }
 
+// In the elements of a document or an array, whose values add at most so many levels.
 #[cycle(bad)]
 #[tactic(auto, unfolding(crate::specs::BadText::elements_bad))]
 fn bad_elements(levels: u32, document: &RawDoc<'_>) -> Option<u32>
@@ -54,6 +55,7 @@ fn bad_elements(levels: u32, document: &RawDoc<'_>) -> Option<u32>
     None
 }
 
+// In an element: its name first, in arrays too.
 #[cycle(bad)]
 fn bad_element(levels: u32, item: &RawItem<'_>) -> Option<u32>
     ensures { result ≡ element_bad (inside_bad levels) item.now.start item.now.name item.now.tree }
@@ -65,6 +67,7 @@ fn bad_element(levels: u32, item: &RawItem<'_>) -> Option<u32>
     }
 }
 
+// In a value: inside it where it is a document or an array.
 #[cycle(bad)]
 fn bad_value(levels: u32, item: &RawItem<'_>) -> Option<u32>
     ensures { result ≡ value_bad (inside_bad levels) item.now.start item.now.tree }
@@ -88,6 +91,7 @@ fn bad_leaf(levels: u32, item: &RawItem<'_>) -> Option<u32>
     }
 }
 
+// Whether a value that is no document and no array holds a text that isn't UTF-8, in a scope too.
 #[cycle(bad)]
 pub(crate) fn is_bad(levels: u32, item: &RawItem<'_>) -> bool
     ensures { result ≡ is_bad_leaf (λ start is. is_some (inside_bad levels start is)) item.now.start
@@ -100,6 +104,7 @@ pub(crate) fn is_bad(levels: u32, item: &RawItem<'_>) -> bool
     }
 }
 
+// Whether code, or a name or a text inside its scope, isn't UTF-8.
 #[cycle(bad)]
 fn is_bad_scope(levels: u32, code: &[u8], scope: &RawDoc<'_>) -> bool
     ensures { result ≡ (not (is_utf8 code.now) || is_some (inside_bad levels scope.now.start scope.now.tree)) }
@@ -121,6 +126,7 @@ fn is_bad_plain(item: &RawItem<'_>, value: &[u8]) -> bool
     }
 }
 
+// Whether a text in a raw value of a form other than code with a scope isn't UTF-8.
 #[tactic(auto, using(crate::proofs::Layouts::string_long, crate::proofs::Layouts::pointer_long))]
 pub(crate) fn is_bad_form(form: Form, value: &[u8]) -> bool
     requires { IsRaw (IsItems (level_limit - 1)) (form_layout form) value.now }
@@ -135,6 +141,7 @@ pub(crate) fn is_bad_form(form: Form, value: &[u8]) -> bool
     }
 }
 
+// Whether the pattern or the options of a regular expression aren't UTF-8.
 fn is_bad_regex(form: Form, value: &[u8]) -> bool
     requires { form ≡ Form.Regex }
     ensures { (B : ℕ → Items → Bool) (at : ℕ) → result ≡ is_bad_raw B at form value.now }
@@ -144,6 +151,7 @@ fn is_bad_regex(form: Form, value: &[u8]) -> bool
     !is_text(pattern) || !is_text(options)
 }
 
+// The offset at which the value begins, which 32 bits hold.
 pub(crate) fn offset_of(item: &RawItem<'_>) -> u32
     ensures { result ≡ item.now.start }
 {
@@ -151,6 +159,7 @@ pub(crate) fn offset_of(item: &RawItem<'_>) -> u32
     item.start() as u32
 }
 
+// Whether the bytes are UTF-8 (RFC 3629).
 pub(crate) fn is_text(bytes: &[u8]) -> bool
     ensures { result ≡ is_utf8 bytes.now }
 {

@@ -76,6 +76,7 @@ pub fn binary_value(alloc: Global, found: &Json) -> Result<Value, Stop>
     }
 }
 
+// The texts `base64` and `subType` of an object that has exactly these two members.
 #[tactic(auto, using(crate::proofs::Members::count_is))]
 fn texts_in<'a>(found: &'a Json, members: &Map<String, Json>) -> Option<(&'a str, &'a str)>
     requires { view found.now ≡ object (members_view members.now.entries) }
@@ -89,6 +90,7 @@ fn texts_in<'a>(found: &'a Json, members: &Map<String, Json>) -> Option<(&'a str
     Some((base64, subtype))
 }
 
+// The text that a member is; `None` where there is no such member or it is no text.
 fn text_of<'a>(found: Option<&'a Json>) -> Option<&'a str>
     ensures { option_map (λ t. t.now) result ≡ option_and_then (λ v. as_str (view v.now)) found.entry }
 {
@@ -98,6 +100,7 @@ fn text_of<'a>(found: Option<&'a Json>) -> Option<&'a str>
     }
 }
 
+// The binary of the contents in base64 and the subtype's digits; `Malformed` where one of them has another form.
 fn decoded(alloc: Global, base64: &str, subtype: &str) -> Result<Value, Stop>
     ensures { Converts tree result (option_map binary_tree (spec.binary_in base64.now subtype.now)) }
 {
@@ -111,6 +114,7 @@ fn decoded(alloc: Global, base64: &str, subtype: &str) -> Result<Value, Stop>
     }
 }
 
+// The byte of exactly two hexadecimal digits, of any case.
 fn subtype_in(text: &str) -> Option<u8>
     ensures { result ≡ spec.subtype_in text.now }
 {
@@ -137,6 +141,7 @@ fn value_of(alloc: Global, kind: u8, contents: &[u8]) -> Result<Value, Stop>
     }
 }
 
+// The bytes of a binary (BSON 1.1): the number of its contents, the subtype, the contents.
 fn laid_out(alloc: Global, kind: u8, contents: &[u8]) -> Result<Vec<u8>, Memory>
     requires { length contents.now < 2 ^ 31 }
     ensures { IfOk result (λ v. v.items ≡ binary_bytes kind contents.now) }

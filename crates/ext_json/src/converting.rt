@@ -49,6 +49,7 @@ pub fn convert(alloc: Global, value: &Json) -> Result<Value, Stop>
     }
 }
 
+// What the items of an array stand for, each under its number as the name.
 #[cycle(convert)]
 fn convert_items(alloc: Global, items: &Vec<Json>) -> Result<Kids, Stop>
     ensures { Converts (λ k. k) result (array_items 0 (items_view items.now.items)) }
@@ -65,6 +66,7 @@ fn convert_items(alloc: Global, items: &Vec<Json>) -> Result<Kids, Stop>
     Ok(kids)
 }
 
+// What the members of an object stand for, each under its own name.
 #[cycle(convert)]
 fn convert_members(alloc: Global, members: &Map<String, Json>) -> Result<Kids, Stop>
     ensures { Converts (λ k. k) result (object_items (members_view members.now.entries)) }
@@ -89,6 +91,7 @@ fn index_name(alloc: Global, index: usize) -> Result<Bytes, Stop>
     copied(alloc, buffer.format(index).as_bytes())
 }
 
+// The same bytes in memory of their own.
 fn copied(alloc: Global, bytes: &[u8]) -> Result<Bytes, Stop>
     ensures { Converts (λ b. b) result (Some bytes.now) }
 {
@@ -98,6 +101,7 @@ fn copied(alloc: Global, bytes: &[u8]) -> Result<Bytes, Stop>
     }
 }
 
+// The value of this type that the bytes spell.
 fn raw_value(alloc: Global, tag: u8, bytes: &[u8]) -> Result<Value, Stop>
     ensures { Converts tree result (Some (leaf tag bytes.now)) }
 {
@@ -110,6 +114,7 @@ fn raw_value(alloc: Global, tag: u8, bytes: &[u8]) -> Result<Value, Stop>
     }
 }
 
+// An integer of 64 signed bits, or undefined for any other number.
 fn number_value(alloc: Global, number: Option<i64>) -> Result<Value, Stop>
     ensures { Converts tree result (Some (number_tree number)) }
 {
@@ -119,6 +124,7 @@ fn number_value(alloc: Global, number: Option<i64>) -> Result<Value, Stop>
     }
 }
 
+// An int where 32 signed bits hold the integer, else a long.
 fn integer_value(alloc: Global, integer: i64) -> Result<Value, Stop>
     ensures { Converts tree result (Some (number_tree (Some integer))) }
 {
@@ -145,6 +151,7 @@ fn string_value(alloc: Global, text: &[u8]) -> Result<Value, Stop>
     }
 }
 
+// The bytes of a string (BSON 1.1): the number of those behind it, the text, a 00.
 fn laid_out(alloc: Global, text: &[u8]) -> Result<Vec<u8>, Memory>
     requires { length text.now + 1 < 2 ^ 31 }
     ensures { IfOk result (λ v. v.items ≡ string_bytes text.now) }

@@ -53,6 +53,7 @@ pub fn put_base64<O: Sink>(bytes: &[u8], out: &mut O) -> Result<(), Failed>
     }
 }
 
+// Writes the base64 text of at most 768 bytes, padding included.
 fn put_piece<O: Sink>(piece: &[u8], out: &mut O) -> Result<(), Failed>
     requires { length piece.now ≤ 768 }
     ensures { WritesWhole (O.seen out.old) (O.seen out.new) result (encode_of standard piece.now) }

@@ -37,6 +37,7 @@ pub fn infos_from_json(alloc: Global, text: &[u8]) -> Result<Vec<u8>, JsonFault>
     }
 }
 
+// The bytes of the documents of the array that a value is; `Form` of document 0 where it is no array.
 fn infos_of(alloc: Global, value: &Json) -> Result<Vec<u8>, JsonFault>
     ensures infos { Answers (λ v. v.items) result (infos_in (Some (view value.now))) }
     ensures small { IfOk result (λ v. length v.items ≤ longest) }
@@ -47,6 +48,7 @@ fn infos_of(alloc: Global, value: &Json) -> Result<Vec<u8>, JsonFault>
     }
 }
 
+// The bytes of the members' documents, one after another, or the number of the first that has none that fits.
 fn members_in(alloc: Global, items: &Vec<Json>) -> Result<Vec<u8>, JsonFault>
     ensures infos { Answers (λ v. v.items) result (members_of 1 [] (items_view items.now.items)) }
     ensures small { IfOk result (λ v. length v.items ≤ longest) }
@@ -87,6 +89,7 @@ fn put_member(alloc: Global, out: &mut Vec<u8>, item: &Json) -> Result<(), Stop>
     }
 }
 
+// The document that a JSON value stands for; `Malformed` where it stands for none.
 fn member_document(alloc: Global, item: &Json) -> Result<Doc, Stop>
     ensures { Converts (λ d. d.kids) result (document_of (view item.now)) }
 {
@@ -108,6 +111,7 @@ fn document_in(value: Value) -> Result<Doc, Stop>
     }
 }
 
+// The document of these elements, where the type byte is a document's and not an array's.
 fn document_by(tag: u8, kids: Kids) -> Result<Doc, Stop>
     ensures { Converts (λ d. d.kids) result (document_in (node tag kids)) }
 {

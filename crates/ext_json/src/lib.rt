@@ -27,6 +27,7 @@ mod form;
 mod infos;
 pub mod laws;
 mod parts;
+mod pieces;
 mod quoted;
 mod raw_text;
 mod showing;
@@ -36,6 +37,7 @@ mod text;
 pub use bad_text::{NOT_TEXT, first_bad_text};
 pub use fault::JsonFault;
 pub use infos::infos_from_json;
+pub use pieces::{Piece, send_text, show_whole};
 pub use showing::{Shown, show_text};
 pub use text::write_text;
 
@@ -43,5 +45,7 @@ pub use text::write_text;
 mod example_tests;
 #[cfg(test)]
 mod infos_tests;
+#[cfg(test)]
+mod pieces_tests;
 #[cfg(test)]
 mod text_tests;

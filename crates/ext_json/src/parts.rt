@@ -33,6 +33,7 @@ pub fn regex_parts<'a>(bytes: &'a [u8]) -> (&'a [u8], &'a [u8])
     (pattern, options)
 }
 
+// The bytes before the first 00 and those behind it; all and none where there is no 00.
 fn split_at_zero<'a>(bytes: &'a [u8]) -> (&'a [u8], &'a [u8])
     ensures before { result.0.now ≡ spec.before_zero bytes.now }
     ensures after { result.1.now ≡ spec.after_zero bytes.now }
@@ -42,6 +43,7 @@ fn split_at_zero<'a>(bytes: &'a [u8]) -> (&'a [u8], &'a [u8])
     (before, behind_first(rest))
 }
 
+// Where the first 00 stands, or the number of bytes where there is none.
 #[tactic(auto, using(crate::proofs::Zeros::zero_next, crate::proofs::Zeros::zero_found, crate::proofs::Zeros::zero_missing))]
 fn zero_position(bytes: &[u8]) -> usize
     ensures within { result ≤ length bytes.now }
@@ -58,6 +60,7 @@ fn zero_position(bytes: &[u8]) -> usize
     n
 }
 
+// The bytes behind the first one, if there is one.
 fn behind_first<'a>(bytes: &'a [u8]) -> &'a [u8]
     ensures { result.now ≡ drop 1 bytes.now }
 {

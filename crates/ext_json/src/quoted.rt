@@ -54,6 +54,7 @@ fn put_front<O: Sink>(front: &[u8], out: &mut O) -> Result<(), Failed>
     }
 }
 
+// A byte of a string: `"` and `\` behind a `\`, bytes below 20 as `\u00hh`, others as they stand.
 fn put_escape<O: Sink>(byte: u8, out: &mut O) -> Result<(), Failed>
     ensures { WritesWhole (O.seen out.old) (O.seen out.new) result (escape byte) }
 {
@@ -66,6 +67,7 @@ fn put_escape<O: Sink>(byte: u8, out: &mut O) -> Result<(), Failed>
     write_whole(out, &[byte])
 }
 
+// A byte below 20 as `\u00hh`.
 fn put_control<O: Sink>(byte: u8, out: &mut O) -> Result<(), Failed>
     ensures { WritesWhole (O.seen out.old) (O.seen out.new) result (control_start ++ encode_lower (byte ∷ [])) }
 {
@@ -86,6 +88,7 @@ fn front_length(text: &[u8]) -> usize
     if n == 0 { 1 } else { n }
 }
 
+// How many bytes at the front stand as they are.
 fn plain_length(text: &[u8]) -> usize
     ensures within { result ≤ length text.now }
     ensures plain { escaped (take result text.now) ≡ take result text.now }
@@ -97,6 +100,7 @@ fn plain_length(text: &[u8]) -> usize
     n
 }
 
+// Whether a byte of a string needs no escape.
 fn is_plain(byte: u8) -> bool
     ensures { result ≡ not (byte == 34 || byte == 92 || nat_lt byte 32) }
 {

@@ -61,6 +61,7 @@ fn put_body<O: Sink>(form: Form, value: &[u8], out: &mut O) -> Result<(), Failed
     }
 }
 
+// The contents of a binary in base64, and the subtype as two hexadecimal digits.
 fn put_binary<O: Sink>(subtype: u8, contents: &[u8], out: &mut O) -> Result<(), Failed>
     ensures { WritesWhole (O.seen out.old) (O.seen out.new) result
         (encode_of standard contents.now ++ (middle_text Form.Binary ++ encode_lower (subtype ∷ []))) }
@@ -76,6 +77,7 @@ fn put_binary<O: Sink>(subtype: u8, contents: &[u8], out: &mut O) -> Result<(), 
     put_byte(subtype, out)
 }
 
+// The pattern and the options, each in quotes.
 fn put_regex<O: Sink>(parts: (&[u8], &[u8]), out: &mut O) -> Result<(), Failed>
     ensures { WritesWhole (O.seen out.old) (O.seen out.new) result
         (quoted parts.entry.0.now ++ (middle_text Form.Regex ++ quoted parts.entry.1.now)) }
@@ -92,6 +94,7 @@ fn put_regex<O: Sink>(parts: (&[u8], &[u8]), out: &mut O) -> Result<(), Failed>
     put_quoted(options, out)
 }
 
+// The name space in quotes, and the id in hexadecimal digits.
 fn put_pointer<O: Sink>(parts: (&[u8], &[u8]), out: &mut O) -> Result<(), Failed>
     requires { length parts.1.now ≤ 16 }
     ensures { WritesWhole (O.seen out.old) (O.seen out.new) result
@@ -109,6 +112,7 @@ fn put_pointer<O: Sink>(parts: (&[u8], &[u8]), out: &mut O) -> Result<(), Failed
     put_hex(id, out)
 }
 
+// The seconds and the increment in decimal digits.
 fn put_timestamp<O: Sink>(seconds: u32, increment: u32, out: &mut O) -> Result<(), Failed>
     ensures { WritesWhole (O.seen out.old) (O.seen out.new) result
         (decimal seconds ++ (middle_text Form.Timestamp ++ decimal increment)) }

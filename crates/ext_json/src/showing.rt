@@ -70,6 +70,7 @@ fn show_inside<O: Sink>(levels: u32, named: bool, document: &RawDoc<'_>, out: &m
     }
 }
 
+// The elements of a document (named) or an array, with a comma between two.
 #[cycle(shown)]
 fn show_elements<O: Sink>(levels: u32, named: bool, document: &RawDoc<'_>, out: &mut O) -> Shown
     ensures { Shows (O.seen out.old) (O.seen out.new) result
@@ -115,6 +116,7 @@ fn show_element<O: Sink>(
     show_value(levels, item, out)
 }
 
+// A value that adds at most so many levels.
 #[cycle(shown)]
 fn show_value<O: Sink>(levels: u32, item: &RawItem<'_>, out: &mut O) -> Shown
     ensures { Shows (O.seen out.old) (O.seen out.new) result
@@ -189,6 +191,7 @@ fn show_form<O: Sink>(form: Form, value: &[u8], at: u32, out: &mut O) -> Shown
     }
 }
 
+// The comma before an element that isn't the first.
 fn put_separator<O: Sink>(first: bool, out: &mut O) -> Result<(), Failed>
     ensures { WritesWhole (O.seen out.old) (O.seen out.new) result (separator first) }
 {

@@ -56,6 +56,7 @@ fn put_inside<O: Sink>(
     write_whole(out, closing(named))
 }
 
+// The elements of a document (named) or an array, with a comma between two.
 #[cycle(text)]
 fn put_elements<O: Sink>(
     levels: u32,
@@ -77,8 +78,9 @@ fn put_elements<O: Sink>(
     Ok(())
 }
 
+// An element of a document (named) or an array, behind the bytes `before`.
 #[cycle(text)]
-fn put_element<O: Sink>(
+pub(crate) fn put_element<O: Sink>(
     levels: u32,
     named: bool,
     before: &[u8],
@@ -99,6 +101,7 @@ fn put_element<O: Sink>(
     put_value(levels, item, out)
 }
 
+// A value that adds at most so many levels.
 #[cycle(text)]
 fn put_value<O: Sink>(levels: u32, item: &RawItem<'_>, out: &mut O) -> Result<(), Failed>
     ensures { WritesWhole (O.seen out.old) (O.seen out.new) result (value_text (inside_text levels) item.now.tree) }
@@ -176,6 +179,7 @@ fn put_plain<O: Sink>(item: &RawItem<'_>, value: &[u8], out: &mut O) -> Result<(
     }
 }
 
+// The name of an element and a colon; in an array nothing.
 pub(crate) fn put_name<O: Sink>(named: bool, name: &[u8], out: &mut O) -> Result<(), Failed>
     ensures { WritesWhole (O.seen out.old) (O.seen out.new) result (name_text named name.now) }
 {
@@ -186,6 +190,7 @@ pub(crate) fn put_name<O: Sink>(named: bool, name: &[u8], out: &mut O) -> Result
     }
 }
 
+// A name in quotes, and a colon.
 fn put_member_name<O: Sink>(name: &[u8], out: &mut O) -> Result<(), Failed>
     ensures { WritesWhole (O.seen out.old) (O.seen out.new) result (quoted name.now ++ 58 ∷ []) }
 {
