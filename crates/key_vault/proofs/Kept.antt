@@ -1,19 +1,22 @@
 -- What is kept was opened under the master key, and stands in its order.
 use Rattle.std.proofs.Common.{◌≡◌, ◌∙◌, ℕ, zero, suc, ◌-◌, ◌==◌, length, Bool, true, false, cond, List, [], ◌∷◌, map}
-use Rattle.std.proofs.Common.{take, Contains, Option, Some, None, Result, Ok, Err, OnOk, OnErr, refl, sym, ap, subst}
-use Rattle.std.proofs.Common.{inl, inr, ◌⊎◌}
-use Rattle.std.specs.Prelude.{bytes_eq, is_some, is_ok, IsSome, IsOk, unwrap_or, if◌then◌else◌}
+use Rattle.std.proofs.Common.{take, Option, Some, None, Result, Ok, Err, OnOk, OnErr, refl, sym, ap, subst}
+use Rattle.std.proofs.Common.{inl, inr}
+use Rattle.std.specs.Prelude.{bytes_eq, is_some, IfSome, IsSome, IsOk, option_copied, option_map, unwrap_or}
+use Rattle.std.specs.Prelude.{if◌then◌else◌}
 use Rattle.std.specs.Option.{option_map_or}
 use Rattle.std.specs.Cmp.Lexicographic.{bytes_decides}
 use Rattle.std.specs.Map.{lookup, lookup_entry, remove_entry}
 use Rattle.std.proofs.lemmas.Bool.{false≢true, eqb-true}
+use denote.Ref.{Bor}
 use Rattle.fle_aead.specs.Sealed.{opened_message}
 use Rattle.lru.specs.LruCache.{LruCache, lru_cache, promoted, put_entries}
 use Rattle.lru.proofs.CallerLemmas.{Contains-lookup, Contains-promoted, Contains-put_entries}
 use Rattle.data_key.specs.declared.key_doc.KeyDoc.{KeyDoc}
 use Rattle.local_kms.specs.Wrapped.{Unwraps, unwrapped, key_of_plain}
 use Rattle.key_vault.specs.declared.cache.Opened.{Opened}
-use Rattle.key_vault.specs.Cached.{AreOpened, Entry, capacity, entry_of, is_kept, kept_first, without, KeepsOpened}
+use Rattle.key_vault.specs.Cached.{AreOpened, Entry, capacity, entry_in, entry_of, found_first, is_kept, kept_first}
+use Rattle.key_vault.specs.Cached.{kept_key, key_from, used_first, without, KeepsOpened}
 
 -- a look-up gives what was kept
 pub looked_up : (master : List ℕ) (test : List ℕ → Bool) (es : List (List ℕ × Opened)) (v : Opened)
@@ -126,6 +129,137 @@ pub promoted_first : (id : List ℕ) (v : Opened) (es : List (List ℕ × Opened
 promoted_first id v es is =
     promoted_by id v es (lookup_entry (bytes_eq id) es) refl
     (subst (λ (x : Option Opened). Found id (lookup_entry (bytes_eq id) es) x) is (found_entry id es))
+
+-- ---- found by id, and by material
+
+entry_if : (b : Bool) (e : List ℕ × Opened) (x : Option Entry) (o : Option (List ℕ × Opened))
+    → x ≡ option_map entry_of o → cond b (Some (entry_of e)) x ≡ option_map entry_of (cond b (Some e) o)
+entry_if true e x o rest = refl
+entry_if false e x o rest = rest
+
+entry_by : (id : List ℕ) (es : List (List ℕ × Opened))
+    → entry_in id (map entry_of es) ≡ option_map entry_of (lookup_entry (bytes_eq id) es)
+entry_by id [] = refl
+entry_by id (e ∷ es) = entry_if (bytes_eq id e.0) e _ _ (entry_by id es)
+
+-- the data key of a value where it is of this material
+abbrev key_of_opened : List ℕ → Option Opened → Option (List ℕ)
+key_of_opened material None = None
+key_of_opened material (Some v) = if bytes_eq v.material material then Some v.key else None
+
+key_if : (material : List ℕ) (b : Bool) (e : List ℕ × Opened) (x : Option Entry) (o : Option Opened)
+    → key_from material x ≡ key_of_opened material o
+    → key_from material (cond b (Some (entry_of e)) x) ≡ key_of_opened material (cond b (Some e.1) o)
+key_if material true e x o rest = refl
+key_if material false e x o rest = rest
+
+key_by : (id material : List ℕ) (es : List (List ℕ × Opened))
+    → key_from material (entry_in id (map entry_of es)) ≡ key_of_opened material (lookup (bytes_eq id) es)
+key_by id material [] = refl
+key_by id material (e ∷ es) = key_if material (bytes_eq id e.0) e _ _ (key_by id material es)
+
+-- what a look-up finds is kept where its material is the key's
+pub kept_none : (key : KeyDoc) (es : List (List ℕ × Opened)) → None ≡ lookup (bytes_eq key.id) es
+    → None ≡ kept_key key (map entry_of es)
+kept_none key es is = ap (key_of_opened key.material) is ∙ sym (key_by key.id key.material es)
+
+pub kept_some : (key : KeyDoc) (es : List (List ℕ × Opened)) (v : Opened) (shown : List ℕ) (b : Bool)
+    → Some v ≡ lookup (bytes_eq key.id) es → shown ≡ key.material → b ≡ bytes_eq v.material shown
+    → cond b (Some v.key) None ≡ kept_key key (map entry_of es)
+kept_some key es v shown b is same test =
+    ap (λ (t : Bool). cond t (Some v.key) None) (test ∙ ap (bytes_eq v.material) same)
+    ∙ ap (key_of_opened key.material) is ∙ sym (key_by key.id key.material es)
+
+-- the value whose data key was found
+abbrev HasKey : List ℕ → List ℕ → Option Opened → Type 0
+HasKey material key o = (v : Opened) × (o ≡ Some v) × (v.material ≡ material) × (v.key ≡ key)
+
+has_key : (material key : List ℕ) (o : Option Opened) → key_of_opened material o ≡ Some key → HasKey material key o
+has_key material key None e = absurd (false≢true (ap is_some e))
+has_key material key (Some v) e = by_test (bytes_eq v.material material) refl e
+  where
+    by_test : (b : Bool) → bytes_eq v.material material ≡ b → cond b (Some v.key) None ≡ Some key
+        → HasKey material key (Some v)
+    by_test true same e =
+        (v, refl, (bytes_decides v.material material).0 same, ap (λ (o : Option (List ℕ)). unwrap_or o key) e)
+    by_test false same e = absurd (false≢true (ap is_some e))
+
+kept_value : (key : KeyDoc) (k : List ℕ) (es : List (List ℕ × Opened)) → kept_key key (map entry_of es) ≡ Some k
+    → HasKey key.material k (lookup (bytes_eq key.id) es)
+kept_value key k es e =
+    has_key key.material k (lookup (bytes_eq key.id) es) (sym (key_by key.id key.material es) ∙ e)
+
+-- a key that is kept was opened
+kept_opened : (master : List ℕ) (key : KeyDoc) (k : List ℕ) (es : List (List ℕ × Opened)) → AreOpened master es
+    → kept_key key (map entry_of es) ≡ Some k → Unwraps master key.material (Ok k)
+kept_opened master key k es are e =
+    let v = kept_value key k es e in
+    subst (λ (m : List ℕ). Unwraps master m (Ok k)) v.2
+    (subst (λ (x : List ℕ). Unwraps master v.0.material (Ok x)) v.3
+    (looked_up master (bytes_eq key.id) es v.0 are v.1))
+
+pub kept_opened_if : (master : List ℕ) (key : KeyDoc) (es : List (List ℕ × Opened)) (r : Option (Bor (List ℕ)))
+    → AreOpened master es → option_copied r ≡ kept_key key (map entry_of es)
+    → IfSome r (λ k. Unwraps master key.material (Ok k.now))
+kept_opened_if master key es None are is = tt
+kept_opened_if master key es (Some k) are is = kept_opened master key k.now es are (sym is)
+
+-- what is promoted is the entry that is used
+pub promoted_used : (id : List ℕ) (es : List (List ℕ × Opened))
+    → map entry_of (promoted (bytes_eq id) es) ≡ used_first id (map entry_of es)
+promoted_used id es = by_entry (lookup_entry (bytes_eq id) es) refl
+  where
+    by_entry : (o : Option (List ℕ × Opened)) → lookup_entry (bytes_eq id) es ≡ o
+        → map entry_of (promoted (bytes_eq id) es) ≡ used_first id (map entry_of es)
+    by_entry None is =
+        ap (λ (x : Option (List ℕ × Opened)). map entry_of (promoted_to id es x)) is
+        ∙ sym (ap (λ (x : Option Entry). found_first x (map entry_of es))
+        (entry_by id es ∙ ap (option_map entry_of) is))
+    by_entry (Some e) is =
+        let found : Found id (Some e) (lookup (bytes_eq id) es) =
+        subst (λ (o : Option (List ℕ × Opened)). Found id o (lookup (bytes_eq id) es)) is (found_entry id es) in
+        promoted_first id e.1 es found.1
+        ∙ ap (λ (i : List ℕ). kept_first (entry i e.1) (map entry_of es)) (sym found.0)
+        ∙ sym (ap (λ (x : Option Entry). found_first x (map entry_of es))
+        (entry_by id es ∙ ap (option_map entry_of) is))
+
+-- an entry that was found has the id
+abbrev HasId : List ℕ → Option Entry → Type 0
+HasId id None = Unit {0}
+HasId id (Some e) = id ≡ e.id
+
+has_id_if : (id : List ℕ) (b : Bool) (e : Entry) (x : Option Entry) → bytes_eq id e.id ≡ b → HasId id x
+    → HasId id (cond b (Some e) x)
+has_id_if id true e x same rest = (bytes_decides id e.id).0 same
+has_id_if id false e x same rest = rest
+
+has_id : (id : List ℕ) (es : List Entry) → HasId id (entry_in id es)
+has_id id [] = tt
+has_id id (e ∷ es) = has_id_if id (bytes_eq id e.id) e _ refl (has_id id es)
+
+used_by : (key : KeyDoc) (k : List ℕ) (es : List Entry) (o : Option Entry) → HasId key.id o
+    → key_from key.material o ≡ Some k
+    → found_first o es ≡ kept_first (record { id = key.id; material = key.material; key = k }) es
+used_by key k es None has e = absurd (false≢true (ap is_some e))
+used_by key k es (Some f) has e = by_test (bytes_eq f.material key.material) refl e
+  where
+    by_test : (b : Bool) → bytes_eq f.material key.material ≡ b → cond b (Some f.key) None ≡ Some k
+        → kept_first f es ≡ kept_first (record { id = key.id; material = key.material; key = k }) es
+    by_test true same e =
+        ap (λ (i : List ℕ). kept_first (record { id = i; material = f.material; key = f.key }) es) (sym has)
+        ∙ ap (λ (m : List ℕ). kept_first (record { id = key.id; material = m; key = f.key }) es)
+        ((bytes_decides f.material key.material).0 same)
+        ∙ ap (λ (x : Option (List ℕ)). kept_first (record {
+          id = key.id;
+          material = key.material;
+          key = unwrap_or x k;
+        }) es) e
+    by_test false same e = absurd (false≢true (ap is_some e))
+
+-- a key that is used goes first as one that was opened
+pub used_kept : (key : KeyDoc) (k : List ℕ) (es : List Entry) → kept_key key es ≡ Some k
+    → used_first key.id es ≡ kept_first (record { id = key.id; material = key.material; key = k }) es
+used_kept key k es e = used_by key k es (entry_in key.id es) (has_id key.id es) e
 
 -- ---- put
 map_take : (n : ℕ) (es : List (List ℕ × Opened)) → map entry_of (take n es) ≡ take n (map entry_of es)

@@ -1,5 +1,5 @@
 -- Opened keys that are kept, the most recently used first.
-use Rattle.std.specs.Prelude.{◌≡◌, ℕ, ◌-◌, ◌<◌, ◌≤◌, Bool, true, false, List, [], ◌∷◌, length, take, map, Option, Some}
+use Rattle.std.specs.Prelude.{◌≡◌, ℕ, ◌-◌, Bool, true, false, List, [], ◌∷◌, take, Option, Some}
 use Rattle.std.specs.Prelude.{None, Result, Ok, Err, refl, bytes_eq, Contains, if◌then◌else◌, ◌⊎◌}
 use Rattle.std.specs.Coded.{Coded, code_by, coded×, coded_list, coded_ℕ}
 use Rattle.data_key.specs.declared.key_doc.KeyDoc.{KeyDoc}
@@ -55,6 +55,29 @@ is_kept id (e ∷ es) = if bytes_eq id e.id then true else is_kept id es
 -- last
 abbrev pub kept_first : Entry → List Entry → List Entry
 kept_first e es = e ∷ (if is_kept e.id es then without e.id es else take (capacity - 1) es)
+
+-- the first entry of an id
+abbrev pub entry_in : List ℕ → List Entry → Option Entry
+entry_in id [] = None
+entry_in id (e ∷ es) = if bytes_eq id e.id then Some e else entry_in id es
+
+-- the data key of an entry where it is of this material
+abbrev pub key_from : List ℕ → Option Entry → Option (List ℕ)
+key_from material None = None
+key_from material (Some e) = if bytes_eq e.material material then Some e.key else None
+
+-- the data key that is kept under a key's id with its material
+abbrev pub kept_key : KeyDoc → List Entry → Option (List ℕ)
+kept_key key es = key_from key.material (entry_in key.id es)
+
+-- an entry that was found goes first
+abbrev pub found_first : Option Entry → List Entry → List Entry
+found_first None es = es
+found_first (Some e) es = kept_first e es
+
+-- the entry of an id that is used goes first
+abbrev pub used_first : List ℕ → List Entry → List Entry
+used_first id es = found_first (entry_in id es) es
 
 -- a key that was opened is first; or, where its id was new and there was no memory for it, the list is as before
 abbrev pub KeepsOpened : KeyDoc → List ℕ → List Entry → List Entry → Type 0

@@ -1,9 +1,8 @@
 //! A bounded cache of opened keys.
 
-ghost use Rattle.std.specs.Prelude.{◌≡◌, ℕ, List, [], map, length, bytes_eq, Ok, Some, IfOk, IfSome, MatchBool, ⊤};
-ghost use Rattle.std.specs.Map.{lookup};
+ghost use Rattle.std.specs.Prelude.{◌≡◌, ℕ, List, [], map, length, bytes_eq, option_copied, Ok, IfOk, IfSome};
 ghost use Rattle.local_kms.specs.Wrapped.{Unwraps};
-ghost use Rattle.key_vault.specs.Cached.{AreOpened, capacity, entry_of, Keeps, KeepsOpened};
+ghost use Rattle.key_vault.specs.Cached.{AreOpened, capacity, entry_of, Keeps, KeepsOpened, kept_key, used_first};
 
 use crypto_hooks::Block256;
 use data_key::KeyDoc;
@@ -80,9 +79,10 @@ impl KeyCache {
         ensures answer { Unwraps self.old.master key.now.material result }
         ensures kept { Keeps key.now self.old.entries self.new.entries result }
     {
-        match found(&self.kept, key) {
-            Some(opened) => {
-                self.kept.promote(&key.id);
+        match self.kept_key(key) {
+            Some(kept) => {
+                let opened = again(kept);
+                self.promote(&key.id);
                 Ok(opened)
             }
             None => match unwrap_key(hooks, &self.master, key.material.as_slice()) {
@@ -94,17 +94,32 @@ impl KeyCache {
             },
         }
     }
+
+    /// The data key, where it is kept under the key's id with its material; `None` exactly where it isn't.
+    pub fn kept_key(&self, key: &KeyDoc) -> Option<&DataKey>
+        ensures kept { option_copied result ≡ kept_key key.now self.now.entries }
+        ensures opened { IfSome result (λ k. Unwraps self.now.master key.now.material (Ok k.now)) }
+    {
+        found(&self.kept, key)
+    }
+
+    /// Makes the key of this id the most recently used, where one is kept.
+    pub fn promote(&mut self, id: &[u8; 16])
+        ensures master { self.new.master ≡ self.old.master }
+        ensures first { self.new.entries ≡ used_first id.now self.old.entries }
+    {
+        self.kept.promote(id);
+    }
 }
 
 /// The data key, where it is kept under the key's id with its material.
-fn found(kept: &LruCache<[u8; 16], Opened>, key: &KeyDoc) -> Option<DataKey>
-    ensures found { IfSome result (λ k. lookup (bytes_eq key.now.id) kept.now.entries
-        ≡ Some (record { material = key.now.material; key = k })) }
+fn found<'k>(kept: &'k LruCache<[u8; 16], Opened>, key: &KeyDoc) -> Option<&'k DataKey>
+    ensures found { option_copied result ≡ kept_key key.now (map entry_of kept.now.entries) }
 {
     match kept.peek(&key.id) {
         Some(opened) => {
             if is_material(&opened.material, key.material.as_slice()) {
-                Some(again(&opened.key))
+                Some(&opened.key)
             } else {
                 None
             }
@@ -115,7 +130,7 @@ fn found(kept: &LruCache<[u8; 16], Opened>, key: &KeyDoc) -> Option<DataKey>
 
 /// Whether this material is the one that is kept.
 fn is_material(kept: &[u8; 160], material: &[u8]) -> bool
-    ensures same { MatchBool result (kept.now ≡ material.now) (⊤) }
+    ensures same { result ≡ bytes_eq kept.now material.now }
 {
     kept.as_slice() == material
 }

@@ -98,3 +98,24 @@ fn a_kept_key_doesnt_answer_for_other_material(rt: HostRuntime) -> Result<(), Fa
     assert_eq!(rt; cache.len(), 1);
     Ok(())
 }
+
+#[test]
+fn a_kept_key_is_used_again(rt: HostRuntime) -> Result<(), Fail> {
+    let alloc = rt.alloc();
+    let mut cache = KeyCache::new(alloc, MasterKey::new([7; 96])).map_err(|_| "no memory")?;
+    for byte in 0..3 {
+        assert!(rt;
+            cache
+                .data_key(&Tables, &key_of(alloc, byte, false)?)
+                .is_ok()
+        );
+    }
+    let key = key_of(alloc, 0, false)?;
+    assert!(rt; cache.kept_key(&key).is_some_and(|k| *k.bytes() == [0; 96]));
+    assert!(rt; cache.kept_key(&key_of(alloc, 0, true)?).is_none());
+    assert!(rt; cache.kept_key(&key_of(alloc, 3, false)?).is_none());
+    cache.promote(&key.id);
+    cache.promote(&[3; 16]);
+    assert!(rt; order_of(alloc, &cache)?.as_slice() == [0u8, 2, 1].as_slice());
+    Ok(())
+}
