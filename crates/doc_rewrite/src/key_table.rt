@@ -10,7 +10,7 @@ use fle_outside::Memory;
 use std::alloc::Global;
 use std::marker::Model;
 
-/// So many keys are looked through, which takes less time than a hash; those behind them are found by their hashes.
+/// So many keys are looked through, one after another; those behind them are found by their hashes.
 const FEW: usize = 8;
 
 /// A data key with its id.
@@ -58,7 +58,22 @@ impl KeyTable {
             (λ _. self.new ≡ self.old ++ record { id = id; key = key } ∷ [])
             (λ _. self.new ≡ self.old) }
     {
-        let entry = KeyEntry { id, key };
+        self.add_entry(KeyEntry { id, key })
+    }
+
+    /// Adds a copy of a key behind the others. `Memory`, with the keys as before, for want of memory alone.
+    pub fn add_copy(&mut self, id: [u8; 16], key: &DataKey) -> Result<(), Memory>
+        ensures added { MatchResult result
+            (λ _. self.new ≡ self.old ++ record { id = id; key = key.now } ∷ [])
+            (λ _. self.new ≡ self.old) }
+    {
+        self.add_entry(entry_of(id, key))
+    }
+
+    /// Adds an entry behind the others.
+    fn add_entry(&mut self, entry: KeyEntry) -> Result<(), Memory>
+        ensures added { MatchResult result (λ _. self.new ≡ self.old ++ entry ∷ []) (λ _. self.new ≡ self.old) }
+    {
         if self.few.len() >= FEW {
             return self.others.add(entry);
         }
@@ -77,6 +92,16 @@ impl KeyTable {
             Some(key) => Some(key),
             None => self.others.find(id),
         }
+    }
+}
+
+/// An entry of a copy of a key.
+fn entry_of(id: [u8; 16], key: &DataKey) -> KeyEntry
+    ensures entry { result ≡ record { id = id; key = key.now } }
+{
+    match key.clone() {
+        Ok(key) => KeyEntry { id, key },
+        Err(_) => unreachable!(),
     }
 }
 

@@ -13,11 +13,16 @@ fn id_of(number: u8) -> [u8; 16] {
     ]
 }
 
-/// A table of keys whose ids have these numbers.
+/// A table of keys whose ids have these numbers, those of even numbers copied.
 fn table_of(alloc: Global, numbers: &[u8]) -> Result<KeyTable, Fail> {
     let mut keys = KeyTable::new(alloc);
     for number in numbers {
-        keys.add(id_of(*number), DataKey::new([*number; 96]))?;
+        let key = DataKey::new([*number; 96]);
+        if number % 2 == 0 {
+            keys.add_copy(id_of(*number), &key)?;
+        } else {
+            keys.add(id_of(*number), key)?;
+        }
     }
     Ok(keys)
 }

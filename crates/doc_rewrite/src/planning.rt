@@ -124,7 +124,9 @@ pub fn sites_of(alloc: Global, marks: &Marks, rows: &Rows) -> Result<Vec<Site>, 
     ensures sites { IfOk result (λ v. v.items ≡ sites_by rows.now marks.now) }
     ensures long { IfOk result (λ v. AreLong v.items) }
 {
-    let mut sites = Vec::new(alloc);
+    let Ok(mut sites) = Vec::with_capacity(alloc, marks.len()) else {
+        return Err(Memory);
+    };
     for i in 0..marks.len() {
         match mark_at(marks, i) {
             Some(mark) => {
