@@ -1,12 +1,13 @@
 -- The table of the data keys that are needed, key by key.
-use Rattle.std.proofs.Common.{◌≡◌, ◌∙◌, ℕ, ◌+◌, ◌<◌, List, [], ◌∷◌, ◌++◌, length, drop, get_or, Result, Ok, Err, refl}
+use Rattle.std.proofs.Common.{◌≡◌, ◌∙◌, ℕ, ◌+◌, ◌<◌, List, [], ◌∷◌, ◌++◌, length, drop}
+use Rattle.std.proofs.Common.{get_or, Option, Result, Ok, Err, refl}
 use Rattle.std.proofs.Common.{sym, ap, append_assoc, subst, rules}
 use Rattle.std.proofs.Math.Seq.{drop-cons}
 use Rattle.data_key.specs.declared.key_doc.KeyDoc.{KeyDoc}
 use Rattle.encrypt_schema.specs.Commands.Visits.{Refusal}
 use Rattle.encrypt_schema.specs.declared.command.reason.Reason.{Reason}
-use Rattle.key_vault.specs.Lookup.{key_of}
-use Rattle.key_vault.specs.declared.lookup.Keyless.{Keyless}
+use Rattle.key_vault.specs.Keys.{key_by_id}
+use Rattle.key_vault.specs.Lookup.{key_of, opened_key}
 use Rattle.doc_rewrite.specs.Opened.{Keyring}
 use Rattle.doc_rewrite.specs.declared.key_table.KeyEntry.{KeyEntry}
 use Rattle.context_machine.specs.declared.need.Need.{Need}
@@ -63,7 +64,11 @@ module _ (keys : Keyring) (needs shown : List Need) (same : shown ≡ needs) (i 
       (ap (λ (ns : List Need). behind before (table_of keys ns)) (sym left_over) ∙ left)
 
 -- a cache stays under its master key
-pub under_master : (kept : List KeyDoc) (now master id : List ℕ) (key : Result (List ℕ) Keyless)
-    → key ≡ key_of kept now id → now ≡ master → reasoned key ≡ ring kept master id
-under_master kept now master id key is same =
-    ap reasoned is ∙ ap (λ (m : List ℕ). reasoned (key_of kept m id)) same
+pub under_master : (kept : List KeyDoc) (now master id : List ℕ) → now ≡ master → ring kept now id ≡ ring kept master id
+under_master kept now master id same = ap (λ (m : List ℕ). ring kept m id) same
+
+-- the data key of an id, where the key of this id was looked up
+pub of_found : (kept : List KeyDoc) (master id : List ℕ) (found : Option KeyDoc) → found ≡ key_by_id kept id
+    → ring kept master id ≡ reasoned (opened_key master found)
+unfolding key_of
+of_found kept master id found is = ap (λ (k : Option KeyDoc). reasoned (opened_key master k)) (sym is)

@@ -25,7 +25,9 @@ fn needs_by(alloc: Global, marks: &Marks, rows: &Rows) -> Result<Vec<Need>, Memo
     ensures needs { IfOk result (λ v. v.items ≡ map need_of (sites_by rows.now marks.now)) }
 {
     let sites = sites_of(alloc, marks, rows)?;
-    let mut needs = Vec::new(alloc);
+    let Ok(mut needs) = Vec::with_capacity(alloc, sites.len()) else {
+        return Err(Memory);
+    };
     for site in &sites {
         if needs.push(need_of(site)).is_err() {
             return Err(Memory);

@@ -192,7 +192,9 @@ fn wanted_of<'a>(alloc: Global, found: &Found) -> Result<Wanted<'a>, Memory>
 fn uses_of(alloc: Global, found: &Found) -> Result<Vec<Need>, Memory>
     ensures uses { IfOk result (λ v. v.items ≡ map need_found found.now) }
 {
-    let mut uses = Vec::new(alloc);
+    let Ok(mut uses) = Vec::with_capacity(alloc, found.len()) else {
+        return Err(Memory);
+    };
     for i in 0..found.len() {
         match payload_at(found, i) {
             Some(payload) => {

@@ -1,6 +1,6 @@
 //! The data keys of what is needed.
 
-ghost use Rattle.std.specs.Prelude.{◌≡◌, option_copied};
+ghost use Rattle.std.specs.Prelude.{◌≡◌, option_copied, IfSome, Ok};
 ghost use Rattle.key_vault.specs.Lookup.{key_of, opened_key};
 ghost use Rattle.context_machine.specs.Rings.{keyless_reason, reasoned, ring};
 ghost use Rattle.context_machine.specs.Tables.{PutsKey, TellsTable, table_of};
@@ -66,12 +66,46 @@ pub(crate) fn open_keys_cached<B: Block256>(
 {
     let mut table = KeyTable::new(alloc);
     for n in wanted.needs() {
-        match put_key(&mut table, n, cached_key_for(n, wanted, cache, hooks)) {
+        match put_cached(&mut table, n, wanted, cache, hooks) {
             Ok(()) => {}
             Err(stop) => return Err(stop),
         }
     }
     Ok(table)
+}
+
+/// Puts the data key of a value behind the others: a copy of the one that the cache keeps, or else the one that the
+/// cache opens.
+fn put_cached<B: Block256>(
+    table: &mut KeyTable,
+    n: &Need,
+    wanted: &Wanted<'_>,
+    cache: &mut KeyCache,
+    hooks: &B,
+) -> Result<(), KeysStop>
+    requires hooks { B.answers hooks.now }
+    ensures master { cache.new.master ≡ cache.old.master }
+    ensures put { PutsKey n.now (ring wanted.now.kept cache.old.master n.now.id) table.old table.new result }
+{
+    let key = wanted.by_id(&n.id);
+    match kept_in(cache, key) {
+        Some(kept) => {
+            let put = put_copy(table, n, kept);
+            cache.promote(&n.id);
+            put
+        }
+        None => put_key(table, n, open_cached(hooks, cache, key)),
+    }
+}
+
+/// Puts a copy of the data key of a value behind the others.
+fn put_copy(table: &mut KeyTable, n: &Need, key: &DataKey) -> Result<(), KeysStop>
+    ensures put { PutsKey n.now (Ok key.now) table.old table.new result }
+{
+    match table.add_copy(n.id, key) {
+        Ok(()) => Ok(()),
+        Err(_) => Err(KeysStop::Memory),
+    }
 }
 
 /// Puts the data key of a value behind the others.
@@ -104,19 +138,20 @@ fn key_for<B: Block256>(
     open_key(hooks, master, wanted.by_id(&n.id))
 }
 
-/// The same by a cache.
-#[tactic(auto, unfolding(key_vault::specs::Lookup::key_of))]
-fn cached_key_for<B: Block256>(
-    n: &Need,
-    wanted: &Wanted<'_>,
-    cache: &mut KeyCache,
-    hooks: &B,
-) -> Result<DataKey, Keyless>
-    requires hooks { B.answers hooks.now }
-    ensures master { cache.new.master ≡ cache.old.master }
-    ensures key { result ≡ key_of wanted.now.kept cache.old.master n.now.id }
+/// The data key of a key that was looked up, where a cache keeps it.
+fn kept_in<'k>(cache: &'k KeyCache, key: Option<&KeyDoc>) -> Option<&'k DataKey>
+    ensures kept { IfSome result (λ k. opened_key cache.now.master (option_copied key.entry) ≡ Ok k.now) }
 {
-    open_cached(hooks, cache, wanted.by_id(&n.id))
+    let Some(key) = key else {
+        return None;
+    };
+    match key.provider {
+        Provider::Local => match cache.kept_key(key) {
+            Some(kept) => Some(kept),
+            None => None,
+        },
+        Provider::Other => None,
+    }
 }
 
 /// The data key of a key that was looked up, by a cache.

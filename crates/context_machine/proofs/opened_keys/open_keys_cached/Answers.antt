@@ -1,5 +1,5 @@
 use Rattle.std.proofs.Common.{◌∙◌}
-use Rattle.context_machine.specs.Rings.{reasoned, ring}
+use Rattle.context_machine.specs.Rings.{ring}
 use Rattle.context_machine.proofs.Tables.{next_put, under_master}
 use Rattle.context_machine.proofs.opened_keys.open_keys_cached.Goals as goal
 
@@ -8,10 +8,9 @@ loop-n-preserved g c =
     let kept = c.args.wanted.now.kept in
     let inv = c.loop-n.invariant in
     record {
-      master = c.cached_key_for.ensures.master ∙ inv.master;
+      master = c.put_cached.ensures.master ∙ inv.master;
       left = next_put (ring kept c.args.cache.now.master) c.args.wanted.now.needs c.needs-n-items.result.now
-          c.needs-n-items.ensures.needs c.loop-n.n-index _ c.loop-n-test.true (reasoned c.cached_key_for.result)
-          (under_master kept c.loop-n.cache.master c.args.cache.now.master _ c.cached_key_for.result
-          c.cached_key_for.ensures.key inv.master)
-          c.loop-n.table c.put_key.new.table _ c.in-Ok.ensures.put inv.left;
+          c.needs-n-items.ensures.needs c.loop-n.n-index _ c.loop-n-test.true _
+          (under_master kept c.loop-n.cache.master c.args.cache.now.master _ inv.master)
+          c.loop-n.table c.put_cached.new.table _ c.in-Ok.ensures.put inv.left;
     }
