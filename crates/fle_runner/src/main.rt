@@ -30,7 +30,6 @@ mod device_tests;
 mod encrypt;
 #[cfg(test)]
 mod filter_tests;
-mod gathered;
 mod generator;
 mod help;
 #[cfg(test)]
@@ -90,6 +89,7 @@ use std::process::ExitCode;
 use std::rt::{Clock, Env};
 use std::time::SystemTime;
 
+/// Runs `fle` over the system's streams, files, clock and entropy, or answers `--help` or `--version`.
 fn main(rt: HostRuntime) -> ExitCode {
     let mut diag = StderrSink::new(rt.stderr());
     let status = match words_after_name(&rt) {

@@ -1,69 +1,108 @@
 //! `show`: the text of each document, after MongoDB Extended JSON v2, and a line feed.
 
-ghost use Rattle.std.specs.Prelude.{true, ⊤, ◌≡◌, ◌<◌, ◌≤◌, ◌++◌, ◌∷◌, [], List, ℕ, Some, IfOk};
+ghost use Rattle.std.specs.Prelude.{true, ⊤, ◌≡◌, ◌+◌, ◌<◌, ◌≤◌, List, ℕ, Option, Some, length, drop};
 ghost use Rattle.fle_outside.specs.Counts.{Rose};
 ghost use Rattle.fle_outside.specs.Seen.{EntropySeen};
 ghost use Rattle.fle_runner.specs.Show.{show_task, show_verdict};
 ghost use Rattle.fle_stream.specs.Did.{Did};
-ghost use Rattle.fle_stream.specs.Judge.{JudgeIs};
-ghost use Rattle.fle_stream.specs.Plan.{size_of};
+ghost use Rattle.fle_stream.specs.Outcome.{Course, outcome, judged};
+ghost use Rattle.fle_stream.specs.Plan.{size_in, size_of};
+ghost use Rattle.fle_stream.specs.Streams.{documents, first_size};
 ghost use Rattle.fle_stream.specs.Task.{outcome_of};
-ghost use Rattle.fle_stream.specs.Turn.{IsOfStream, RunTook};
+ghost use Rattle.fle_stream.specs.Turn.{IsOfStream, RunTook, TurnOf};
+ghost use Rattle.fle_stream.specs.declared.why.Why.{Why};
 
-use crate::gathered::Gathered;
 use crate::placing::place_at;
-use bson_codec::RawDoc;
-use ext_json::{NOT_TEXT, Shown, show_text};
-use fle_outside::{Entropy, Failed, Memory, Sink, Source, write_whole};
-use fle_stream::{Cut, End, Judge, Judged, Number, Why, judge_stream};
+use bson_codec::{RawDoc, check_bson};
+use ext_json::{NOT_TEXT, Piece, Shown, show_whole};
+use fle_outside::{Entropy, Memory, Sink, Source};
+use fle_stream::next::{Next, next_document};
+use fle_stream::turning::{Turn, Verb, run_turns};
+use fle_stream::{Bound, Cut, End, Finish, Number, Why};
 use std::alloc::Global;
 
-/// What shows documents.
-#[derive(Drop)]
-struct Shower;
+/// A document is begun only where fewer bytes than this were taken before: 2^40.
+const STREAM_LIMIT: u64 = 1_099_511_627_776;
 
-impl Judge for Shower {
-    ghost verdict = { λ _ document. show_verdict document };
+/// What shows documents: the piece in which their texts are written.
+#[derive(Drop)]
+struct Shower {
+    /// The piece, which holds nothing between two documents that has a meaning.
+    piece: Piece,
+}
+
+impl Verb for Shower {
+    ghost course = { λ _ number taken told. outcome show_verdict number taken (documents told) };
+
+    ghost most = { λ _ told. first_size (documents told) (length told) };
 
     ghost ready = { λ _. ⊤ };
 
-    fn judge<N: Entropy>(
+    ghost quiet = { λ _. ⊤ };
+
+    fn turn<S: Source, O: Sink, N: Entropy>(
         &mut self,
         alloc: Global,
-        document: &RawDoc<'_>,
-        _entropy: &mut N,
-    ) -> Judged {
-        judge_text(alloc, document)
+        number: u64,
+        taken: u64,
+        input: &mut S,
+        out: &mut O,
+        entropy: &mut N,
+    ) -> Turn {
+        if STREAM_LIMIT <= taken {
+            return Turn::Ended(Why::Finished(Finish::Limit(Bound::Stream)));
+        }
+        match next_document(alloc, input) {
+            Next::Framed(bytes) => match check_bson(&bytes) {
+                Ok(document) => {
+                    show_document(alloc, &document, bytes.len(), &mut self.piece, out)
+                }
+                Err(fault) => Turn::Ended(Why::Finished(Finish::Malformed(fault))),
+            },
+            Next::Nothing => Turn::Ended(Why::Finished(Finish::Done)),
+            Next::Over => Turn::Ended(Why::Finished(Finish::Limit(Bound::Document))),
+            Next::Faulty(fault) => Turn::Ended(Why::Finished(Finish::Malformed(fault))),
+            Next::Failed => Turn::Ended(Why::Cut(Cut::Input)),
+            Next::Memory => Turn::Ended(Why::Cut(Cut::Memory)),
+        }
     }
 }
 
-/// The text of a document and a line feed, or the first place that has none.
-fn judge_text(alloc: Global, document: &RawDoc<'_>) -> Judged
+/// Writes the text of a document of `size` bytes and a line feed, or refuses the first place that has none.
+fn show_document<O: Sink>(
+    alloc: Global,
+    document: &RawDoc<'_>,
+    size: usize,
+    piece: &mut Piece,
+    out: &mut O,
+) -> Turn
     requires whole { document.now.start ≡ 0 }
-    ensures judged { (e : EntropySeen) → JudgeIs (show_verdict document.now.tree) e e result }
+    ensures size { (n : ℕ) → result ≡ Turn.Wrote n → n ≡ size }
+    ensures kind { (why : Why) → result ≡ Turn.Ended why → IsOfStream why }
+    ensures turn { (course : Course) (most : List ℕ → ℕ) (number taken : ℕ) (told : List ℕ) (after : Option (List ℕ))
+        (e : EntropySeen)
+        → course number taken told ≡ judged (show_verdict document.now.tree) number size
+        (course (number + 1) (taken + size) (drop size told))
+        → size ≤ most told → after ≡ Some (drop size told)
+        → TurnOf course most number taken told after e e (O.seen out.old) (O.seen out.new) result }
+    ensures no_read { result ≡ Turn.Ended (Why.Cut Cut.Input) → ⊥ }
+    ensures undrawn { result ≡ Turn.Ended (Why.Cut Cut.Entropy) → ⊥ }
+    ensures out_later { (O.seen out.old).faults ≤ (O.seen out.new).faults }
+    ensures out_cause { result ≡ Turn.Ended (Why.Cut Cut.Output)
+        → Rose (O.seen out.old).faults (O.seen out.new).faults }
+    ensures out_sure { size_in (show_verdict document.now.tree) ≤ (O.seen out.old).assured
+        → result ≡ Turn.Ended (Why.Cut Cut.Output) → ⊥ }
 {
-    let mut text = Gathered::new(alloc);
-    match show_text(document, &mut text) {
-        Shown::Written => match line_of(text) {
-            Ok(line) => Judged::Written(line),
-            Err(Memory) => Judged::Memory,
-        },
+    match show_whole(document, b"\n", piece, out) {
+        Shown::Written => Turn::Wrote(size),
         Shown::Bad(at) => match place_at(alloc, document, at) {
-            Ok(place) => Judged::Refused(Number { value: NOT_TEXT }, place),
-            Err(Memory) => Judged::Memory,
+            Ok(place) => Turn::Ended(Why::Finished(Finish::Refused(
+                Number { value: NOT_TEXT },
+                place,
+            ))),
+            Err(Memory) => Turn::Ended(Why::Cut(Cut::Memory)),
         },
-        Shown::Failed => Judged::Memory,
-    }
-}
-
-/// A text and a line feed; `Memory` where there is none for it.
-fn line_of(text: Gathered) -> Result<Vec<u8>, Memory>
-    ensures line { IfOk result (λ line. line.items ≡ text.bytes.items ++ 10 ∷ []) }
-{
-    let mut line = text;
-    match write_whole(&mut line, b"\n") {
-        Ok(()) => Ok(line.bytes),
-        Err(Failed) => Err(Memory),
+        Shown::Failed => Turn::Ended(Why::Cut(Cut::Output)),
     }
 }
 
@@ -87,5 +126,8 @@ pub fn show<S: Source, O: Sink, N: Entropy>(
         → size_of (outcome_of show_task told).outputs ≤ (O.seen out.old).assured → result.why ≡ Why.Cut Cut.Output → ⊥ }
     ensures undrawn { result.why ≡ Why.Cut Cut.Entropy → ⊥ }
 {
-    judge_stream(alloc, Shower, input, out, entropy)
+    let mut verb = Shower {
+        piece: Piece::new(alloc),
+    };
+    run_turns(alloc, &mut verb, input, out, entropy)
 }

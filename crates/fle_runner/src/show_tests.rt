@@ -1,7 +1,8 @@
 //! Whole runs that show documents.
 
-use crate::runs::{Run, expect, look, marking};
+use crate::runs::{Run, document, expect, look, marking};
 use fle_stream::Status;
+use std::alloc::Global;
 use std::test::Fail;
 
 /// A run that shows these documents.
@@ -33,5 +34,48 @@ fn the_first_text_that_is_not_utf8_is_told_at_its_place(rt: HostRuntime) -> Resu
     let input = b"\x0e\x00\x00\x00\x02s\x00\x02\x00\x00\x00\xff\x00\x00";
     let seen = look(rt.alloc(), shown(input))?;
     expect(&rt, &seen, Status::Refused, b"", "fle: 1 1 28 0\n");
+    Ok(())
+}
+
+/// The document {s: 70,000 times `x`, t: this byte}.
+fn long_document(alloc: Global, last: u8) -> Result<Vec<u8>, Fail> {
+    let mut text = Vec::new(alloc);
+    text.resize(70_000, b'x')?;
+    let front = b"\x02s\x00\x71\x11\x01\x00";
+    let between = b"\x00\x02t\x00\x02\x00\x00\x00";
+    document(alloc, &[front, &text, between, &[last, 0]])
+}
+
+/// A run that shows a long document, whose output has this room.
+fn long_shown(input: &[u8], room: usize) -> Run<'_> {
+    Run {
+        step: 100_000,
+        room,
+        ..shown(input)
+    }
+}
+
+#[test]
+fn a_text_longer_than_a_piece_is_shown_whole_or_in_front(rt: HostRuntime) -> Result<(), Fail> {
+    let alloc = rt.alloc();
+    let input = long_document(alloc, b'y')?;
+    let mut line = Vec::from_slice(alloc, b"{\"s\":\"")?;
+    line.resize(70_006, b'x')?;
+    line.extend_from_slice(b"\",\"t\":\"y\"}\n")?;
+    let seen = look(alloc, long_shown(&input, 100_000))?;
+    expect(&rt, &seen, Status::Done, &line, "");
+    for room in [5usize, 66_000, 70_012] {
+        let seen = look(alloc, long_shown(&input, room))?;
+        let front = line.get(..room).unwrap_or(b"");
+        expect(&rt, &seen, Status::WriteFault, front, "fle: 6 1 0 -\n");
+    }
+    Ok(())
+}
+
+#[test]
+fn nothing_is_shown_of_a_long_document_without_a_text(rt: HostRuntime) -> Result<(), Fail> {
+    let input = long_document(rt.alloc(), 0xff)?;
+    let seen = look(rt.alloc(), long_shown(&input, 100_000))?;
+    expect(&rt, &seen, Status::Refused, b"", "fle: 1 1 28 1\n");
     Ok(())
 }
