@@ -27,6 +27,7 @@ use crate::job::{Direction, MOST_BYTES, Subject, subject_of};
 use fle_outside::StdinSource;
 use std::env;
 
+/// Runs the subject that the words name, so many times, and writes its line.
 fn main(rt: HostRuntime) -> anyhow::Result<()> {
     let mut words = env::args(&rt)?;
     let _program = words.next();
