@@ -23,8 +23,9 @@ def some_raw(chance, tag):
     scope = text(some_text(chance)) + spell([(10, "n", b"")])
     return {1: lambda: bytes_of(8), 2: lambda: text(some_text(chance)),
             5: lambda: binary(chance.choice([0, 2, 4, 6]), bytes_of(chance.randrange(9))), 6: lambda: b"",
-            7: lambda: bytes_of(12), 8: lambda: bytes([chance.randrange(2)]), 9: lambda: bytes_of(8), 10: lambda: b"", 11: lambda: b"a.c\0i\0",
-            12: lambda: text("db.c") + bytes_of(12), 13: lambda: text("f()"), 14: lambda: text("sym"),
+            7: lambda: bytes_of(12), 8: lambda: bytes([chance.randrange(2)]), 9: lambda: bytes_of(8), 10: lambda: b"",
+            11: lambda: b"a.c\0i\0", 12: lambda: text("db.c") + bytes_of(12), 13: lambda: text("f()"),
+            14: lambda: text("sym"),
             15: lambda: struct.pack("<i", 4 + len(scope)) + scope, 16: lambda: bytes_of(4), 17: lambda: bytes_of(8),
             18: lambda: bytes_of(8), 19: lambda: bytes_of(16), 127: lambda: b"", 255: lambda: b""}[tag]()
 
@@ -115,7 +116,7 @@ def suited(chance, rules, path, depth):
 
 
 def some_dotted(chance, rules, algorithms="DR"):
-    """A dotted path: often that of a rule with one of these algorithms, or a longer, shorter or other one, or positional."""
+    """A dotted path: often that of a rule with one of these algorithms; or one longer, shorter, other, positional."""
     known = [path for path, rule in rules.items() if rule[0] in algorithms or chance.random() < 0.02]
     if known and chance.random() < 0.85:
         path = list(chance.choice(known))
