@@ -10,6 +10,7 @@ use std::simd::prelude::*;
 // The number of words of a 256-bit key.
 const KEY_WORDS: usize = 8;
 
+// SubWord: the S-box's entry for each byte of a word (FIPS 197, 5.2).
 fn sub_word(w: u32) -> u32
     ensures { result ≡ sub_word w }
 {
@@ -19,6 +20,7 @@ fn sub_word(w: u32) -> u32
     u32::from_be_bytes([s[0], s[1], s[2], s[3]])
 }
 
+// RotWord: the bytes of a word turned left by one place (FIPS 197, 5.2).
 fn rot_word(w: u32) -> u32
     ensures { result ≡ rot_word w }
 {
@@ -34,6 +36,7 @@ fn round_constant(n: usize) -> u32
     1u32 << (n + 23)
 }
 
+// What word i adds to the word eight before it, where t is the word before it (FIPS 197, 5.2).
 fn added_word(i: usize, t: u32) -> u32
     requires low { 8 ≤ i }
     requires high { i < 60 }
@@ -46,6 +49,7 @@ fn added_word(i: usize, t: u32) -> u32
     }
 }
 
+// Word i, from the words before it (FIPS 197, 5.2).
 fn word_at(w: &[u32; 60], i: usize) -> u32
     requires low { 8 ≤ i }
     requires high { i < 60 }
@@ -54,6 +58,7 @@ fn word_at(w: &[u32; 60], i: usize) -> u32
     w[i - KEY_WORDS] ^ added_word(i, w[i - 1])
 }
 
+// The first eight words, which are the key's.
 fn key_words(k: &[u8; 32]) -> [u32; 8]
     ensures { result ≡ key_words k.now }
 {
@@ -69,6 +74,7 @@ fn key_words(k: &[u8; 32]) -> [u32; 8]
     ]
 }
 
+// The 60 words of a 256-bit key.
 pub(crate) fn expanded_words(key: &[u8; 32]) -> [u32; 60]
     ensures { result ≡ expanded key.now }
 {

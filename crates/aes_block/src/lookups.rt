@@ -48,6 +48,7 @@ pub(crate) struct Halves {
     pub(crate) v: u8x16,
 }
 
+// u and v of each byte in that basis: the places at which the tables of its inverse are looked up.
 #[inline(always)]
 pub(crate) fn halved(x: u8x16) -> Halves
     ensures u { result.u ≡ map (half_u INVERSE RATIO) x }

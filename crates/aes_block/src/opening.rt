@@ -24,6 +24,7 @@ struct Multiples {
     fourteen: u8x16,
 }
 
+// The inverse S-box's entries times 09, 0b, 0d and 0e, the last with a key added (FIPS 197, 5.3.2 and 5.3.3).
 #[inline(always)]
 fn products(x: u8x16, key: u8x16) -> Multiples
     ensures nine { result.nine ≡ map (at_halves INVERSE RATIO NINE_U NINE_V) x }
@@ -44,6 +45,7 @@ fn products(x: u8x16, key: u8x16) -> Multiples
     }
 }
 
+// A round r with r % 4 = 1 (FIPS 197, 5.3.5): the state's bytes stand at PLACES_0 before, at PLACES_3 behind it.
 #[inline(always)]
 fn open_round_1(x: u8x16, keys: &OpeningKeys, key: u8x16) -> u8x16
     ensures { (s k : List ℕ) → IsBlock s → IsBlock k → x ≡ placed (map into_open s) PLACES_0
@@ -62,6 +64,7 @@ fn open_round_1(x: u8x16, keys: &OpeningKeys, key: u8x16) -> u8x16
     t ^ turned(s, once)
 }
 
+// A round r with r % 4 = 2 (FIPS 197, 5.3.5): the state's bytes stand at PLACES_3 before, at PLACES_2 behind it.
 #[inline(always)]
 fn open_round_2(x: u8x16, keys: &OpeningKeys, key: u8x16) -> u8x16
     ensures { (s k : List ℕ) → IsBlock s → IsBlock k → x ≡ placed (map into_open s) PLACES_3
@@ -80,6 +83,7 @@ fn open_round_2(x: u8x16, keys: &OpeningKeys, key: u8x16) -> u8x16
     t ^ turned(s, once)
 }
 
+// A round r with r % 4 = 3 (FIPS 197, 5.3.5): the state's bytes stand at PLACES_2 before, at PLACES_1 behind it.
 #[inline(always)]
 fn open_round_3(x: u8x16, keys: &OpeningKeys, key: u8x16) -> u8x16
     ensures { (s k : List ℕ) → IsBlock s → IsBlock k → x ≡ placed (map into_open s) PLACES_2
@@ -98,6 +102,7 @@ fn open_round_3(x: u8x16, keys: &OpeningKeys, key: u8x16) -> u8x16
     t ^ turned(s, once)
 }
 
+// A round r with r % 4 = 0 (FIPS 197, 5.3.5): the state's bytes stand at PLACES_1 before, at PLACES_0 behind it.
 #[inline(always)]
 fn open_round_0(x: u8x16, keys: &OpeningKeys, key: u8x16) -> u8x16
     ensures { (s k : List ℕ) → IsBlock s → IsBlock k → x ≡ placed (map into_open s) PLACES_1
@@ -116,6 +121,7 @@ fn open_round_0(x: u8x16, keys: &OpeningKeys, key: u8x16) -> u8x16
     t ^ turned(s, once)
 }
 
+// The last round, which has no InvMixColumns and brings each byte home (FIPS 197, 5.3.5).
 #[inline(always)]
 fn open_round_14(x: u8x16, keys: &OpeningKeys, key: u8x16) -> u8x16
     ensures { (s k : List ℕ) → IsBlock s → IsBlock k → x ≡ placed (map into_open s) PLACES_3
@@ -126,6 +132,7 @@ fn open_round_14(x: u8x16, keys: &OpeningKeys, key: u8x16) -> u8x16
     turned(a, keys.turn(8))
 }
 
+// The block with the first key added, after the affine map of InvSubBytes (FIPS 197, 5.3.4).
 #[inline(always)]
 fn open_begin(block: u8x16, key: u8x16) -> u8x16
     ensures sum { (k : List ℕ) → IsBlock k → key ≡ map into_open k → result ≡ map into_open (xor_bytes block k) }

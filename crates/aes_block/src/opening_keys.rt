@@ -22,6 +22,7 @@ pub(crate) struct OpeningKeys {
     ghost turns_are: { turns ≡ open_turns },
 }
 
+// The first key of decryption, the schedule's last, after the affine map and in the transformed basis.
 fn first_key(w: &[u32; 60]) -> u8x16
     ensures { result ≡ map into_open (round_key w.now 14) }
 {
@@ -39,6 +40,7 @@ fn unmixed(k: u8x16) -> u8x16
     (((a ^ b) ^ c) ^ d) ^ u8x16::splat(FIVE)
 }
 
+// The schedule's key r through InvMixColumns (FIPS 197, 5.3.5), after the affine map and in that basis.
 fn middle_key(w: &[u32; 60], r: usize) -> u8x16
     requires { r ≤ 14 }
     ensures { result ≡ map into_open (inv_mix_columns (round_key w.now r)) }
@@ -71,6 +73,7 @@ pub(crate) fn opening_keys(w: &[u32; 60]) -> OpeningKeys
 }
 
 impl OpeningKeys {
+    // The positions of shuffle i.
     #[inline(always)]
     pub(crate) fn turn(&self, i: usize) -> u8x16
         requires { i < 9 }
@@ -79,6 +82,7 @@ impl OpeningKeys {
         u8x16::from_array(self.turns[i])
     }
 
+    // The key of decryption's round r; that of 0 is added before the rounds.
     #[inline(always)]
     pub(crate) fn key(&self, r: usize) -> u8x16
         requires { r < 15 }

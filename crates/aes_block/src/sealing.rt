@@ -20,6 +20,7 @@ struct Substituted {
     m: u8x16,
 }
 
+// The S-box's entries without 63: with a key added, and times 02 (FIPS 197, 5.1.1 and 5.1.3).
 #[inline(always)]
 fn substitute(x: u8x16, key: u8x16) -> Substituted
     ensures a { result.a ≡ xor_bytes (map (at_halves INVERSE RATIO ONE_U ONE_V) x) key }
@@ -31,6 +32,7 @@ fn substitute(x: u8x16, key: u8x16) -> Substituted
     Substituted { a, m }
 }
 
+// A round r with r % 4 = 1 (FIPS 197, 5.1): the state's bytes stand at PLACES_0 before, at PLACES_1 behind it.
 #[inline(always)]
 fn round_1(x: u8x16, key: u8x16) -> u8x16
     ensures { (s k : List ℕ) → IsBlock s → IsBlock k → x ≡ placed (map into s) PLACES_0
@@ -43,6 +45,7 @@ fn round_1(x: u8x16, key: u8x16) -> u8x16
     (c ^ d) ^ c.swizzle(TURN_1)
 }
 
+// A round r with r % 4 = 2 (FIPS 197, 5.1): the state's bytes stand at PLACES_1 before, at PLACES_2 behind it.
 #[inline(always)]
 fn round_2(x: u8x16, key: u8x16) -> u8x16
     ensures { (s k : List ℕ) → IsBlock s → IsBlock k → x ≡ placed (map into s) PLACES_1
@@ -55,6 +58,7 @@ fn round_2(x: u8x16, key: u8x16) -> u8x16
     (c ^ d) ^ c.swizzle(TURN_2)
 }
 
+// A round r with r % 4 = 3 (FIPS 197, 5.1): the state's bytes stand at PLACES_2 before, at PLACES_3 behind it.
 #[inline(always)]
 fn round_3(x: u8x16, key: u8x16) -> u8x16
     ensures { (s k : List ℕ) → IsBlock s → IsBlock k → x ≡ placed (map into s) PLACES_2
@@ -67,6 +71,7 @@ fn round_3(x: u8x16, key: u8x16) -> u8x16
     (c ^ d) ^ c.swizzle(TURN_3)
 }
 
+// A round r with r % 4 = 0 (FIPS 197, 5.1): the state's bytes stand at PLACES_3 before, at PLACES_0 behind it.
 #[inline(always)]
 fn round_0(x: u8x16, key: u8x16) -> u8x16
     ensures { (s k : List ℕ) → IsBlock s → IsBlock k → x ≡ placed (map into s) PLACES_3
@@ -79,6 +84,7 @@ fn round_0(x: u8x16, key: u8x16) -> u8x16
     (c ^ d) ^ c.swizzle(TURN_4)
 }
 
+// The last round, which has no MixColumns and brings each byte home (FIPS 197, 5.1).
 #[inline(always)]
 fn round_14(x: u8x16, key: u8x16) -> u8x16
     ensures { (s k : List ℕ) → IsBlock s → IsBlock k → x ≡ placed (map into s) PLACES_1
@@ -89,6 +95,7 @@ fn round_14(x: u8x16, key: u8x16) -> u8x16
     a.swizzle(LAST_PLACES)
 }
 
+// The block in the basis, with the first key added (FIPS 197, 5.1.4).
 #[inline(always)]
 fn begin(block: [u8; 16], key: u8x16) -> u8x16
     ensures sum { result ≡ xor_bytes (map into block) key }
@@ -97,6 +104,7 @@ fn begin(block: [u8; 16], key: u8x16) -> u8x16
     in_basis(u8x16::from_array(block)) ^ key
 }
 
+// The key of round r; that of 0 is added before the rounds.
 #[inline(always)]
 fn key_of(keys: &SealingKeys, r: usize) -> u8x16
     requires { r < 15 }

@@ -33,6 +33,7 @@ fn with_63(x: u8x16) -> u8x16
     x ^ u8x16::splat(0x63)
 }
 
+// The schedule's key r before MixColumns: with 63, in the basis, the sum of the other bytes of each column.
 fn middle_key(w: &[u32; 60], r: usize) -> u8x16
     requires { r ≤ 14 }
     ensures { result ≡ keyed (round_key w.now r) }
@@ -65,24 +66,28 @@ pub(crate) fn sealing_keys(w: &[u32; 60]) -> SealingKeys
     }
 }
 
+// A key with its bytes in the order of PLACES_0.
 pub(crate) fn placed_0(x: u8x16) -> [u8; 16]
     ensures { result ≡ placed x (places 0) }
 {
     x.swizzle(PLACES_0).to_array()
 }
 
+// A key with its bytes in the order of PLACES_1.
 pub(crate) fn placed_1(x: u8x16) -> [u8; 16]
     ensures { result ≡ placed x (places 1) }
 {
     x.swizzle(PLACES_1).to_array()
 }
 
+// A key with its bytes in the order of PLACES_2.
 pub(crate) fn placed_2(x: u8x16) -> [u8; 16]
     ensures { result ≡ placed x (places 2) }
 {
     x.swizzle(PLACES_2).to_array()
 }
 
+// A key with its bytes in the order of PLACES_3.
 pub(crate) fn placed_3(x: u8x16) -> [u8; 16]
     ensures { result ≡ placed x (places 3) }
 {

@@ -21,18 +21,21 @@ fn times_x(a: u8) -> u8
     (a << 1) ^ ((a >> HIGHEST_BIT) * REDUCTION)
 }
 
+// SubBytes: each byte becomes its entry of the S-box (FIPS 197, 5.1.1).
 pub(crate) fn sub_bytes(s: [u8; 16]) -> [u8; 16]
     ensures { result ≡ sub_bytes s }
 {
     substituted(u8x16::from_array(s)).to_array()
 }
 
+// InvSubBytes: each byte becomes its entry of the inverse S-box (FIPS 197, 5.3.2).
 pub(crate) fn inv_sub_bytes(s: [u8; 16]) -> [u8; 16]
     ensures { result ≡ inv_sub_bytes s }
 {
     inv_substituted(u8x16::from_array(s)).to_array()
 }
 
+// ShiftRows: row r turns left by r places (FIPS 197, 5.1.2).
 pub(crate) fn shift_rows(s: [u8; 16]) -> [u8; 16]
     ensures { result ≡ shift_rows s }
 {
@@ -42,6 +45,7 @@ pub(crate) fn shift_rows(s: [u8; 16]) -> [u8; 16]
     ]
 }
 
+// InvShiftRows: row r turns right by r places (FIPS 197, 5.3.1).
 pub(crate) fn inv_shift_rows(s: [u8; 16]) -> [u8; 16]
     ensures { result ≡ inv_shift_rows s }
 {
@@ -65,30 +69,35 @@ fn unmixed_byte(a: u8, b: u8, c: u8, d: u8) -> u8
     (times_14(a) ^ times_11(b)) ^ (times_13(c) ^ times_9(d))
 }
 
+// The product with 09 (FIPS 197, 4.2).
 fn times_9(a: u8) -> u8
     ensures { result ≡ product a 0x09 }
 {
     times_x(times_x(times_x(a))) ^ a
 }
 
+// The product with 0b (FIPS 197, 4.2).
 fn times_11(a: u8) -> u8
     ensures { result ≡ product a 0x0b }
 {
     times_x(times_x(times_x(a)) ^ a) ^ a
 }
 
+// The product with 0d (FIPS 197, 4.2).
 fn times_13(a: u8) -> u8
     ensures { result ≡ product a 0x0d }
 {
     times_x(times_x(times_x(a) ^ a)) ^ a
 }
 
+// The product with 0e (FIPS 197, 4.2).
 fn times_14(a: u8) -> u8
     ensures { result ≡ product a 0x0e }
 {
     times_x(times_x(times_x(a) ^ a) ^ a)
 }
 
+// MixColumns: each column times 03 x^3 + 01 x^2 + 01 x + 02, modulo x^4 + 1 (FIPS 197, 5.1.3).
 pub(crate) fn mix_columns(s: [u8; 16]) -> [u8; 16]
     ensures { result ≡ mix_columns s }
 {
@@ -112,6 +121,7 @@ pub(crate) fn mix_columns(s: [u8; 16]) -> [u8; 16]
     ]
 }
 
+// InvMixColumns: each column times 0b x^3 + 0d x^2 + 09 x + 0e, modulo x^4 + 1 (FIPS 197, 5.3.3).
 pub(crate) fn inv_mix_columns(s: [u8; 16]) -> [u8; 16]
     ensures { result ≡ inv_mix_columns s }
 {
@@ -135,6 +145,7 @@ pub(crate) fn inv_mix_columns(s: [u8; 16]) -> [u8; 16]
     ]
 }
 
+// The bytes of the four words of round r (FIPS 197, 5.1.4).
 pub(crate) fn round_key(w: &[u32; 60], r: usize) -> [u8; 16]
     requires { r ≤ 14 }
     ensures { result ≡ round_key w.now r }
@@ -142,6 +153,7 @@ pub(crate) fn round_key(w: &[u32; 60], r: usize) -> [u8; 16]
     bytes_of([w[4 * r], w[4 * r + 1], w[4 * r + 2], w[4 * r + 3]])
 }
 
+// AddRoundKey: the sum with a round key, byte by byte (FIPS 197, 5.1.4 and 5.3.4).
 pub(crate) fn add_round_key(s: [u8; 16], k: [u8; 16]) -> [u8; 16]
     ensures { result ≡ add_round_key s k }
 {

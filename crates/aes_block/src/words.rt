@@ -3,6 +3,7 @@
 ghost use Rattle.std.specs.Prelude.{◌≡◌};
 ghost use Rattle.aes_block.specs.Block.{four_words};
 
+// The four words of a state; the first byte of each column stands in the highest bits.
 #[inline(always)]
 pub(crate) fn words_of(s: [u8; 16]) -> [u32; 4]
     ensures { four_words result 0 ≡ s }

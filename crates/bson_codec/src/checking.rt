@@ -49,6 +49,7 @@ pub fn raw_length(
     }
 }
 
+// The number of bytes of code with its scope, which has to fill what the code leaves (BSON 1.1).
 #[cycle(check)]
 #[tactic(auto, unfolding(crate::specs::Reading::scope_at))]
 fn scope_length(levels: u32, bytes: &[u8], at: usize) -> Result<usize, BsonFault>

@@ -33,6 +33,7 @@ pub fn put_value(out: &mut Vec<u8>, value: &Value) -> Result<(), Memory>
     }
 }
 
+// Appends the bytes that spell a document, fewer than 2^31. `Memory` where there is none for them.
 #[cycle(put)]
 #[tactic(auto, using(bson_tree::proofs::Sizes::framed_size))]
 fn put_document(out: &mut Vec<u8>, kids: &Kids) -> Result<(), Memory>
@@ -46,6 +47,7 @@ fn put_document(out: &mut Vec<u8>, kids: &Kids) -> Result<(), Memory>
     Ok(())
 }
 
+// Appends the bytes that spell the elements, fewer than 2^31. `Memory` where there is none for them.
 #[cycle(put)]
 #[tactic(auto, using(bson_tree::proofs::Sizes::element_size))]
 fn put_items(out: &mut Vec<u8>, kids: &Kids) -> Result<(), Memory>

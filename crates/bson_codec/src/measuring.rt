@@ -45,6 +45,7 @@ fn is_raw(levels: u32, layout: RawLayout, bytes: &[u8]) -> bool
     }
 }
 
+// How many bytes spell a value; `None` where it has no spelling within so many levels and `room` bytes.
 #[cycle(measure)]
 fn measure_value(value: &Value, levels: u32, room: u64) -> Option<u64>
     requires { room < 2 ^ 31 }
@@ -61,6 +62,7 @@ fn measure_value(value: &Value, levels: u32, room: u64) -> Option<u64>
     }
 }
 
+// How many bytes these are; `None` where they don't have this layout or are more than `room`.
 fn measure_raw(levels: u32, layout: RawLayout, bytes: &[u8], room: u64) -> Option<u64>
     requires { room < 2 ^ 31 }
     ensures size { Measures result (IsRaw (IsItems levels) layout bytes.now) (length bytes.now) room }
@@ -73,6 +75,7 @@ fn measure_raw(levels: u32, layout: RawLayout, bytes: &[u8], room: u64) -> Optio
     }
 }
 
+// How many bytes spell a document, which is a level of its own; `None` as for a value.
 #[cycle(measure)]
 fn measure_document(kids: &Kids, levels: u32, room: u64) -> Option<u64>
     requires { room < 2 ^ 31 }
@@ -85,6 +88,7 @@ fn measure_document(kids: &Kids, levels: u32, room: u64) -> Option<u64>
     Some(n + 5)
 }
 
+// How many bytes spell the elements of a document, one after another; `None` as for a value.
 #[cycle(measure)]
 fn measure_items(kids: &Kids, levels: u32, room: u64) -> Option<u64>
     requires { room < 2 ^ 31 }
@@ -98,6 +102,7 @@ fn measure_items(kids: &Kids, levels: u32, room: u64) -> Option<u64>
     Some(sum)
 }
 
+// How many bytes spell an element: its type, its name and a 00, its value; `None` as for a value.
 #[cycle(measure)]
 fn measure_element(name: &Bytes, value: &Value, levels: u32, room: u64) -> Option<u64>
     requires { room < 2 ^ 31 }

@@ -16,6 +16,7 @@ pub fn copy_doc(alloc: Global, document: &Doc) -> Result<Doc, Memory>
     Ok(Doc { kids })
 }
 
+// An equal value. `Memory` where there is none for it.
 #[cycle(copy)]
 fn copy_value(alloc: Global, value: &Value) -> Result<Value, Memory>
     ensures equal { IfOk result (λ v. v ≡ value.now) }
@@ -30,6 +31,7 @@ fn copy_value(alloc: Global, value: &Value) -> Result<Value, Memory>
     })
 }
 
+// Equal elements in the same order. `Memory` where there is none for them.
 #[cycle(copy)]
 fn copy_kids(alloc: Global, kids: &Kids) -> Result<Kids, Memory>
     ensures equal { IfOk result (λ k. k ≡ kids.now) }
