@@ -1,8 +1,8 @@
 -- The fields of a key document, one behind the other.
-use Rattle.std.proofs.Common.{◌≡◌, ◌∙◌, ◌+◌, ◌*◌, ◌^◌, ◌<◌, ◌≤◌, ℕ, List, [], ◌∷◌, ◌++◌, length, refl, sym, ap, arith}
+use Rattle.std.proofs.Common.{◌≡◌, ◌∙◌, ◌+◌, ◌^◌, ◌<◌, ◌≤◌, ℕ, List, [], ◌∷◌, ◌++◌, length, refl, sym, ap, arith}
 use Rattle.std.proofs.Common.{length-append}
 use Rattle.std.specs.Prelude.{codes}
-use Rattle.bson_tree.specs.Tree.{Tree, Items, node, no_items, item}
+use Rattle.bson_tree.specs.Tree.{Items, node, no_items, item}
 use Rattle.bson_tree.specs.Spelling.{framed, items_bytes, doc_bytes}
 use Rattle.std.proofs.lemmas.List.{append_assoc, append-nil}
 use Rattle.data_key.specs.declared.key_doc.KeyDoc.{KeyDoc}

@@ -1,13 +1,13 @@
 -- A key document as it is written has a spelling.
-use Rattle.std.proofs.Common.{◌≡◌, ◌∙◌, ◌^◌, ℕ, zero, suc, ◌+◌, ◌*◌, ◌<◌, ◌≤◌, Bool, true, false, ◌&&◌, List, [], ◌∷◌}
-use Rattle.std.proofs.Common.{◌++◌, length, map, refl, sym, ap, subst, arith, length-append}
-use Rattle.std.specs.Prelude.{codes, decimal, nat_lt, Result, Ok}
+use Rattle.std.proofs.Common.{◌≡◌, ◌^◌, ℕ, zero, suc, ◌+◌, ◌<◌, ◌≤◌, Bool, true, false, List, [], ◌∷◌}
+use Rattle.std.proofs.Common.{length, map, refl, sym, subst, arith}
+use Rattle.std.specs.Prelude.{codes, decimal, Ok}
 use Rattle.std.proofs.lemmas.Fmt.{decimal_digit, decimal-digits_of}
 use Rattle.std.specs.Int.Digits.{digits_of}
 use Rattle.std.proofs.lemmas.Bool.{false≢true}
-use Rattle.bson_tree.specs.Tree.{Tree, Items, node, no_items, item}
-use Rattle.bson_tree.specs.Spelling.{value_bytes, items_bytes, doc_bytes}
-use Rattle.bson_codec.specs.Layout.{IsName, IsValue, AreElements, IsItems, IsInside, IsDoc}
+use Rattle.bson_tree.specs.Tree.{Items, node, no_items, item}
+use Rattle.bson_tree.specs.Spelling.{items_bytes, doc_bytes}
+use Rattle.bson_codec.specs.Layout.{IsName, IsValue, AreElements, IsItems}
 use Rattle.bson_codec.specs.Reading.{document}
 use Rattle.bson_codec.specs.Table.{layout_of}
 use Rattle.bson_codec.proofs.Documents.{document_again}

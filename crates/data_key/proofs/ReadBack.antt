@@ -1,18 +1,18 @@
 -- A key document as it is written reads back as its key.
-use Rattle.std.proofs.Common.{◌≡◌, ◌∙◌, ℕ, ◌+◌, ◌==◌, Bool, true, false, cond, List, [], ◌∷◌, ◌++◌, length, refl, sym}
-use Rattle.std.proofs.Common.{ap, subst}
-use Rattle.std.specs.Prelude.{codes, decimal, Option, Some, None, Result, Ok}
-use Rattle.bson_tree.specs.Tree.{Tree, Items, node, no_items, item}
+use Rattle.std.proofs.Common.{◌≡◌, ◌∙◌, ℕ, ◌+◌, ◌==◌, Bool, true, cond, List, [], ◌∷◌, length, refl, sym}
+use Rattle.std.proofs.Common.{ap}
+use Rattle.std.specs.Prelude.{codes, Option, Some, None, Result, Ok}
+use Rattle.bson_tree.specs.Tree.{item}
 use Rattle.bson_codec.specs.Layout.{string_bytes}
 use Rattle.data_key.specs.declared.key_doc.KeyDoc.{KeyDoc}
 use Rattle.data_key.specs.declared.key_doc.KeyFault.{KeyFault}
 use Rattle.data_key.specs.declared.key_doc.KeyFault.TheVariants as faults
 use Rattle.data_key.specs.declared.key_doc.Provider.{Provider}
 use Rattle.data_key.specs.declared.key_doc.Provider.TheVariants as providers
-use Rattle.data_key.specs.Key.{key_in, or_fault, ◌>>=◌, id_in, names_in, material_in, provider_in}
-use Rattle.data_key.specs.Standings.{Standing, absent, once, repeated, standing}
-use Rattle.data_key.specs.Values.{are_strings, texts, text_in, of_length, uuid_of}
-use Rattle.data_key.specs.Written.{text, binary, numbered, names_field, history, key_fields, IsWritable, ReadsBack}
+use Rattle.data_key.specs.Key.{key_in, or_fault, ◌>>=◌}
+use Rattle.data_key.specs.Standings.{standing}
+use Rattle.data_key.specs.Values.{are_strings, texts, uuid_of}
+use Rattle.data_key.specs.Written.{binary, numbered, names_field, history, key_fields, IsWritable, ReadsBack}
 use Rattle.bson_tree.specs.Spelling.{doc_bytes}
 use Rattle.data_key.proofs.Laid.{document_is}
 use Rattle.data_key.proofs.Texts.{text_is}

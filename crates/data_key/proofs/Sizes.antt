@@ -1,11 +1,11 @@
 -- How long key documents are.
-use Rattle.std.proofs.Common.{◌≡◌, ◌∙◌, ◌^◌, ℕ, ◌+◌, ◌*◌, ◌<◌, ◌≤◌, List, [], ◌∷◌, ◌++◌, length, arith, length-append}
+use Rattle.std.proofs.Common.{◌≡◌, ℕ, ◌+◌, ◌*◌, ◌≤◌, List, [], ◌∷◌, ◌++◌, length, arith, length-append}
 use Rattle.std.specs.Prelude.{codes, decimal}
 use Rattle.std.proofs.lemmas.Fmt.{length-decimal-le}
-use Rattle.bson_tree.specs.Tree.{Tree, Items, node, no_items, item}
-use Rattle.bson_tree.specs.Spelling.{framed, value_bytes, items_bytes, doc_bytes}
+use Rattle.bson_tree.specs.Tree.{Tree, Items, node, item}
+use Rattle.bson_tree.specs.Spelling.{framed, value_bytes, items_bytes}
 use Rattle.data_key.specs.declared.key_doc.KeyDoc.{KeyDoc}
-use Rattle.data_key.specs.Written.{text, binary, date, int, numbered, names_field, local_key, history, key_fields}
+use Rattle.data_key.specs.Written.{text, binary, numbered, names_field, history, key_fields}
 use Rattle.data_key.specs.Written.{size_of}
 
 -- a document has 5 bytes more than its elements

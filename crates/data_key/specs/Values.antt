@@ -1,7 +1,7 @@
 -- BSON 1.1: values of some types, as key documents have them
 use Rattle.std.specs.Prelude.{ℕ, ◌==◌, ◌-◌, ◌&&◌, Bool, true, List, [], ◌∷◌, length, take, drop, slice_index, Option}
 use Rattle.std.specs.Prelude.{Some, None, if◌then◌else◌}
-use Rattle.bson_tree.specs.Tree.{Tree, Items, no_items, item, tag_of, kids_of}
+use Rattle.bson_tree.specs.Tree.{Tree, Items, no_items, item, tag_of}
 use Rattle.bson_tree.specs.Spelling.{value_bytes}
 
 -- a string (02)

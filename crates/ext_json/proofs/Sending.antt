@@ -6,9 +6,9 @@ use Rattle.std.proofs.Math.Seq.{take-append_seam}
 use Rattle.fle_outside.specs.Seen.{SinkSeen}
 use Rattle.fle_outside.specs.Writing.{Gains, Puts, WritesWhole}
 use Rattle.fle_outside.specs.declared.answers.Failed.{Failed}
-use Rattle.fle_outside.proofs.PartWay.{PartWay, part_begin, part_put, part_put_stop, part_end}
+use Rattle.fle_outside.proofs.PartWay.{PartWay, part_put, part_put_stop, part_end}
 use Rattle.ext_json.specs.Pieces.{Sends}
-use Rattle.ext_json.proofs.Writing.{put_nothing, put_then, put_stops}
+use Rattle.ext_json.proofs.Writing.{put_nothing, put_then}
 
 -- what a piece that tells its bytes holds, behind what it held
 gained : (held now more : List ℕ) → Gains (Some held) (Some now) more → now ≡ held ++ more

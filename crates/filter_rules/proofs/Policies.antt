@@ -1,6 +1,5 @@
 -- The algorithm of the rule of a number.
 use Rattle.std.proofs.Common.{◌≡◌, ℕ, zero, suc, true, List, [], ◌∷◌, Some, None, slice_get, option_map, refl, sym, ap}
-use Rattle.std.proofs.Common.{◌∙◌}
 use Rattle.encrypt_schema.specs.declared.schema.policy.Policy.{Policy}
 use Rattle.encrypt_schema.specs.Language.Row.{Row}
 use Rattle.encrypt_schema.specs.Language.Policies.{policy_at, is_random}

@@ -1,5 +1,5 @@
 -- What keeps a value from being stored comes before what keeps it from being compared.
-use Rattle.std.proofs.Common.{◌≡◌, Bool, true, false, ◌++◌, Option, Some, None}
+use Rattle.std.proofs.Common.{◌≡◌, Bool, true, false, ◌++◌, Some}
 use Rattle.encrypt_schema.specs.declared.command.reason.Reason.{Reason}
 use Rattle.encrypt_schema.specs.declared.command.reason.Reason.TheVariants.{TypeNotAllowed, AlreadyEncrypted}
 use Rattle.encrypt_schema.specs.declared.command.reason.Reason.TheVariants.{RandomCompared, OperatorOnProtected}

@@ -28,7 +28,7 @@ use Rattle.fle_runner.specs.ReadBack.{outputs_back, read_whole, stream}
 use Rattle.fle_runner.specs.Setup.{infos_limit, infos_or, master_limit, master_or, vault_limit, vault_or}
 use Rattle.fle_runner.specs.Setup.{with_infos, with_master, with_vault}
 use Rattle.fle_runner.specs.Verbs.{task, task_of}
-use Rattle.fle_runner.specs.Words.{Form, form_of}
+use Rattle.fle_runner.specs.Words.{Form}
 use Rattle.fle_runner.proofs.Backs.{reads_back, writes_back}
 use Rattle.fle_runner.proofs.Headline.{seals_stream}
 use Rattle.fle_runner.proofs.HeadlineBack.{come_back}

@@ -7,7 +7,7 @@ use Rattle.std.proofs.lemmas.List.{append_assoc}
 use Rattle.std.specs.Cmp.Lexicographic.{bytes_decides, nat_list_eq_equiv}
 use Rattle.std.specs.Prelude.{slice_get, is_some}
 use Rattle.data_key.specs.declared.key_doc.KeyDoc.{KeyDoc}
-use Rattle.key_vault.specs.Keys.{first_key, has_id, has_name, is_among, key_by_id, key_by_name, place_from}
+use Rattle.key_vault.specs.Keys.{first_key, has_id, has_name, is_among, place_from}
 use Rattle.key_vault.specs.Loading.{are_new, is_id_known, is_name_known}
 use Rattle.key_vault.specs.Numbers.{number_of_id, number_of_name}
 

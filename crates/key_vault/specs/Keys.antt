@@ -1,5 +1,5 @@
 -- MongoDB Client Side Encryption, "Key vault": keys by id and by alternate name
-use Rattle.std.specs.Prelude.{ℕ, ◌+◌, Bool, true, false, not, ◌||◌, ◌&&◌, List, [], ◌∷◌, Option, Some, None, bytes_eq}
+use Rattle.std.specs.Prelude.{ℕ, ◌+◌, Bool, false, ◌||◌, List, [], ◌∷◌, Option, Some, None, bytes_eq}
 use Rattle.std.specs.Prelude.{if◌then◌else◌}
 use Rattle.data_key.specs.declared.key_doc.KeyDoc.{KeyDoc}
 

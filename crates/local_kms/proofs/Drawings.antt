@@ -1,11 +1,9 @@
 -- Blocks drawn one after another, and what is made of them.
-use Rattle.std.proofs.Common.{◌≡◌, ◌∙◌, ℕ, zero, suc, ◌+◌, ◌<◌, ◌≤◌, Some, None, Option, Result, Ok, Err, List, [], ◌∷◌}
-use Rattle.std.proofs.Common.{◌++◌, length, drop, refl, sym, ap, subst, arith, append_assoc, length-append}
+use Rattle.std.proofs.Common.{◌≡◌, ◌∙◌, ℕ, zero, suc, ◌+◌, ◌≤◌, Some, None, Option, Result, Ok, Err, List, [], ◌∷◌}
+use Rattle.std.proofs.Common.{◌++◌, length, refl, sym, ap, subst, arith, length-append}
 use Rattle.std.specs.Prelude.{IfOk, unwrap_or}
 use Rattle.fle_outside.proofs.Drawings.{draws_then}
 use Rattle.fle_outside.specs.Blocks.{Block, AreBlocks, IsBlock, DrawTakes, DrawCause, DrawAssured}
-use Rattle.fle_outside.specs.Counts.{Rose}
-use Rattle.fle_outside.specs.Drawing.{Draws}
 use Rattle.fle_outside.specs.Seen.{EntropySeen}
 use Rattle.fle_outside.specs.declared.answers.Failed.{Failed}
 use Rattle.local_kms.specs.Drawn.{Made, FellShort, Makes}

@@ -1,6 +1,6 @@
 -- What opening says of material of 160 bytes.
-use Rattle.std.proofs.Common.{◌≡◌, ◌≢◌, ◌∙◌, ◌↔◌, ℕ, ◌<◌, ◌≤◌, ◌==◌, Bool, true, false, cond, Some, None, Option}
-use Rattle.std.proofs.Common.{Result, Ok, Err, List, [], ◌∷◌, length, take, refl, sym, ap, subst, arith, inl, inr}
+use Rattle.std.proofs.Common.{◌≡◌, ◌≢◌, ◌∙◌, ◌↔◌, ℕ, ◌==◌, Bool, true, false, cond, Some, None, Option}
+use Rattle.std.proofs.Common.{Result, Ok, Err, List, [], length, take, refl, sym, ap, arith, inl, inr}
 use Rattle.std.specs.Prelude.{is_ok, is_some, unwrap_or}
 use Rattle.std.proofs.lemmas.Bool.{false≢true, ne_eqb}
 use Rattle.fle_aead.specs.Sealed.{IsSealedLength, IsWronglyTagged, IsWronglyPadded, opened_message}
@@ -9,7 +9,7 @@ use Rattle.fle_aead.specs.declared.opening.OpenFault.TheVariants as opening
 use Rattle.local_kms.specs.declared.wrapping.UnwrapFault.{UnwrapFault}
 use Rattle.local_kms.specs.declared.wrapping.UnwrapFault.TheVariants as faults
 use Rattle.local_kms.specs.Seen.{fault_seen, IsKeyOf}
-use Rattle.local_kms.specs.Wrapped.{Unwraps, unwrapped, key_of_plain, IsWronglyLong, IsWrongTag, IsWrongPadding}
+use Rattle.local_kms.specs.Wrapped.{Unwraps, unwrapped, key_of_plain}
 
 -- what opening answered
 pub record Opened (master material : List ℕ) (r : Result ℕ OpenFault) : Type 0 where

@@ -1,5 +1,5 @@
 -- MongoDB Client Side Encryption, "Data key creation": a new data key from eight random blocks
-use Rattle.std.specs.Prelude.{◌+◌, ℕ, List, [], ◌∷◌, ◌++◌, get_or, Result, Ok, Err, ⊤}
+use Rattle.std.specs.Prelude.{◌+◌, ℕ, List, [], ◌++◌, get_or, Result, Ok, Err, ⊤}
 use Rattle.fle_outside.specs.Blocks.{Block}
 use Rattle.fle_outside.specs.Seen.{EntropySeen}
 use Rattle.uuid.specs.Parts.{with_version, with_variant}

@@ -1,5 +1,5 @@
 -- What is written so far of the elements, and how far each call goes down.
-use Rattle.std.proofs.Common.{◌≡◌, ◌+◌, ◌*◌, [], ◌++◌}
+use Rattle.std.proofs.Common.{◌+◌, ◌*◌, [], ◌++◌}
 use Rattle.fle_outside.proofs.PartWay.{PartWay}
 use Rattle.ext_json.specs.Text.{elements_text, inside_text, value_text}
 use Rattle.ext_json.proofs.pieces.+sent.Given as goal

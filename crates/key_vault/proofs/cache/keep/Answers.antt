@@ -1,4 +1,4 @@
-use Rattle.std.proofs.Common.{◌≡◌, ◌∙◌, sym, subst, ap, Ok, length}
+use Rattle.std.proofs.Common.{◌∙◌, sym, subst, ap, Ok, length}
 use Rattle.std.specs.Prelude.{bytes_eq}
 use Rattle.local_kms.specs.Wrapped.{Unwraps}
 use Rattle.key_vault.proofs.Kept.{after_put, kept_put, unwrapped_long}

@@ -1,6 +1,5 @@
 use Rattle.std.proofs.Common.{◌≡◌, ◌<◌, ◌+◌, ◌∙◌, ◌∷◌, get_or, length, subst, true, false, not, drop, sym, ap, rules}
 use Rattle.std.specs.Prelude.{is_some}
-use Rattle.key_vault.specs.Keys.{key_by_name}
 use Rattle.key_vault.specs.Loading.{is_name_known}
 use Rattle.key_vault.proofs.Sets.{copied_none, has, next_known, next_of, read_on}
 use Rattle.key_vault.proofs.vault.Vault.are_new.Goals as goal
