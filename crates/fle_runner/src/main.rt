@@ -78,9 +78,13 @@ mod update_tests;
 mod verdict_tests;
 mod words;
 
-use crypto_hooks::Tables;
-use fle_outside::{FileFolder, StderrSink, StdinSource, StdoutSink, SystemEntropy};
-use fle_stream::{Cut, End, Finish, Why, report};
+ghost use Rattle.std.specs.Prelude.{◌≡◌};
+ghost use Rattle.aes_block.specs.Cipher.{cipher, inv_cipher};
+
+use aes_block::{Schedule, cipher_tables, inv_cipher_tables, inv_cipher_tables_pair};
+use crypto_hooks::Hooks;
+use fle_outside::{FileFolder, Sink, StderrSink, StdinSource, StdoutSink, SystemEntropy};
+use fle_stream::{Cut, End, Finish, Status, Why, report};
 use help::{HELP, VERSION, tell};
 use program::fle;
 use std::env;
@@ -89,7 +93,7 @@ use std::process::ExitCode;
 use std::rt::{Clock, Env};
 use std::time::SystemTime;
 
-/// Runs `fle` over the system's streams, files, clock and entropy, or answers `--help` or `--version`.
+/// Runs `fle` over the system's streams and files, or answers `--help` or `--version`.
 fn main(rt: HostRuntime) -> ExitCode {
     let mut diag = StderrSink::new(rt.stderr());
     let status = match words_after_name(&rt) {
@@ -98,27 +102,47 @@ fn main(rt: HostRuntime) -> ExitCode {
             match sole_word(&words) {
                 "--help" => tell(&mut out, &mut diag, HELP),
                 "--version" => tell(&mut out, &mut diag, VERSION),
-                _ => {
-                    let mut input = StdinSource::new(rt.stdin());
-                    let mut files = FileFolder::new(&rt);
-                    let mut entropy = SystemEntropy::new(&rt);
-                    fle(
-                        rt.alloc(),
-                        &words,
-                        now_ms(&rt),
-                        &mut input,
-                        &mut files,
-                        &mut out,
-                        &mut diag,
-                        &mut entropy,
-                        &Tables,
-                    )
-                }
+                _ => over_system(&rt, &words, &mut out, &mut diag),
             }
         }
         Err(why) => report(&mut diag, &End::unread(why)),
     };
     ExitCode::from(status.code())
+}
+
+/// Runs `fle` over the system's input, files, clock and entropy, with the cipher of `aes_block`.
+fn over_system<O: Sink, G: Sink>(
+    rt: &HostRuntime,
+    words: &[String],
+    out: &mut O,
+    diag: &mut G,
+) -> Status {
+    let mut input = StdinSource::new(rt.stdin());
+    let mut files = FileFolder::new(rt);
+    let mut entropy = SystemEntropy::new(rt);
+    let seal = |s: &Schedule, b: [u8; 16]| -> [u8; 16]
+        ensures { result ≡ cipher s.entry.now b }
+    { cipher_tables(s, b) };
+    let unseal = |s: &Schedule, b: [u8; 16]| -> [u8; 16]
+        ensures { result ≡ inv_cipher s.entry.now b }
+    { inv_cipher_tables(s, b) };
+    let unseal_two = |s: &Schedule, a: [u8; 16], b: [u8; 16]| -> ([u8; 16], [u8; 16])
+        ensures first { result.0 ≡ inv_cipher s.entry.now a }
+        ensures second { result.1 ≡ inv_cipher s.entry.now b }
+    { inv_cipher_tables_pair(s, a, b) };
+    let hooks = Hooks::with_pairs(seal, unseal, unseal_two);
+    let now = now_ms(rt);
+    fle(
+        rt.alloc(),
+        words,
+        now,
+        &mut input,
+        &mut files,
+        out,
+        diag,
+        &mut entropy,
+        &hooks,
+    )
 }
 
 /// The words after the program's name. One that isn't UTF-8 has no form.
