@@ -228,3 +228,6 @@ scope_cut bs n s is =
     let k = scope_known bs s in
     let same : length k.code + 5 ≡ n = ok_is (length k.code + 5) n (sym k.read ∙ is) in
     subst (ScopeCut bs) same (scope_cut_at bs k)
+
+-- a value by its type and its bytes
+pub ruleset spelled = (type_is, value_is, value_laid, raw_tree)

@@ -36,7 +36,7 @@ impl<'a> Model for RawItem<'a> {
     ghost invariant = { λ e. (e.start + length e.value.now < 2 ^ 31) × SpellsValue e.tag e.value.now };
 }
 
-#[tactic(auto, using(crate::proofs::Items::type_is, crate::proofs::Items::value_is, crate::proofs::Items::value_laid, crate::proofs::Items::raw_tree, crate::proofs::Views::spelled_doc))]
+#[tactic(auto, using(crate::proofs::Items::spelled, crate::proofs::Views::spelled_doc))]
 impl<'a> RawItem<'a> {
     /// The type byte.
     pub fn tag(&self) -> u8

@@ -57,3 +57,6 @@ name_past (suc i) (pair ∷ pairs) past = name_past i pairs (omega arith)
 pub nth_none : (i : ℕ) → nth i no_items ≡ None
 nth_none zero = refl
 nth_none (suc i) = refl
+
+-- children by their numbers
+pub ruleset children = (count_items, push_items, after_at, nth_at, name_is, nth_past, name_past)

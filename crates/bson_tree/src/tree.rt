@@ -62,7 +62,7 @@ impl Model for Kids {
     ghost size_decreases = { λ a h. falls a.items.items };
 }
 
-#[tactic(auto, using(crate::proofs::Lists::count_items, crate::proofs::Lists::push_items, crate::proofs::Lists::after_at, crate::proofs::Lists::nth_at, crate::proofs::Lists::name_is, crate::proofs::Lists::nth_past, crate::proofs::Lists::name_past))]
+#[tactic(auto, using(crate::proofs::Lists::children))]
 impl Kids {
     /// The empty list; it takes no memory.
     pub fn new(alloc: Global) -> Kids

@@ -24,3 +24,6 @@ pub combined_absent : (f : Standing) → combined f absent ≡ f
 combined_absent absent = refl
 combined_absent (once t) = refl
 combined_absent repeated = refl
+
+-- standings in all fields, by those in the first ones and in the others
+pub ruleset both = (combined_stands_last, combined_absent)

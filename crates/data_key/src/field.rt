@@ -18,7 +18,7 @@ pub(crate) enum Field<'a> {
 }
 
 /// How the name stands among the fields.
-#[tactic(auto, unfolding(crate::specs::Standings::standing), using(crate::proofs::Standing::combined_stands_last, crate::proofs::Standing::combined_absent))]
+#[tactic(auto, unfolding(crate::specs::Standings::standing), using(crate::proofs::Standing::both))]
 pub(crate) fn find_field<'a>(document: &RawDoc<'a>, word: &[u8]) -> Field<'a>
     ensures { seen result ≡ standing word.now document.now.tree }
 {

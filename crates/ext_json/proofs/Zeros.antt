@@ -67,3 +67,6 @@ zero_missing bs n past so_far =
           ∙ (ap (λ (x : List ℕ). take n bs ++ x) before_nil ∙ append-nil (take n bs))),
       so_far.after ∙ (ap after_zero nothing ∙ (after_nil ∙ sym (ap (drop 1) nothing))),
     )
+
+-- the first zero of bytes
+pub ruleset zeros = (zero_next, zero_found, zero_missing)

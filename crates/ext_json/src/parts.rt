@@ -44,7 +44,7 @@ fn split_at_zero<'a>(bytes: &'a [u8]) -> (&'a [u8], &'a [u8])
 }
 
 // Where the first 00 stands, or the number of bytes where there is none.
-#[tactic(auto, using(crate::proofs::Zeros::zero_next, crate::proofs::Zeros::zero_found, crate::proofs::Zeros::zero_missing))]
+#[tactic(auto, using(crate::proofs::Zeros::zeros))]
 fn zero_position(bytes: &[u8]) -> usize
     ensures within { result ≤ length bytes.now }
     ensures before { spec.before_zero bytes.now ≡ take result bytes.now }

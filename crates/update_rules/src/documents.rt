@@ -50,7 +50,7 @@ pub(crate) fn judge_above(at: Cursor, item: &RawItem<'_>) -> Result<Next<UpdateP
 
 /// What an element of a stored document at this path is; or why it is refused: a value that its rule doesn't
 /// allow, and an array on the way to a protected field.
-#[tactic(auto, unfolding(encrypt_schema::specs::Commands::Offences::ruled_offence), using(encrypt_schema::proofs::Paths::Steps::above_path, encrypt_schema::proofs::Paths::Steps::above_stands))]
+#[tactic(auto, unfolding(crate::proofs::Offences::ruled_offence), using(crate::proofs::Offences::above))]
 pub(crate) fn judge_document(
     rows: &Rows,
     at: Cursor,

@@ -17,7 +17,7 @@ use encrypt_schema::{Class, Cursor, MarkFault, Marks, Rows, is_dollar, mark_elem
 ///
 /// The cursor is of these rules, and its class is Above, so that there are rules. With `Refused` and `Memory`
 /// too the marks begin with those that were there before.
-#[tactic(auto, using(encrypt_schema::proofs::Paths::Steps::above_path, encrypt_schema::proofs::Paths::Steps::above_stands))]
+#[tactic(auto, using(crate::proofs::Offences::above))]
 pub fn mark_document(
     marks: &mut Marks,
     rows: &Rows,

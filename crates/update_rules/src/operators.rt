@@ -37,7 +37,7 @@ fn operator_of(name: &[u8]) -> Operator
 
 /// What an operator's argument is; or why the operator is refused: its name doesn't begin with a dollar sign, or
 /// its argument is no document.
-#[tactic(auto, unfolding(encrypt_schema::specs::Commands::Offences::ruled_offence), using(crate::proofs::Reasons::operator_reasons))]
+#[tactic(auto, unfolding(crate::proofs::Offences::ruled_offence), using(crate::proofs::Reasons::operator_reasons))]
 pub(crate) fn judge_operator(item: &RawItem<'_>) -> Result<Next<UpdatePlace>, Reason>
     ensures station { IfOk result (λ next. (rows : List Row) → station_next update_station rows next
         ≡ station rows Operators (entry item.now.name item.now.tree)) }

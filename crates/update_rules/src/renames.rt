@@ -74,7 +74,7 @@ fn refused_names(rows: &Rows, from: &[u8], to: &[u8]) -> Option<Reason>
 
 /// Why an element of the argument of `$rename` is refused: no string; a position on the way to a protected field
 /// in either path; fields that are protected otherwise.
-#[tactic(auto, unfolding(encrypt_schema::specs::Commands::Offences::ruled_offence, encrypt_schema::specs::Commands::Offences::renamed))]
+#[tactic(auto, unfolding(crate::proofs::Offences::ruled_offence, crate::proofs::Offences::renamed))]
 pub(crate) fn refused_rename(rows: &Rows, item: &RawItem<'_>) -> Option<Reason>
     ensures reason { (elder : List (List ℕ))
         → result ≡ ruled_offence rows.now (Argument Operator.Rename) elder (entry item.now.name item.now.tree) }

@@ -16,7 +16,7 @@ use encrypt_schema::{Class, Next, Reason, Rows};
 /// What an element of the argument is, which is stored at its dotted path; or why it is refused: a position on the
 /// way to a protected field, a value that its rule doesn't allow, an array on the way to a protected field, a path
 /// below one.
-#[tactic(auto, unfolding(encrypt_schema::specs::Commands::Offences::ruled_offence), using(encrypt_schema::proofs::Paths::Steps::above_path, encrypt_schema::proofs::Paths::Steps::above_stands))]
+#[tactic(auto, unfolding(crate::proofs::Offences::ruled_offence), using(crate::proofs::Offences::above))]
 pub(crate) fn judge_set(rows: &Rows, item: &RawItem<'_>) -> Result<Next<UpdatePlace>, Reason>
     ensures station { IfOk result (λ next. station_next update_station rows.now next
         ≡ station rows.now Sets (entry item.now.name item.now.tree)) }
