@@ -11,7 +11,7 @@ use crypto_hooks::Block256;
 use data_key::{KeyDoc, Provider};
 use doc_rewrite::KeyTable;
 use encrypt_schema::Reason;
-use fle_aead::DataKey;
+use fle_aead::{DataKey, SharedKey};
 use key_vault::{KeyCache, Keyless, open_key};
 use local_kms::MasterKey;
 use std::alloc::Global;
@@ -74,8 +74,8 @@ pub(crate) fn open_keys_cached<B: Block256>(
     Ok(table)
 }
 
-/// Puts the data key of a value behind the others: a copy of the one that the cache keeps, or else the one that the
-/// cache opens.
+/// Puts the data key of a value behind the others: the one that the cache keeps, shared, or else the one that the cache
+/// opens.
 fn put_cached<B: Block256>(
     table: &mut KeyTable,
     n: &Need,
@@ -88,21 +88,20 @@ fn put_cached<B: Block256>(
     ensures put { PutsKey n.now (ring wanted.now.kept cache.old.master n.now.id) table.old table.new result }
 {
     let key = wanted.by_id(&n.id);
-    match kept_in(cache, key) {
-        Some(kept) => {
-            let put = put_copy(table, n, kept);
+    match shared_in(cache, key) {
+        Some(shared) => {
             cache.promote(&n.id);
-            put
+            put_shared(table, n, shared)
         }
         None => put_key(table, n, open_cached(hooks, cache, key)),
     }
 }
 
-/// Puts a copy of the data key of a value behind the others.
-fn put_copy(table: &mut KeyTable, n: &Need, key: &DataKey) -> Result<(), KeysStop>
-    ensures put { PutsKey n.now (Ok key.now) table.old table.new result }
+/// Puts the data key of a value, which a cache owns too, behind the others.
+fn put_shared(table: &mut KeyTable, n: &Need, key: SharedKey) -> Result<(), KeysStop>
+    ensures put { PutsKey n.now (Ok key) table.old table.new result }
 {
-    match table.add_copy(n.id, key) {
+    match table.add_shared(n.id, key) {
         Ok(()) => Ok(()),
         Err(_) => Err(KeysStop::Memory),
     }
@@ -139,17 +138,14 @@ fn key_for<B: Block256>(
 }
 
 /// The data key of a key that was looked up, where a cache keeps it.
-fn kept_in<'k>(cache: &'k KeyCache, key: Option<&KeyDoc>) -> Option<&'k DataKey>
-    ensures kept { IfSome result (λ k. opened_key cache.now.master (option_copied key.entry) ≡ Ok k.now) }
+fn shared_in(cache: &KeyCache, key: Option<&KeyDoc>) -> Option<SharedKey>
+    ensures kept { IfSome result (λ k. opened_key cache.now.master (option_copied key.entry) ≡ Ok k) }
 {
     let Some(key) = key else {
         return None;
     };
     match key.provider {
-        Provider::Local => match cache.kept_key(key) {
-            Some(kept) => Some(kept),
-            None => None,
-        },
+        Provider::Local => cache.shared_key(key),
         Provider::Other => None,
     }
 }

@@ -110,7 +110,7 @@ fn key_at(entries: &[KeyEntry], number: usize) -> Option<&DataKey>
     ensures key { option_copied result ≡ option_map (λ e. e.key) (slice_get entries.now number) }
 {
     if number < entries.len() {
-        Some(&entries[number].key)
+        Some(entries[number].key.key())
     } else {
         None
     }

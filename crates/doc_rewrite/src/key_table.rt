@@ -5,7 +5,7 @@ ghost use Rattle.std.specs.Prelude.{MatchResult, option_copied, unwrap_or};
 ghost use Rattle.doc_rewrite.specs.Keys.{key_in};
 
 use crate::hashed_keys::HashedKeys;
-use fle_aead::DataKey;
+use fle_aead::{DataKey, SharedKey};
 use fle_outside::Memory;
 use std::alloc::Global;
 use std::marker::Model;
@@ -18,13 +18,14 @@ const FEW: usize = 8;
 pub struct KeyEntry {
     /// The id, a UUID.
     pub id: [u8; 16],
-    /// The data key.
-    pub key: DataKey,
+    /// The data key, which others may own too.
+    pub key: SharedKey,
 }
 
 /// Data keys with their ids, seen as the list of entries in the order in which they were added.
 #[derive(Drop)]
 pub struct KeyTable {
+    alloc: Global,
     few: Vec<KeyEntry>,
     /// Those behind the first `FEW`.
     others: HashedKeys,
@@ -47,6 +48,7 @@ impl KeyTable {
         ensures empty { result ≡ [] }
     {
         KeyTable {
+            alloc,
             few: Vec::new(alloc),
             others: HashedKeys::new(alloc),
         }
@@ -58,16 +60,20 @@ impl KeyTable {
             (λ _. self.new ≡ self.old ++ record { id = id; key = key } ∷ [])
             (λ _. self.new ≡ self.old) }
     {
-        self.add_entry(KeyEntry { id, key })
+        match SharedKey::new(self.alloc, key) {
+            Ok(key) => self.add_shared(id, key),
+            Err(_) => Err(Memory),
+        }
     }
 
-    /// Adds a copy of a key behind the others. `Memory`, with the keys as before, for want of memory alone.
-    pub fn add_copy(&mut self, id: [u8; 16], key: &DataKey) -> Result<(), Memory>
+    /// Adds a key that others own too behind the others, with no copy of it. `Memory`, with the keys as before, for
+    /// want of memory alone.
+    pub fn add_shared(&mut self, id: [u8; 16], key: SharedKey) -> Result<(), Memory>
         ensures added { MatchResult result
-            (λ _. self.new ≡ self.old ++ record { id = id; key = key.now } ∷ [])
+            (λ _. self.new ≡ self.old ++ record { id = id; key = key } ∷ [])
             (λ _. self.new ≡ self.old) }
     {
-        self.add_entry(entry_of(id, key))
+        self.add_entry(KeyEntry { id, key })
     }
 
     /// Adds an entry behind the others.
@@ -95,23 +101,13 @@ impl KeyTable {
     }
 }
 
-/// An entry of a copy of a key.
-fn entry_of(id: [u8; 16], key: &DataKey) -> KeyEntry
-    ensures entry { result ≡ record { id = id; key = key.now } }
-{
-    match key.clone() {
-        Ok(key) => KeyEntry { id, key },
-        Err(_) => unreachable!(),
-    }
-}
-
 /// The first key with this id among a few, which are looked through.
 fn first_key<'k>(entries: &'k [KeyEntry], id: &[u8; 16]) -> Option<&'k DataKey>
     ensures found { option_copied result ≡ key_in entries.now id.now }
 {
     for entry in entries {
         if entry.id == *id {
-            return Some(&entry.key);
+            return Some(entry.key.key());
         }
     }
     None

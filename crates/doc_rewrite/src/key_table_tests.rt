@@ -1,7 +1,7 @@
 //! Tables of more keys than are looked through.
 
 use crate::KeyTable;
-use fle_aead::DataKey;
+use fle_aead::{DataKey, SharedKey};
 use std::alloc::Global;
 use std::test::Fail;
 
@@ -13,13 +13,13 @@ fn id_of(number: u8) -> [u8; 16] {
     ]
 }
 
-/// A table of keys whose ids have these numbers, those of even numbers copied.
+/// A table of keys whose ids have these numbers, those of even numbers shared.
 fn table_of(alloc: Global, numbers: &[u8]) -> Result<KeyTable, Fail> {
     let mut keys = KeyTable::new(alloc);
     for number in numbers {
         let key = DataKey::new([*number; 96]);
         if number % 2 == 0 {
-            keys.add_copy(id_of(*number), &key)?;
+            keys.add_shared(id_of(*number), SharedKey::new(alloc, key)?)?;
         } else {
             keys.add(id_of(*number), key)?;
         }

@@ -18,10 +18,12 @@
 pub use key::DataKey;
 pub use opening::{OpenFault, open_into};
 pub use sealing::{derive_iv, seal_into, sealed_len};
+pub use shared_key::SharedKey;
 
 mod key;
 pub mod laws;
 mod opening;
 mod sealing;
+mod shared_key;
 #[cfg(test)]
 mod tests;

@@ -190,7 +190,7 @@ kept_value key k es e =
     has_key key.material k (lookup (bytes_eq key.id) es) (sym (key_by key.id key.material es) ∙ e)
 
 -- a key that is kept was opened
-kept_opened : (master : List ℕ) (key : KeyDoc) (k : List ℕ) (es : List (List ℕ × Opened)) → AreOpened master es
+pub kept_opened : (master : List ℕ) (key : KeyDoc) (k : List ℕ) (es : List (List ℕ × Opened)) → AreOpened master es
     → kept_key key (map entry_of es) ≡ Some k → Unwraps master key.material (Ok k)
 kept_opened master key k es are e =
     let v = kept_value key k es e in
@@ -198,11 +198,10 @@ kept_opened master key k es are e =
     (subst (λ (x : List ℕ). Unwraps master v.0.material (Ok x)) v.3
     (looked_up master (bytes_eq key.id) es v.0 are v.1))
 
-pub kept_opened_if : (master : List ℕ) (key : KeyDoc) (es : List (List ℕ × Opened)) (r : Option (Bor (List ℕ)))
-    → AreOpened master es → option_copied r ≡ kept_key key (map entry_of es)
-    → IfSome r (λ k. Unwraps master key.material (Ok k.now))
-kept_opened_if master key es None are is = tt
-kept_opened_if master key es (Some k) are is = kept_opened master key k.now es are (sym is)
+-- a key that is shared is the one that is kept
+pub shared_if : (P : List ℕ → Type 0) (k : List ℕ) (r : Option (List ℕ)) → IfSome r (λ s. s ≡ k) → P k → IfSome r P
+shared_if P k None is holds = tt
+shared_if P k (Some s) is holds = subst P (sym is) holds
 
 -- what is promoted is the entry that is used
 pub promoted_used : (id : List ℕ) (es : List (List ℕ × Opened))

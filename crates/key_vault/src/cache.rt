@@ -1,12 +1,13 @@
 //! A bounded cache of opened keys.
 
-ghost use Rattle.std.specs.Prelude.{◌≡◌, ℕ, List, [], map, length, bytes_eq, option_copied, Ok, IfOk, IfSome};
+ghost use Rattle.std.specs.Prelude.{◌≡◌, ℕ, List, [], map, length, bytes_eq, option_copied, Ok, IfOk, IfSome, Some};
 ghost use Rattle.local_kms.specs.Wrapped.{Unwraps};
 ghost use Rattle.key_vault.specs.Cached.{AreOpened, capacity, entry_of, Keeps, KeepsOpened, kept_key, used_first};
 
+use crate::kept_key::{KeptKey, again};
 use crypto_hooks::Block256;
 use data_key::KeyDoc;
-use fle_aead::DataKey;
+use fle_aead::{DataKey, SharedKey};
 use fle_outside::Memory;
 use local_kms::{MasterKey, UnwrapFault, unwrap_key};
 use lru::LruCache;
@@ -27,12 +28,13 @@ const MATERIAL: usize = 160;
 #[derive(Drop)]
 pub(crate) struct Opened {
     material: [u8; 160],
-    key: DataKey,
+    key: KeptKey,
 }
 
 /// A master key and at most 64 keys that were opened under it, the most recently used first.
 #[derive(Drop)]
 pub struct KeyCache {
+    alloc: Global,
     master: MasterKey,
     kept: LruCache<[u8; 16], Opened>,
 }
@@ -59,7 +61,11 @@ impl KeyCache {
             unreachable!()
         };
         match LruCache::new(alloc, most) {
-            Ok(kept) => Ok(KeyCache { master, kept }),
+            Ok(kept) => Ok(KeyCache {
+                alloc,
+                master,
+                kept,
+            }),
             Err(_) => Err(Memory),
         }
     }
@@ -87,7 +93,7 @@ impl KeyCache {
             }
             None => match unwrap_key(hooks, &self.master, key.material.as_slice()) {
                 Ok(opened) => {
-                    keep(&mut self.kept, &self.master, key, &opened);
+                    keep(self.alloc, &mut self.kept, &self.master, key, &opened);
                     Ok(opened)
                 }
                 Err(fault) => Err(fault),
@@ -96,11 +102,26 @@ impl KeyCache {
     }
 
     /// The data key, where it is kept under the key's id with its material; `None` exactly where it isn't.
-    pub fn kept_key(&self, key: &KeyDoc) -> Option<&DataKey>
+    pub(crate) fn kept_key(&self, key: &KeyDoc) -> Option<&DataKey>
         ensures kept { option_copied result ≡ kept_key key.now self.now.entries }
         ensures opened { IfSome result (λ k. Unwraps self.now.master key.now.material (Ok k.now)) }
     {
-        found(&self.kept, key)
+        match found(&self.kept, key) {
+            Some(kept) => Some(kept.key()),
+            None => None,
+        }
+    }
+
+    /// The data key, shared, where it is kept under the key's id with its material; `None` where it isn't, and for want
+    /// of memory.
+    pub fn shared_key(&self, key: &KeyDoc) -> Option<SharedKey>
+        ensures kept { IfSome result (λ k. kept_key key.now self.now.entries ≡ Some k) }
+        ensures opened { IfSome result (λ k. Unwraps self.now.master key.now.material (Ok k)) }
+    {
+        match found(&self.kept, key) {
+            Some(kept) => kept.share(),
+            None => None,
+        }
     }
 
     /// Makes the key of this id the most recently used, where one is kept.
@@ -113,7 +134,7 @@ impl KeyCache {
 }
 
 /// The data key, where it is kept under the key's id with its material.
-fn found<'k>(kept: &'k LruCache<[u8; 16], Opened>, key: &KeyDoc) -> Option<&'k DataKey>
+fn found<'k>(kept: &'k LruCache<[u8; 16], Opened>, key: &KeyDoc) -> Option<&'k KeptKey>
     ensures found { option_copied result ≡ kept_key key.now (map entry_of kept.now.entries) }
 {
     match kept.peek(&key.id) {
@@ -135,16 +156,6 @@ fn is_material(kept: &[u8; 160], material: &[u8]) -> bool
     kept.as_slice() == material
 }
 
-/// The same key.
-fn again(key: &DataKey) -> DataKey
-    ensures same { result ≡ key.now }
-{
-    match key.clone() {
-        Ok(key) => key,
-        Err(_) => unreachable!(),
-    }
-}
-
 /// The material, which has 160 bytes.
 fn array_of(material: &[u8]) -> [u8; 160]
     requires { length material.now ≡ 160 }
@@ -156,7 +167,13 @@ fn array_of(material: &[u8]) -> [u8; 160]
 }
 
 /// Keeps a key that was opened, before the others. Where there is no memory for it, it isn't kept.
-fn keep(kept: &mut LruCache<[u8; 16], Opened>, master: &MasterKey, key: &KeyDoc, opened: &DataKey)
+fn keep(
+    alloc: Global,
+    kept: &mut LruCache<[u8; 16], Opened>,
+    master: &MasterKey,
+    key: &KeyDoc,
+    opened: &DataKey,
+)
     requires opened { AreOpened master.now kept.old.entries }
     requires full { kept.old.cap ≡ capacity }
     requires right { Unwraps master.now key.now.material (Ok opened.now) }
@@ -170,7 +187,7 @@ fn keep(kept: &mut LruCache<[u8; 16], Opened>, master: &MasterKey, key: &KeyDoc,
         key.id,
         Opened {
             material,
-            key: again(opened),
+            key: KeptKey::new(alloc, opened),
         },
     );
 }

@@ -1,6 +1,5 @@
 //! Key vaults: the keys of a file, found by id and by name, and a cache of the keys that were opened (MongoDB Client
-//! Side
-//! Encryption, "Key vault").
+//! Side Encryption, "Key vault").
 //!
 //! ```rust
 //! let vault = Vault::load(alloc, &file)?;
@@ -12,6 +11,7 @@
 
 mod cache;
 mod faults;
+mod kept_key;
 mod loading;
 mod lookup;
 mod numbers;

@@ -12,9 +12,9 @@ array_of-material-requires c =
 pub returns-clause-opened : goal.returns-clause-opened
 returns-clause-opened c =
     let right =
-    subst (λ m. Unwraps c.args.master.now m (Ok c.again.result))
+    subst (λ m. Unwraps c.args.master.now m (Ok c.new.result))
     (sym (c.array_of-material.ensures ∙ c.as_slice.ensures.same))
-    (subst (λ k. Unwraps c.args.master.now c.args.key.now.material (Ok k)) (sym c.again.ensures.same) c.requires.right)
+    (subst (λ k. Unwraps c.args.master.now c.args.key.now.material (Ok k)) (sym c.new.ensures.key) c.requires.right)
     in
     after_put c.args.master.now bytes_eq c.args.kept.now c.put.new.self c.args.key.now.id _ c.put.result
     c.requires.opened right c.put.ensures.entries c.put.ensures.err
@@ -23,7 +23,7 @@ pub returns-clause-kept : goal.returns-clause-kept
 returns-clause-kept c =
     kept_put c.args.key.now c.args.opened.now (record {
       material = c.array_of-material.result;
-      key = c.again.result;
+      key = c.new.result;
     }) c.args.kept.now c.put.new.self c.put.result
-    c.requires.full (c.array_of-material.ensures ∙ c.as_slice.ensures.same) c.again.ensures.same c.put.ensures.entries
+    c.requires.full (c.array_of-material.ensures ∙ c.as_slice.ensures.same) c.new.ensures.key c.put.ensures.entries
     c.put.ensures.err c.put.ensures.succeeds
