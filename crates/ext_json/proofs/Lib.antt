@@ -16,3 +16,4 @@ pub mod TextUtf8
 pub mod LaidOut
 pub mod Deepest
 pub mod Sending
+pub mod MemberOrder

@@ -1,14 +1,27 @@
 //! Laws of texts: what holds of all documents. The functions do nothing; their clauses are the laws.
 
-ghost use Rattle.std.specs.Prelude.{◌≡◌, ◌+◌, ◌++◌, ◌∷◌, ◌<◌, ◌^◌, ℕ, List, [], length, None, true, Err, IsUtf8};
+ghost use Rattle.std.specs.Prelude.{◌≡◌, ◌+◌, ◌++◌, ◌∷◌, ◌<◌, ◌^◌, ℕ, List, [], length, None, true, Ok, Err, IsUtf8};
 ghost use Rattle.bson_tree.specs.Tree.{Items};
 ghost use Rattle.bson_codec.specs.Layout.{IsDoc, IsName, binary_bytes, level_limit, scope_bytes, string_bytes};
 ghost use Rattle.ext_json.specs.BadText.{first_bad};
 ghost use Rattle.ext_json.specs.Infos.{json_infos};
 ghost use Rattle.ext_json.specs.Parts as spec;
 ghost use Rattle.ext_json.specs.Text.{inside_text, text};
+ghost use Rattle.ext_json.specs.declared.laws.TheConstants.{B_BEFORE_A, A_BEFORE_B, A_TWICE, THE_LAST_A};
 
 use crate::fault::JsonFault;
+
+/// Infos in JSON: one object, which names `b` before `a`.
+const B_BEFORE_A: [u8; 21] = *b"[{\"b\":true,\"a\":true}]";
+
+/// Their BSON, in which `a` stands before `b`.
+const A_BEFORE_B: [u8; 13] = *b"\x0D\0\0\0\x08a\0\x01\x08b\0\x01\0";
+
+/// Infos in JSON: one object, which names `a` twice.
+const A_TWICE: [u8; 22] = *b"[{\"a\":false,\"a\":true}]";
+
+/// Their BSON: the last value alone, which is true.
+const THE_LAST_A: [u8; 9] = *b"\x09\0\0\0\x08a\0\x01\0";
 
 /// The text of a document without a bad place is UTF-8 (RFC 3629).
 pub fn texts_are_utf8()
@@ -40,4 +53,11 @@ pub fn parts_are_those_laid_out()
 /// No text comes to want of memory: that is an answer of `infos_from_json` alone.
 pub fn no_text_wants_memory()
     ensures never { (written : List ℕ) → json_infos written ≡ Err JsonFault.Memory → ⊥ }
+{}
+
+/// The members of an object stand in the order of their names' bytes, and of two with one name the last one counts: the
+/// checker computes it of two texts.
+pub fn members_of_an_object()
+    ensures sorted { json_infos B_BEFORE_A ≡ Ok A_BEFORE_B }
+    ensures last { json_infos A_TWICE ≡ Ok THE_LAST_A }
 {}
