@@ -145,7 +145,10 @@ fn shared_in(cache: &KeyCache, key: Option<&KeyDoc>) -> Option<SharedKey>
         return None;
     };
     match key.provider {
-        Provider::Local => cache.shared_key(key),
+        Provider::Local => match cache.shared_key(key) {
+            Ok(shared) => shared,
+            Err(_) => None,
+        },
         Provider::Other => None,
     }
 }

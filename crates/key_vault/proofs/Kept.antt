@@ -198,11 +198,6 @@ kept_opened master key k es are e =
     (subst (λ (x : List ℕ). Unwraps master v.0.material (Ok x)) v.3
     (looked_up master (bytes_eq key.id) es v.0 are v.1))
 
--- a key that is shared is the one that is kept
-pub shared_if : (P : List ℕ → Type 0) (k : List ℕ) (r : Option (List ℕ)) → IfSome r (λ s. s ≡ k) → P k → IfSome r P
-shared_if P k None is holds = tt
-shared_if P k (Some s) is holds = subst P (sym is) holds
-
 -- what is promoted is the entry that is used
 pub promoted_used : (id : List ℕ) (es : List (List ℕ × Opened))
     → map entry_of (promoted (bytes_eq id) es) ≡ used_first id (map entry_of es)

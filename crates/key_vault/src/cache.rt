@@ -112,15 +112,18 @@ impl KeyCache {
         }
     }
 
-    /// The data key, shared, where it is kept under the key's id with its material; `None` where it isn't, and for want
-    /// of memory.
-    pub fn shared_key(&self, key: &KeyDoc) -> Option<SharedKey>
-        ensures kept { IfSome result (λ k. kept_key key.now self.now.entries ≡ Some k) }
-        ensures opened { IfSome result (λ k. Unwraps self.now.master key.now.material (Ok k)) }
+    /// The data key, shared, where it is kept under the key's id with its material; `None` exactly where it isn't.
+    /// `Memory` for want of memory alone.
+    pub fn shared_key(&self, key: &KeyDoc) -> Result<Option<SharedKey>, Memory>
+        ensures kept { IfOk result (λ k. k ≡ kept_key key.now self.now.entries) }
+        ensures opened { IfOk result (λ k. IfSome k (λ k. Unwraps self.now.master key.now.material (Ok k))) }
     {
-        match found(&self.kept, key) {
-            Some(kept) => kept.share(),
-            None => None,
+        let Some(kept) = found(&self.kept, key) else {
+            return Ok(None);
+        };
+        match kept.share() {
+            Ok(shared) => Ok(Some(shared)),
+            Err(_) => Err(Memory),
         }
     }
 

@@ -1,8 +1,9 @@
 //! A data key as a cache keeps it.
 
-ghost use Rattle.std.specs.Prelude.{◌≡◌, IfSome};
+ghost use Rattle.std.specs.Prelude.{◌≡◌, IfOk};
 
 use fle_aead::{DataKey, SharedKey};
+use fle_outside::Memory;
 use std::alloc::Global;
 use std::marker::Model;
 
@@ -41,13 +42,16 @@ impl KeptKey {
         &self.key
     }
 
-    /// The same key, shared; `None` for want of memory alone.
-    pub(crate) fn share(&self) -> Option<SharedKey>
-        ensures key { IfSome result (λ s. s ≡ self.now) }
+    /// The same key, shared. `Memory` for want of memory alone.
+    pub(crate) fn share(&self) -> Result<SharedKey, Memory>
+        ensures key { IfOk result (λ s. s ≡ self.now) }
     {
-        match &self.shared {
-            Some(shared) => shared.clone().ok(),
-            None => None,
+        let Some(shared) = &self.shared else {
+            return Err(Memory);
+        };
+        match shared.clone() {
+            Ok(shared) => Ok(shared),
+            Err(_) => Err(Memory),
         }
     }
 }
