@@ -73,7 +73,7 @@ fn a_value_fills_its_bytes_and_its_levels(rt: HostRuntime) {
 
 #[test]
 fn malformed_bytes_have_their_first_fault(rt: HostRuntime) {
-    let cases: [(&[u8], BsonKind, usize); 11] = [
+    let cases: &[(&[u8], BsonKind, usize)] = &[
         (b"\x05\x00\x00", BsonKind::Short, 3),
         (b"\x05\x00\x00\x00", BsonKind::Short, 4),
         (b"\x04\x00\x00\x00\x00", BsonKind::Length, 0),
@@ -96,7 +96,11 @@ fn malformed_bytes_have_their_first_fault(rt: HostRuntime) {
     ];
     for (bytes, kind, offset) in cases {
         assert!(rt; bytes.len() < 100);
-        assert_eq!(rt; check_bson(bytes).err(), Some(BsonFault { kind, offset }));
+        let fault = BsonFault {
+            kind: *kind,
+            offset: *offset,
+        };
+        assert_eq!(rt; check_bson(bytes).err(), Some(fault));
     }
 }
 

@@ -61,7 +61,7 @@ fn expect_fault(rt: &impl Abort, alloc: Global, bytes: &[u8], kind: BsonKind, of
 
 #[test]
 fn a_fault_of_a_length_or_a_name_has_its_kind_and_offset(rt: HostRuntime) {
-    let cases: [(&[u8], BsonKind, usize); 10] = [
+    let cases: &[(&[u8], BsonKind, usize)] = &[
         (b"", BsonKind::Short, 0),
         (b"\x05\x00\x00", BsonKind::Short, 3),
         (b"\x04\x00\x00\x00\x00", BsonKind::Length, 0),
@@ -74,13 +74,13 @@ fn a_fault_of_a_length_or_a_name_has_its_kind_and_offset(rt: HostRuntime) {
         (b"\x07\x00\x00\x00\x10a\x00", BsonKind::NoEnd, 6),
     ];
     for (bytes, kind, offset) in cases {
-        expect_fault(&rt, rt.alloc(), bytes, kind, offset);
+        expect_fault(&rt, rt.alloc(), bytes, *kind, *offset);
     }
 }
 
 #[test]
 fn a_fault_of_a_value_has_its_kind_and_offset(rt: HostRuntime) {
-    let cases: [(&[u8], BsonKind, usize); 10] = [
+    let cases: &[(&[u8], BsonKind, usize)] = &[
         (
             b"\x0B\x00\x00\x00\x10n\x00\x01\x00\x00\x00",
             BsonKind::Short,
@@ -129,7 +129,7 @@ fn a_fault_of_a_value_has_its_kind_and_offset(rt: HostRuntime) {
         ),
     ];
     for (bytes, kind, offset) in cases {
-        expect_fault(&rt, rt.alloc(), bytes, kind, offset);
+        expect_fault(&rt, rt.alloc(), bytes, *kind, *offset);
     }
 }
 
@@ -137,7 +137,7 @@ fn a_fault_of_a_value_has_its_kind_and_offset(rt: HostRuntime) {
 // command.
 #[test]
 fn documents_of_each_type_are_read_and_written_again(rt: HostRuntime) -> Result<(), Fail> {
-    let cases: [&[u8]; 16] = [
+    let cases: &[&[u8]] = &[
         b"\x10\x00\x00\x00\x01d\x00\x00\x00\x00\x00\x00\x00\xF0\x3F\x00",
         b"\x0D\x00\x00\x00\x05x\x00\x00\x00\x00\x00\x00\x00",
         b"\x08\x00\x00\x00\x06a\x00\x00",
@@ -160,7 +160,7 @@ fn documents_of_each_type_are_read_and_written_again(rt: HostRuntime) -> Result<
         let document = decode(rt.alloc(), bytes)?;
         assert!(rt; well_formed(&document));
         let again = encode(rt.alloc(), &document)?;
-        assert_eq!(rt; again.as_slice(), bytes);
+        assert_eq!(rt; again.as_slice(), *bytes);
     }
     Ok(())
 }
@@ -226,7 +226,7 @@ fn a_string_without_its_00_is_not_well_formed(rt: HostRuntime) -> Result<(), Fai
 
 #[test]
 fn kinds_are_numbered_from_one(rt: HostRuntime) {
-    let kinds = [
+    let kinds: &[BsonKind] = &[
         BsonKind::Short,
         BsonKind::Length,
         BsonKind::Tag,

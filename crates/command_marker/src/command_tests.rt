@@ -129,7 +129,7 @@ fn compared(start: u32, end: u32, tag: u8, policy: u32) -> Option<Mark> {
 
 #[test]
 fn protected_values_are_marked(rt: HostRuntime) -> Result<(), Fail> {
-    let cases: [(&[u8], &[u8], Outcome); 3] = [
+    let cases: &[(&[u8], &[u8], Outcome)] = &[
         (STAFF, NESTED, Outcome::Marked(1, stored(54, 58, 0x10, 0))),
         (STAFF, NUMBER, Outcome::Marked(0, None)),
         (
@@ -139,28 +139,28 @@ fn protected_values_are_marked(rt: HostRuntime) -> Result<(), Fail> {
         ),
     ];
     for (schema, command, expected) in cases {
-        assert_eq!(rt; what_becomes(rt.alloc(), schema, command)?, expected);
+        assert_eq!(rt; what_becomes(rt.alloc(), schema, command)?, *expected);
     }
     Ok(())
 }
 
 #[test]
 fn compared_and_updated_values_are_marked(rt: HostRuntime) -> Result<(), Fail> {
-    let cases: [(&[u8], &[u8], Option<Mark>); 3] = [
+    let cases: &[(&[u8], &[u8], Option<Mark>)] = &[
         (PEOPLE_SCHEMA, FIND, compared(38, 44, 0x02, 0)),
         (PEOPLE_SCHEMA, DELETE, compared(74, 80, 0x02, 0)),
         (STAFF, SET, stored(72, 76, 0x10, 0)),
     ];
     for (schema, command, mark) in cases {
         let marked = what_becomes(rt.alloc(), schema, command)?;
-        assert_eq!(rt; marked, Outcome::Marked(1, mark));
+        assert_eq!(rt; marked, Outcome::Marked(1, *mark));
     }
     Ok(())
 }
 
 #[test]
 fn contents_are_refused_where_they_stand(rt: HostRuntime) -> Result<(), Fail> {
-    let cases: [(&[u8], &[u8], Reason, u32); 6] = [
+    let cases: &[(&[u8], &[u8], Reason, u32)] = &[
         (STAFF, ARRAY, Reason::ArrayOnPath, 47),
         (PEOPLE_SCHEMA, NULL, Reason::TypeNotAllowed, 50),
         (PEOPLE_SCHEMA, SEALED, Reason::AlreadyEncrypted, 53),
@@ -171,7 +171,7 @@ fn contents_are_refused_where_they_stand(rt: HostRuntime) -> Result<(), Fail> {
     for (schema, command, reason, at) in cases {
         assert_eq!(rt;
             what_becomes(rt.alloc(), schema, command)?,
-            Outcome::Refused(reason, at)
+            Outcome::Refused(*reason, *at)
         );
     }
     Ok(())
@@ -179,7 +179,7 @@ fn contents_are_refused_where_they_stand(rt: HostRuntime) -> Result<(), Fail> {
 
 #[test]
 fn fields_are_refused_before_contents(rt: HostRuntime) -> Result<(), Fail> {
-    let cases: [(&[u8], Reason, u32); 6] = [
+    let cases: &[(&[u8], Reason, u32)] = &[
         (OTHER_DB, Reason::WrongDb, 44),
         (AGGREGATE, Reason::NotACommand, 15),
         (b"\x05\x00\x00\x00\x00", Reason::NotACommand, 0),
@@ -190,7 +190,7 @@ fn fields_are_refused_before_contents(rt: HostRuntime) -> Result<(), Fail> {
     for (command, reason, at) in cases {
         assert_eq!(rt;
             what_becomes(rt.alloc(), PEOPLE_SCHEMA, command)?,
-            Outcome::Refused(reason, at)
+            Outcome::Refused(*reason, *at)
         );
     }
     Ok(())

@@ -53,27 +53,27 @@ fn values_are_marked_by_the_offsets_of_what_was_checked(rt: HostRuntime) -> Resu
 
 #[test]
 fn values_are_refused_by_the_offsets_of_what_was_checked(rt: HostRuntime) -> Result<(), Fail> {
-    let cases: [(&[u8], Reason, u32); 3] = [
+    let cases: &[(&[u8], Reason, u32)] = &[
         (NULL, Reason::TypeNotAllowed, 57),
         (OTHER_DB, Reason::WrongDb, 51),
         (AGGREGATE, Reason::NotACommand, 22),
     ];
     for (command, reason, at) in cases {
         let refused = what_becomes(rt.alloc(), PEOPLE_SCHEMA, command)?;
-        assert_eq!(rt; refused, Outcome::Refused(reason, at));
+        assert_eq!(rt; refused, Outcome::Refused(*reason, *at));
     }
     Ok(())
 }
 
 #[test]
 fn a_command_itself_is_refused_at_0_wherever_it_begins(rt: HostRuntime) -> Result<(), Fail> {
-    let cases: [(&[u8], Reason); 2] = [
+    let cases: &[(&[u8], Reason)] = &[
         (NO_DOCUMENTS, Reason::BadField),
         (b"\x05\x00\x00\x00\x00", Reason::NotACommand),
     ];
     for (command, reason) in cases {
         let refused = what_becomes(rt.alloc(), PEOPLE_SCHEMA, command)?;
-        assert_eq!(rt; refused, Outcome::Refused(reason, 0));
+        assert_eq!(rt; refused, Outcome::Refused(*reason, 0));
     }
     Ok(())
 }

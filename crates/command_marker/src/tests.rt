@@ -93,13 +93,13 @@ fn without_rules_nothing_is_marked(rt: HostRuntime) -> Result<(), Fail> {
 
 #[test]
 fn a_clear_reply_holds_the_command(rt: HostRuntime) -> Result<(), Fail> {
-    let cases: [(&[u8], &[u8]); 2] = [(NOTES, NOTES_REPLY), (PING, PING_REPLY)];
+    let cases: &[(&[u8], &[u8])] = &[(NOTES, NOTES_REPLY), (PING, PING_REPLY)];
     for (command, reply) in cases {
         if command.len() > 1000 {
             return Err("a test's document is too long".into());
         }
         match reply_clear(rt.alloc(), &check_bson(command)?) {
-            Ok(bytes) => assert!(rt; bytes.as_slice() == reply),
+            Ok(bytes) => assert!(rt; bytes.as_slice() == *reply),
             Err(_) => assert!(rt; false),
         }
     }

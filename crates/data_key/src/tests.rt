@@ -110,7 +110,7 @@ fn fault_of(alloc: Global, bytes: &[u8]) -> Result<Option<KeyFault>, Fail> {
 
 #[test]
 fn ids_and_names_are_judged_first(rt: HostRuntime) -> Result<(), Fail> {
-    let cases: [(&[u8], KeyFault); 7] = [
+    let cases: &[(&[u8], KeyFault)] = &[
         (b"\x05\x00\x00\x00\x00", KeyFault::Id),
         (
             b"W\x00\x00\x00\x05_id\x00\x10\x00\x00\x00\x00\x00\x11\x223DUFw\x88\x99\xaa\xbb\xcc\xdd\
@@ -154,14 +154,14 @@ fn ids_and_names_are_judged_first(rt: HostRuntime) -> Result<(), Fail> {
         ),
     ];
     for (bytes, fault) in cases {
-        assert!(rt; fault_of(rt.alloc(), bytes)? == Some(fault));
+        assert!(rt; fault_of(rt.alloc(), bytes)? == Some(*fault));
     }
     Ok(())
 }
 
 #[test]
 fn material_is_judged_before_the_provider(rt: HostRuntime) -> Result<(), Fail> {
-    let cases: [(&[u8], KeyFault); 5] = [
+    let cases: &[(&[u8], KeyFault)] = &[
         (
             b"C\x00\x00\x00\x05_id\x00\x10\x00\x00\x00\x04\x00\x11\x223DUFw\x88\x99\xaa\xbb\xcc\xdd\
              \xee\xff\x03masterKey\x00\x19\x00\x00\x00\x02provider\x00\x06\x00\x00\x00local\x00\x00\
@@ -192,7 +192,7 @@ fn material_is_judged_before_the_provider(rt: HostRuntime) -> Result<(), Fail> {
         ),
     ];
     for (bytes, fault) in cases {
-        assert!(rt; fault_of(rt.alloc(), bytes)? == Some(fault));
+        assert!(rt; fault_of(rt.alloc(), bytes)? == Some(*fault));
     }
     Ok(())
 }

@@ -29,11 +29,11 @@ fn table_of(alloc: Global, numbers: &[u8]) -> Result<KeyTable, Fail> {
 
 #[test]
 fn keys_are_found_wherever_they_stand(rt: HostRuntime) -> Result<(), Fail> {
-    let numbers = [
+    let numbers: &[u8] = &[
         1, 2, 3, 4, 5, 6, 7, 8, 9, 10, 11, 12, 13, 14, 15, 16, 17, 18, 19, 9, 1,
     ];
-    let keys = table_of(rt.alloc(), &numbers)?;
-    for number in &numbers {
+    let keys = table_of(rt.alloc(), numbers)?;
+    for number in numbers {
         assert!(rt; keys.find(&id_of(*number)).is_some());
     }
     assert!(rt; keys.find(&id_of(0)).is_none());

@@ -21,7 +21,7 @@ fn expect_infos(rt: &impl Abort, alloc: Global, text: &[u8], bytes: &[u8]) -> Re
 // Words; integers at the edges of 32 and 64 signed bits, and numbers beyond; a text; arrays and documents.
 #[test]
 fn values_stand_for_their_types(rt: HostRuntime) -> Result<(), Fail> {
-    let cases: [(&[u8], &[u8]); 6] = [
+    let cases: &[(&[u8], &[u8])] = &[
         (
             br#"[{"a":null,"b":true,"c":false}]"#,
             b"\x10\x00\x00\x00\x0Aa\x00\x08b\x00\x01\x08c\x00\x00\x00",
@@ -56,7 +56,7 @@ fn values_stand_for_their_types(rt: HostRuntime) -> Result<(), Fail> {
 // No byte, one byte in capital digits, an id in three forms; objects that are no wrappers.
 #[test]
 fn binaries_stand_in_wrappers(rt: HostRuntime) -> Result<(), Fail> {
-    let cases: [(&[u8], &[u8]); 5] = [
+    let cases: &[(&[u8], &[u8])] = &[
         (
             br#"[{"a":{"$binary":{"base64":"","subType":"00"}}}]"#,
             b"\x0D\x00\x00\x00\x05a\x00\x00\x00\x00\x00\x00\x00",
@@ -101,7 +101,7 @@ fn names_are_sorted(rt: HostRuntime) -> Result<(), Fail> {
 // No array; a member that is no object, or is a binary; a name with the character 0, inside an array too.
 #[test]
 fn the_first_member_that_is_no_document_is_told(rt: HostRuntime) {
-    let cases: [(&[u8], u32); 7] = [
+    let cases: &[(&[u8], u32)] = &[
         (br#"{"a":1}"#, 0),
         (b"7", 0),
         (b"[1]", 1),
@@ -114,14 +114,21 @@ fn the_first_member_that_is_no_document_is_told(rt: HostRuntime) {
         (br#"[{},{"a":[{"\u0000":1}]}]"#, 2),
     ];
     for (text, document) in cases {
-        expect_fault(&rt, rt.alloc(), text, JsonFault::Form { document });
+        expect_fault(
+            &rt,
+            rt.alloc(),
+            text,
+            JsonFault::Form {
+                document: *document,
+            },
+        );
     }
 }
 
 // No texts; no padding; a spare bit; one digit, three, and no digit; another name; no UUID.
 #[test]
 fn a_malformed_wrapper_is_told(rt: HostRuntime) {
-    let cases: [(&[u8], u32); 9] = [
+    let cases: &[(&[u8], u32)] = &[
         (br#"[{"a":{"$binary":"AA=="}}]"#, 1),
         (br#"[{"a":{"$binary":{"base64":"AA","subType":"00"}}}]"#, 1),
         (
@@ -148,7 +155,14 @@ fn a_malformed_wrapper_is_told(rt: HostRuntime) {
         (br#"[{"a":{"$uuid":4}}]"#, 1),
     ];
     for (text, document) in cases {
-        expect_fault(&rt, rt.alloc(), text, JsonFault::Form { document });
+        expect_fault(
+            &rt,
+            rt.alloc(),
+            text,
+            JsonFault::Form {
+                document: *document,
+            },
+        );
     }
 }
 
@@ -156,7 +170,7 @@ fn a_malformed_wrapper_is_told(rt: HostRuntime) {
 // member that is no document before a fault of the text.
 #[test]
 fn what_is_no_json_is_told(rt: HostRuntime) {
-    let cases: [&[u8]; 8] = [
+    let cases: &[&[u8]] = &[
         b"",
         b"[{]",
         b"[] []",

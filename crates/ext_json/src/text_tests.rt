@@ -28,7 +28,7 @@ fn expect_text(rt: &impl Abort, alloc: Global, bytes: &[u8], text: &[u8]) -> Res
 // The 8 bytes of 1.0; the least int; the greatest long; 16 bytes of a decimal.
 #[test]
 fn numbers_stand_as_digits(rt: HostRuntime) -> Result<(), Fail> {
-    let cases: [(&[u8], &[u8]); 4] = [
+    let cases: &[(&[u8], &[u8])] = &[
         (
             b"\x10\x00\x00\x00\x01a\x00\x00\x00\x00\x00\x00\x00\xF0?\x00",
             br#"{"a":{"$doubleBits":"000000000000f03f"}}"#,
@@ -55,7 +55,7 @@ fn numbers_stand_as_digits(rt: HostRuntime) -> Result<(), Fail> {
 // One millisecond before 1970; the greatest seconds, increment 42.
 #[test]
 fn times_are_longs_and_pairs(rt: HostRuntime) -> Result<(), Fail> {
-    let cases: [(&[u8], &[u8]); 2] = [
+    let cases: &[(&[u8], &[u8])] = &[
         (
             b"\x10\x00\x00\x00\x09a\x00\xFF\xFF\xFF\xFF\xFF\xFF\xFF\xFF\x00",
             br#"{"a":{"$date":{"$numberLong":"-1"}}}"#,
@@ -74,7 +74,7 @@ fn times_are_longs_and_pairs(rt: HostRuntime) -> Result<(), Fail> {
 // Booleans and null; undefined, the greatest and the least key.
 #[test]
 fn words_stand_for_values_without_bytes(rt: HostRuntime) -> Result<(), Fail> {
-    let cases: [(&[u8], &[u8]); 2] = [
+    let cases: &[(&[u8], &[u8])] = &[
         (
             b"\x10\x00\x00\x00\x08a\x00\x00\x08b\x00\x01\x0Ac\x00\x00",
             br#"{"a":false,"b":true,"c":null}"#,
@@ -93,7 +93,7 @@ fn words_stand_for_values_without_bytes(rt: HostRuntime) -> Result<(), Fail> {
 // A string with each kind of escape; code and a symbol; a pattern with its options; code with a scope.
 #[test]
 fn texts_are_quoted(rt: HostRuntime) -> Result<(), Fail> {
-    let cases: [(&[u8], &[u8]); 4] = [
+    let cases: &[(&[u8], &[u8])] = &[
         (
             b"\x16\x00\x00\x00\x02a\x00\x0A\x00\x00\x00\xC3\xA9\"\\/\x0A\x1F\x7F\x00\x00\x00",
             b"{\"a\":\"\xC3\xA9\\\"\\\\/\\u000a\\u001f\x7F\\u0000\"}",
@@ -121,7 +121,7 @@ fn texts_are_quoted(rt: HostRuntime) -> Result<(), Fail> {
 // None, three and one byte, of the subtypes 00, 80 and 06.
 #[test]
 fn binaries_are_in_base64(rt: HostRuntime) -> Result<(), Fail> {
-    let cases: [(&[u8], &[u8]); 3] = [
+    let cases: &[(&[u8], &[u8])] = &[
         (
             b"\x0D\x00\x00\x00\x05a\x00\x00\x00\x00\x00\x00\x00",
             br#"{"a":{"$binary":{"base64":"","subType":"00"}}}"#,
@@ -144,7 +144,7 @@ fn binaries_are_in_base64(rt: HostRuntime) -> Result<(), Fail> {
 // An object id; a pointer into a database.
 #[test]
 fn ids_are_in_hexadecimal(rt: HostRuntime) -> Result<(), Fail> {
-    let cases: [(&[u8], &[u8]); 2] = [
+    let cases: &[(&[u8], &[u8])] = &[
         (
             b"\x14\x00\x00\x00\x07a\x00V\xE1\xFCr\xE0\xC9\x17\xE9\xC4qAa\x00",
             br#"{"a":{"$oid":"56e1fc72e0c917e9c4714161"}}"#,
@@ -163,7 +163,7 @@ fn ids_are_in_hexadecimal(rt: HostRuntime) -> Result<(), Fail> {
 // No element; a name twice, and an array whose elements have names that are left out.
 #[test]
 fn names_stand_in_documents_alone(rt: HostRuntime) -> Result<(), Fail> {
-    let cases: [(&[u8], &[u8]); 2] = [
+    let cases: &[(&[u8], &[u8])] = &[
         (b"\x05\x00\x00\x00\x00", b"{}"),
         (
             b"/\x00\x00\x00\x03b\"\x00\x05\x00\x00\x00\x00\x04a\x00\x1A\x00\x00\x00\x0Ax\x00\x04y\
@@ -180,7 +180,7 @@ fn names_stand_in_documents_alone(rt: HostRuntime) -> Result<(), Fail> {
 // A ping; a key id.
 #[test]
 fn commands_have_their_text(rt: HostRuntime) -> Result<(), Fail> {
-    let cases: [(&[u8], &[u8]); 2] = [
+    let cases: &[(&[u8], &[u8])] = &[
         (PING, br#"{"ping":{"$numberInt":"1"},"$db":"admin"}"#),
         (
             b"\x1D\x00\x00\x00\x05k\x00\x10\x00\x00\x00\x04\x00\x11\"3DUFw\x88\x99\xAA\xBB\xCC\xDD\xEE\xFF\x00",
@@ -197,7 +197,7 @@ fn commands_have_their_text(rt: HostRuntime) -> Result<(), Fail> {
 // in a name space; a binary, which is no text.
 #[test]
 fn the_first_place_that_is_not_utf8_is_told(rt: HostRuntime) -> Result<(), Fail> {
-    let cases: [(&[u8], Option<u32>); 6] = [
+    let cases: &[(&[u8], Option<u32>)] = &[
         (
             b"\x0E\x00\x00\x00\x02s\x00\x02\x00\x00\x00\xFF\x00\x00",
             Some(7),
@@ -227,11 +227,11 @@ fn the_first_place_that_is_not_utf8_is_told(rt: HostRuntime) -> Result<(), Fail>
     for (bytes, at) in cases {
         assert!(rt; bytes.len() < 100);
         let document = check_bson(bytes)?;
-        assert_eq!(rt; first_bad_text(&document), at);
+        assert_eq!(rt; first_bad_text(&document), *at);
         let mut out = MemSink::new(rt.alloc(), 200, 200, Vec::new(rt.alloc()))?;
         let shown = show_text(&document, &mut out);
         match at {
-            Some(at) => assert_eq!(rt; shown, Shown::Bad(at)),
+            Some(at) => assert_eq!(rt; shown, Shown::Bad(*at)),
             None => assert_eq!(rt; shown, Shown::Written),
         }
     }

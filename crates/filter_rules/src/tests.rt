@@ -49,7 +49,7 @@ fn starts(alloc: Global, marks: &Marks) -> Result<Vec<u32>, Fail> {
 /// `{salary: {$exists: true}}`, `{ssn: {$in: []}}`.
 #[test]
 fn compared_values_are_marked(rt: HostRuntime) -> Result<(), Fail> {
-    let cases: [(&[u8], &[u32]); 5] = [
+    let cases: &[(&[u8], &[u32])] = &[
         (
             b"4\x00\x00\x00\x03ssn\x00*\x00\x00\x00\x04$in\x00 \x00\x00\x00\x020\x00\x02\x00\x00\x00x\x00\
               \x021\x00\x02\x00\x00\x00y\x00\x022\x00\x02\x00\x00\x00x\x00\x00\x00\x00",
@@ -76,7 +76,7 @@ fn compared_values_are_marked(rt: HostRuntime) -> Result<(), Fail> {
     ];
     for (filter, expected) in cases {
         match outcome(rt.alloc(), PEOPLE_SCHEMA, filter)? {
-            Ok(starts) => assert_eq!(rt; &starts[..], expected),
+            Ok(starts) => assert_eq!(rt; &starts[..], *expected),
             Err(_) => return Err("it is refused".into()),
         }
     }
@@ -87,7 +87,7 @@ fn compared_values_are_marked(rt: HostRuntime) -> Result<(), Fail> {
 /// `{ssn: {$gt: "x"}}`.
 #[test]
 fn values_are_refused_where_they_stand(rt: HostRuntime) -> Result<(), Fail> {
-    let cases: [(&[u8], Reason, u32); 7] = [
+    let cases: &[(&[u8], Reason, u32)] = &[
         (
             b"\x11\x00\x00\x00\x10salary\x00\x03\x00\x00\x00\x00",
             Reason::RandomCompared,
@@ -126,7 +126,7 @@ fn values_are_refused_where_they_stand(rt: HostRuntime) -> Result<(), Fail> {
     ];
     for (filter, reason, at) in cases {
         match outcome(rt.alloc(), PEOPLE_SCHEMA, filter)? {
-            Err(refused) => assert_eq!(rt; refused, (reason, at)),
+            Err(refused) => assert_eq!(rt; refused, (*reason, *at)),
             Ok(_) => return Err("it isn't refused".into()),
         }
     }
@@ -136,7 +136,7 @@ fn values_are_refused_where_they_stand(rt: HostRuntime) -> Result<(), Fail> {
 /// `{"a.b.c": 1}`, `{a: {b: 1}}`.
 #[test]
 fn paths_below_and_above_are_refused(rt: HostRuntime) -> Result<(), Fail> {
-    let cases: [(&[u8], Reason, u32); 2] = [
+    let cases: &[(&[u8], Reason, u32)] = &[
         (
             b"\x10\x00\x00\x00\x10a.b.c\x00\x01\x00\x00\x00\x00",
             Reason::BelowProtected,
@@ -150,7 +150,7 @@ fn paths_below_and_above_are_refused(rt: HostRuntime) -> Result<(), Fail> {
     ];
     for (filter, reason, at) in cases {
         match outcome(rt.alloc(), STAFF, filter)? {
-            Err(refused) => assert_eq!(rt; refused, (reason, at)),
+            Err(refused) => assert_eq!(rt; refused, (*reason, *at)),
             Ok(_) => return Err("it isn't refused".into()),
         }
     }

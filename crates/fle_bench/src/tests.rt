@@ -15,11 +15,17 @@ fn checksum_of_a_word(rt: HostRuntime) {
 // The checksums of what OpenSSL's command writes for the same key, vectors and message in one turn and in three.
 #[test]
 fn each_way_writes_what_openssl_does(rt: HostRuntime) -> Result<(), AllocError> {
-    let rows = [(1, 0x57b7ca07, 0xc76726a6), (3, 0x314ee436, 0xc76726a6)];
+    let rows: &[(u32, u32, u32)] = &[(1, 0x57b7ca07, 0xc76726a6), (3, 0x314ee436, 0xc76726a6)];
     for way in [Way::Tables, Way::Closures, Way::Boxes] {
         for (turns, sealed, opened) in rows {
-            assert_eq!(rt; run(rt.alloc(), Direction::Seal, way, 1024, turns)?, sealed);
-            assert_eq!(rt; run(rt.alloc(), Direction::Open, way, 1024, turns)?, opened);
+            assert_eq!(rt;
+                run(rt.alloc(), Direction::Seal, way, 1024, *turns)?,
+                *sealed
+            );
+            assert_eq!(rt;
+                run(rt.alloc(), Direction::Open, way, 1024, *turns)?,
+                *opened
+            );
         }
     }
     Ok(())
@@ -28,11 +34,11 @@ fn each_way_writes_what_openssl_does(rt: HostRuntime) -> Result<(), AllocError> 
 // The checksums of the codes that Python's hmac makes in one turn and in three.
 #[test]
 fn codes_are_those_of_python(rt: HostRuntime) -> Result<(), AllocError> {
-    let rows = [(1, 0xee290495, 0xe0af49e9), (3, 0x68509b3e, 0xa98966d7)];
+    let rows: &[(u32, u32, u32)] = &[(1, 0xee290495, 0xe0af49e9), (3, 0x68509b3e, 0xa98966d7)];
     for setup in [KeySetup::Kept, KeySetup::Fresh] {
         for (turns, vector_text, tag_text) in rows {
-            assert_eq!(rt; hmac::run(rt.alloc(), setup, 42, turns)?, vector_text);
-            assert_eq!(rt; hmac::run(rt.alloc(), setup, 74, turns)?, tag_text);
+            assert_eq!(rt; hmac::run(rt.alloc(), setup, 42, *turns)?, *vector_text);
+            assert_eq!(rt; hmac::run(rt.alloc(), setup, 74, *turns)?, *tag_text);
         }
     }
     Ok(())
@@ -41,11 +47,12 @@ fn codes_are_those_of_python(rt: HostRuntime) -> Result<(), AllocError> {
 // The checksums of what Python's hmac and OpenSSL's AES-256-CBC make together, and of the message.
 #[test]
 fn values_are_sealed_as_elsewhere_and_opened(rt: HostRuntime) -> Result<(), AllocError> {
-    for (turns, sealed, opened) in [(1, 0x49d838f7, 0xbe45cb26), (3, 0xaf8f1339, 0xbe45cb26)] {
+    let rows: &[(u32, u32, u32)] = &[(1, 0x49d838f7, 0xbe45cb26), (3, 0xaf8f1339, 0xbe45cb26)];
+    for (turns, sealed, opened) in rows {
         for setup in [KeySetup::Kept, KeySetup::Fresh] {
-            assert_eq!(rt; run_sealing(rt.alloc(), setup, 16, turns)?, sealed);
+            assert_eq!(rt; run_sealing(rt.alloc(), setup, 16, *turns)?, *sealed);
         }
-        assert_eq!(rt; run_opening(rt.alloc(), 16, turns)?, opened);
+        assert_eq!(rt; run_opening(rt.alloc(), 16, *turns)?, *opened);
     }
     Ok(())
 }
@@ -53,7 +60,7 @@ fn values_are_sealed_as_elsewhere_and_opened(rt: HostRuntime) -> Result<(), Allo
 // The checksums of the payloads that Python's hmac and OpenSSL's AES-256-CBC make together, and of the value.
 #[test]
 fn payloads_are_those_made_elsewhere(rt: HostRuntime) -> Result<(), AllocError> {
-    let rows = [
+    let rows: &[(Algorithm, u32, u32, u32)] = &[
         (Algorithm::Deterministic, 1, 0x75b78a09, 0x87a52941),
         (Algorithm::Deterministic, 3, 0xa1b4595d, 0x87a52941),
         (Algorithm::Random, 1, 0x5ada8e43, 0x87a52941),
@@ -61,12 +68,12 @@ fn payloads_are_those_made_elsewhere(rt: HostRuntime) -> Result<(), AllocError> 
     ];
     for (algorithm, turns, sealed, opened) in rows {
         assert_eq!(rt;
-            payload::run_sealing(rt.alloc(), algorithm, 11, turns)?,
-            sealed
+            payload::run_sealing(rt.alloc(), *algorithm, 11, *turns)?,
+            *sealed
         );
         assert_eq!(rt;
-            payload::run_opening(rt.alloc(), algorithm, 11, turns)?,
-            opened
+            payload::run_opening(rt.alloc(), *algorithm, 11, *turns)?,
+            *opened
         );
     }
     Ok(())

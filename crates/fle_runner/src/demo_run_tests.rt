@@ -19,18 +19,18 @@ fn words<'a>(words: &'a [&'a str]) -> Run<'a> {
 
 #[test]
 fn one_command_and_ten_come_back_equal(rt: HostRuntime) -> Result<(), Fail> {
-    let cases: [([&str; 3], &str); 3] = [
-        (["demo", "hr", "1"], LINE),
+    let cases: &[(&[&str], &str)] = &[
+        (&["demo", "hr", "1"], LINE),
         (
-            ["demo", "hr", "10"],
+            &["demo", "hr", "10"],
             "demo: 10 commands, 980 bytes in, 2680 bytes out, 10 equal, 5f115f7d37243f944ef3f73d0f820c63\n",
         ),
         (
-            ["demo", "payroll", "2"],
+            &["demo", "payroll", "2"],
             "demo: 2 commands, 206 bytes in, 546 bytes out, 2 equal, 2e42d5e77f91caa62eb23d3bed746e04\n",
         ),
     ];
-    for (form, line) in &cases {
+    for (form, line) in cases {
         let seen = look(rt.alloc(), words(form))?;
         expect(&rt, &seen, Status::Done, line.as_bytes(), "");
     }
@@ -50,7 +50,7 @@ fn a_write_that_fails_ends_the_demo(rt: HostRuntime) -> Result<(), Fail> {
 
 #[test]
 fn n_is_a_number_as_it_is_printed(rt: HostRuntime) -> Result<(), Fail> {
-    for n in [
+    let numbers: &[&str] = &[
         "",
         "0",
         "01",
@@ -60,7 +60,8 @@ fn n_is_a_number_as_it_is_printed(rt: HostRuntime) -> Result<(), Fail> {
         "1e3",
         "100001",
         "4294967297",
-    ] {
+    ];
+    for n in numbers {
         let seen = look(rt.alloc(), words(&["demo", "hr", n]))?;
         expect(&rt, &seen, Status::Words, b"", "fle: 2 0 0 -\n");
     }
@@ -69,12 +70,12 @@ fn n_is_a_number_as_it_is_printed(rt: HostRuntime) -> Result<(), Fail> {
 
 #[test]
 fn two_words_stand_behind_demo(rt: HostRuntime) -> Result<(), Fail> {
-    let forms: [&[&str]; 3] = [
+    let forms: &[&[&str]] = &[
         &["demo", "hr"],
         &["demo", "hr", "1", "2"],
         &["demo", "", "1"],
     ];
-    for form in &forms {
+    for form in forms {
         let seen = look(rt.alloc(), words(form))?;
         expect(&rt, &seen, Status::Words, b"", "fle: 2 0 0 -\n");
     }

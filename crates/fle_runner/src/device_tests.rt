@@ -83,7 +83,7 @@ fn a_write_that_fails_ends_the_run_there(rt: HostRuntime) -> Result<(), Fail> {
     let input = joined(alloc, &[SET, SET_INSIDE])?;
     let sealed = joined(alloc, &[SEALED_SET, SEALED_SET_INSIDE])?;
     // At most 100 bytes a write.
-    let cases: [(u64, usize, &str); 4] = [
+    let cases: &[(u64, usize, &str)] = &[
         (0, 0, "fle: 6 1 0 -\n"),
         (1, 100, "fle: 6 1 0 -\n"),
         (2, 176, "fle: 6 2 0 -\n"),
@@ -91,11 +91,11 @@ fn a_write_that_fails_ends_the_run_there(rt: HostRuntime) -> Result<(), Fail> {
     ];
     for (call, written, line) in cases {
         let run = Run {
-            sink: &[call],
+            sink: &[*call],
             ..sealing(&input)
         };
         let seen = look(alloc, run)?;
-        let front = &sealed[..written.min(sealed.len())];
+        let front = &sealed[..(*written).min(sealed.len())];
         expect(&rt, &seen, Status::WriteFault, front, line);
     }
     let run = Run {
@@ -113,7 +113,7 @@ fn a_line_that_fails_leaves_the_status(rt: HostRuntime) -> Result<(), Fail> {
         ..sealing(NULL)
     };
     expect(&rt, &look(rt.alloc(), run)?, Status::Refused, b"", "");
-    let lines: [(u64, &str); 6] = [
+    let lines: &[(u64, &str)] = &[
         (1, "fle: "),
         (2, "fle: 1"),
         (3, "fle: 1 "),
@@ -123,7 +123,7 @@ fn a_line_that_fails_leaves_the_status(rt: HostRuntime) -> Result<(), Fail> {
     ];
     for (call, line) in lines {
         let run = Run {
-            diag: &[call],
+            diag: &[*call],
             ..marking(NULL)
         };
         expect(&rt, &look(rt.alloc(), run)?, Status::Refused, b"", line);

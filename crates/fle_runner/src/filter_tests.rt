@@ -170,7 +170,7 @@ const EMPTY: &[u8] =
 
 #[test]
 fn what_a_filter_compares_is_sealed(rt: HostRuntime) -> Result<(), Fail> {
-    let cases: [(&[u8], &[u8], &[u8]); 3] = [
+    let cases: &[(&[u8], &[u8], &[u8])] = &[
         (IN, IN_REPLY, SEALED_IN),
         (OR, OR_REPLY, SEALED_OR),
         (NOT, NOT_REPLY, SEALED_NOT),
@@ -183,7 +183,7 @@ fn what_a_filter_compares_is_sealed(rt: HostRuntime) -> Result<(), Fail> {
 
 #[test]
 fn filters_without_a_protected_value_pass(rt: HostRuntime) -> Result<(), Fail> {
-    let commands: [&[u8]; 3] = [IN_NOTHING, EXISTS, SHOWN];
+    let commands: &[&[u8]] = &[IN_NOTHING, EXISTS, SHOWN];
     for command in commands {
         passes(&rt, rt.alloc(), command, b"\x01")?;
     }
@@ -192,7 +192,7 @@ fn filters_without_a_protected_value_pass(rt: HostRuntime) -> Result<(), Fail> {
 
 #[test]
 fn what_a_filter_cannot_compare_is_refused(rt: HostRuntime) -> Result<(), Fail> {
-    let cases: [(&[u8], &str); 10] = [
+    let cases: &[(&[u8], &str)] = &[
         (RANDOM, "fle: 1 1 10 1.0\n"),
         (GREATER, "fle: 1 1 11 1.0.0.0.0\n"),
         (PREFIX, "fle: 1 1 12 1.0\n"),

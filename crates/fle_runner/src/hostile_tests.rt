@@ -21,7 +21,7 @@ const SHORTER: &[u8] =
 
 /// What `INSERT` leaves where the lowest bit of one byte is turned: the byte's number, and the line. Byte 3 is told
 /// apart, and with any other byte turned it is a document still.
-const TURNED: [(usize, &str); 41] = [
+const TURNED: &[(usize, &str)] = &[
     (0, "fle: 3 1 1 88\n"),
     (1, "fle: 3 1 1 88\n"),
     (2, "fle: 3 1 1 88\n"),
@@ -68,8 +68,8 @@ const TURNED: [(usize, &str); 41] = [
 /// The line of `TURNED` for this byte, or the empty text.
 fn turned_line(at: usize) -> &'static str {
     for (byte, line) in TURNED {
-        if byte == at {
-            return line;
+        if *byte == at {
+            return *line;
         }
     }
     ""
@@ -77,7 +77,7 @@ fn turned_line(at: usize) -> &'static str {
 
 #[test]
 fn what_spells_no_document_is_told_by_kind_and_offset(rt: HostRuntime) -> Result<(), Fail> {
-    let cases: [(&[u8], &str); 11] = [
+    let cases: &[(&[u8], &str)] = &[
         (b"\x05\x00\x00", "fle: 3 1 1 3\n"),
         (b"\x05\x00\x00\x00", "fle: 3 1 1 4\n"),
         (b"\x04\x00\x00\x00\x00", "fle: 3 1 2 0\n"),

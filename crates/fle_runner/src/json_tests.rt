@@ -20,18 +20,18 @@ const UNRULED_REPLY: &[u8] =
 
 #[test]
 fn a_command_is_sealed_under_rules_in_json(rt: HostRuntime) -> Result<(), Fail> {
-    let cases: [(&[u8], &[u8], &[u8]); 2] = [
+    let cases: &[(&[u8], &[u8], &[u8])] = &[
         (RULES, REPLY, SEALED_INSERT),
         (b"[]", UNRULED_REPLY, INSERT),
     ];
     for (infos, reply, sealed) in cases {
         let run = Run {
-            infos: &[infos],
+            infos: &[*infos],
             ..marking(INSERT)
         };
         expect(&rt, &look(rt.alloc(), run)?, Status::Done, reply, "");
         let run = Run {
-            infos: &[infos],
+            infos: &[*infos],
             ..sealing(INSERT)
         };
         seals(&rt, rt.alloc(), run, sealed)?;
@@ -41,14 +41,14 @@ fn a_command_is_sealed_under_rules_in_json(rt: HostRuntime) -> Result<(), Fail> 
 
 #[test]
 fn the_fault_of_a_json_text_is_told_with_its_member(rt: HostRuntime) -> Result<(), Fail> {
-    let cases: [(&[u8], &str); 3] = [
+    let cases: &[(&[u8], &str)] = &[
         (b"[1]", "fle: 4 2 34 1\n"),
         (b"[{]", "fle: 4 2 33 0\n"),
         (b"{\"a\":1}", "fle: 4 2 34 0\n"),
     ];
     for (infos, line) in cases {
         let run = Run {
-            infos: &[infos],
+            infos: &[*infos],
             ..sealing(INSERT)
         };
         expect(&rt, &look(rt.alloc(), run)?, Status::Setup, b"", line);

@@ -50,7 +50,7 @@ const PADDING: &[u8] =
 
 #[test]
 fn what_is_no_payload_or_of_another_client_is_no_fault(rt: HostRuntime) -> Result<(), Fail> {
-    let cases: [(&[u8], &[u8]); 2] = [(REPLY, REPLY), (FOREIGN, FOREIGN_OPENED)];
+    let cases: &[(&[u8], &[u8])] = &[(REPLY, REPLY), (FOREIGN, FOREIGN_OPENED)];
     for (document, opened) in cases {
         let seen = look(rt.alloc(), opening(document))?;
         expect(&rt, &seen, Status::Done, opened, "");
@@ -60,7 +60,7 @@ fn what_is_no_payload_or_of_another_client_is_no_fault(rt: HostRuntime) -> Resul
 
 #[test]
 fn shapes_come_before_tags_and_tags_before_contents(rt: HostRuntime) -> Result<(), Fail> {
-    let cases: [(&[u8], &str); 3] = [
+    let cases: &[(&[u8], &str)] = &[
         (SHAPES, "fle: 1 1 19 1.0.1\n"),
         (PLAIN, "fle: 1 1 22 1.0.0\n"),
         (PADDING, "fle: 1 1 21 1.0.0\n"),
@@ -96,12 +96,12 @@ fn the_type_of_a_payload_is_under_its_tag(rt: HostRuntime) -> Result<(), Fail> {
 #[test]
 fn each_byte_of_a_payload_is_watched(rt: HostRuntime) -> Result<(), Fail> {
     let alloc = rt.alloc();
-    let cases: [(usize, usize, &str); 2] = [
+    let cases: &[(usize, usize, &str)] = &[
         (59, 75, "fle: 1 1 16 1.0.0\n"),
         (75, 140, "fle: 1 1 20 1.0.0\n"),
     ];
     for (from, to, line) in cases {
-        for at in from..to {
+        for at in *from..*to {
             let mut changed = Vec::from_slice(alloc, SEALED_RANDOM)?;
             if let Some(byte) = changed.get_mut(at) {
                 *byte ^= 1;

@@ -18,7 +18,7 @@ const DOCUMENT: [u8; 45] = [
 #[test]
 fn each_value_is_found_by_the_offset_at_which_it_begins(rt: HostRuntime) -> Result<(), Fail> {
     let document = check_bson(&DOCUMENT)?;
-    let cases: [(u32, &[u32]); 6] = [
+    let cases: &[(u32, &[u32])] = &[
         (7, &[0]),
         (14, &[1]),
         (21, &[1, 0]),
@@ -27,8 +27,8 @@ fn each_value_is_found_by_the_offset_at_which_it_begins(rt: HostRuntime) -> Resu
         (44, &[2]),
     ];
     for (at, steps) in cases {
-        let place = place_at(rt.alloc(), &document, at)?;
-        assert_eq!(rt; place.as_slice(), steps);
+        let place = place_at(rt.alloc(), &document, *at)?;
+        assert_eq!(rt; place.as_slice(), *steps);
     }
     Ok(())
 }
@@ -36,8 +36,9 @@ fn each_value_is_found_by_the_offset_at_which_it_begins(rt: HostRuntime) -> Resu
 #[test]
 fn an_offset_at_which_no_value_begins_is_that_of_the_document(rt: HostRuntime) -> Result<(), Fail> {
     let document = check_bson(&DOCUMENT)?;
-    for at in [0, 4, 18, 36, 45] {
-        let place = place_at(rt.alloc(), &document, at)?;
+    let offsets: &[u32] = &[0, 4, 18, 36, 45];
+    for at in offsets {
+        let place = place_at(rt.alloc(), &document, *at)?;
         assert!(rt; place.as_slice().is_empty());
     }
     Ok(())

@@ -55,15 +55,18 @@ const MASTER_AS_TEXT: &[u8] =
 
 #[test]
 fn the_first_faulty_info_is_told_with_its_fault(rt: HostRuntime) -> Result<(), Fail> {
-    let empty: &[u8] = b"\x05\x00\x00\x00\x00";
-    let cases: [([&[u8]; 2], &str, &str); 5] = [
-        ([PEOPLE, b"\x01"], "fle: 4 1 30 2\n", "fle: 4 2 30 2\n"),
-        ([PEOPLE, empty], "fle: 4 1 31 2\n", "fle: 4 2 31 2\n"),
-        ([NOTES, NOTES], "fle: 4 1 32 2\n", "fle: 4 2 32 2\n"),
-        ([DOUBLE, STAFF], "fle: 4 1 49 1\n", "fle: 4 2 49 1\n"),
-        ([STAFF, DOUBLE], "fle: 4 1 49 2\n", "fle: 4 2 49 2\n"),
+    let cases: &[(&[&[u8]], &str, &str)] = &[
+        (&[PEOPLE, b"\x01"], "fle: 4 1 30 2\n", "fle: 4 2 30 2\n"),
+        (
+            &[PEOPLE, b"\x05\x00\x00\x00\x00"],
+            "fle: 4 1 31 2\n",
+            "fle: 4 2 31 2\n",
+        ),
+        (&[NOTES, NOTES], "fle: 4 1 32 2\n", "fle: 4 2 32 2\n"),
+        (&[DOUBLE, STAFF], "fle: 4 1 49 1\n", "fle: 4 2 49 1\n"),
+        (&[STAFF, DOUBLE], "fle: 4 1 49 2\n", "fle: 4 2 49 2\n"),
     ];
-    for (infos, first, second) in &cases {
+    for (infos, first, second) in cases {
         let run = Run {
             infos,
             ..marking(INSERT)
@@ -87,7 +90,7 @@ fn the_reply_says_whether_the_collection_has_rules(rt: HostRuntime) -> Result<()
 
 #[test]
 fn files_that_are_missing_are_told_in_the_order_of_the_words(rt: HostRuntime) -> Result<(), Fail> {
-    let forms: [(&[&str], &str); 7] = [
+    let forms: &[(&[&str], &str)] = &[
         (&["mark", "hr", "none"], "fle: 4 1 1 0\n"),
         (&["encrypt", "hr", "none", "none", "none"], "fle: 4 1 1 0\n"),
         (&["encrypt", "hr", "keys", "none", "none"], "fle: 4 2 1 0\n"),
@@ -99,7 +102,7 @@ fn files_that_are_missing_are_told_in_the_order_of_the_words(rt: HostRuntime) ->
         (&["decrypt", "keys", "none"], "fle: 4 2 1 0\n"),
         (&["keygen", "none"], "fle: 4 1 1 0\n"),
     ];
-    for (words, line) in &forms {
+    for (words, line) in forms {
         let run = Run {
             words,
             ..marking(INSERT)

@@ -89,7 +89,7 @@ const BLOCKS: [[u8; 16]; 2] = [[1; 16], [2; 16]];
 
 #[test]
 fn inserts_are_sealed_and_opened_again(rt: HostRuntime) -> Result<(), Fail> {
-    let cases: [(&[u8], &[u8], usize); 7] = [
+    let cases: &[(&[u8], &[u8], usize)] = &[
         (b"", b"", 0),
         (INSERT, SEALED_INSERT, 0),
         (RANDOM, SEALED_RANDOM, 1),
@@ -100,7 +100,7 @@ fn inserts_are_sealed_and_opened_again(rt: HostRuntime) -> Result<(), Fail> {
     ];
     for (command, sealed, draws) in cases {
         let run = Run {
-            blocks: &BLOCKS[..draws.min(2)],
+            blocks: &BLOCKS[..(*draws).min(2)],
             ..sealing(command)
         };
         seals(&rt, rt.alloc(), run, sealed)?;

@@ -11,39 +11,33 @@ const UNKNOWN: &[u8] = b"\x14\x00\x00\x00\x10aggregate\x00\x01\x00\x00\x00\x00";
 
 #[test]
 fn each_input_has_its_end(rt: HostRuntime) -> Result<(), Fail> {
-    let nothing: &[u8] = b"";
-    let cases: [(&[u8], Status, &[u8], &str); 8] = [
-        (nothing, Status::Done, nothing, ""),
+    let cases: &[(&[u8], Status, &[u8], &str)] = &[
+        (b"", Status::Done, b"", ""),
         (INSERT, Status::Done, REPLY, ""),
         (NOTES, Status::Done, NOTES_REPLY, ""),
-        (UNKNOWN, Status::Refused, nothing, "fle: 1 1 1 0\n"),
+        (UNKNOWN, Status::Refused, b"", "fle: 1 1 1 0\n"),
         (
             b"\x58\x00\x00\x00\x02in",
             Status::Malformed,
-            nothing,
+            b"",
             "fle: 3 1 1 7\n",
         ),
         (
             b"\xff\xff\xff\xff",
             Status::Malformed,
-            nothing,
+            b"",
             "fle: 3 1 2 0\n",
         ),
         (
             // {b: bool 2}
             b"\x09\x00\x00\x00\x08b\x00\x02\x00",
             Status::Malformed,
-            nothing,
+            b"",
             "fle: 3 1 5 7\n",
         ),
-        (
-            b"\x01\x00\x00\x01",
-            Status::Limit,
-            nothing,
-            "fle: 9 1 1 -\n",
-        ),
+        (b"\x01\x00\x00\x01", Status::Limit, b"", "fle: 9 1 1 -\n"),
     ];
-    for (input, status, out, line) in &cases {
+    for (input, status, out, line) in cases {
         expect(&rt, &look(rt.alloc(), marking(input))?, *status, out, line);
     }
     Ok(())
@@ -72,9 +66,8 @@ fn a_stream_may_come_in_any_pieces(rt: HostRuntime) -> Result<(), Fail> {
 
 #[test]
 fn words_of_no_known_form_are_told_before_any_input(rt: HostRuntime) -> Result<(), Fail> {
-    let none: [&str; 0] = [];
-    let forms: [&[&str]; 13] = [
-        &none,
+    let forms: &[&[&str]] = &[
+        &[],
         &["seal", "hr", "infos"],
         &["mark", "hr"],
         &["mark", "", "infos"],
@@ -88,7 +81,7 @@ fn words_of_no_known_form_are_told_before_any_input(rt: HostRuntime) -> Result<(
         &["keygen", "master", "a", "a"],
         &["keygen", "master", ""],
     ];
-    for words in &forms {
+    for words in forms {
         let run = Run {
             words,
             ..marking(INSERT)

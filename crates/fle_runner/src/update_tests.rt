@@ -176,7 +176,7 @@ tring\x00\x00\x00\x03z\x00k\x00\x00\x00\x03encrypt\x00]\x00\x00\x00\x04keyId\x00
 
 #[test]
 fn what_an_update_stores_is_sealed(rt: HostRuntime) -> Result<(), Fail> {
-    let cases: [(&[u8], &[u8], &[u8]); 3] = [
+    let cases: &[(&[u8], &[u8], &[u8])] = &[
         (SET, SET_REPLY, SEALED_SET),
         (SET_INSIDE, SET_INSIDE_REPLY, SEALED_SET_INSIDE),
         (REPLACE, REPLACE_REPLY, SEALED_REPLACE),
@@ -189,7 +189,7 @@ fn what_an_update_stores_is_sealed(rt: HostRuntime) -> Result<(), Fail> {
 
 #[test]
 fn updates_without_a_protected_value_pass(rt: HostRuntime) -> Result<(), Fail> {
-    let commands: [&[u8]; 2] = [UNSET, RENAME_ALIKE];
+    let commands: &[&[u8]] = &[UNSET, RENAME_ALIKE];
     for command in commands {
         passes(&rt, rt.alloc(), command, b"\x01")?;
     }
@@ -198,7 +198,7 @@ fn updates_without_a_protected_value_pass(rt: HostRuntime) -> Result<(), Fail> {
 
 #[test]
 fn what_an_update_cannot_do_is_refused(rt: HostRuntime) -> Result<(), Fail> {
-    let cases: [(&[u8], &str); 10] = [
+    let cases: &[(&[u8], &str)] = &[
         (POSITION, "fle: 1 1 9 1.0.1.0.0\n"),
         (RENAME, "fle: 1 1 15 1.0.1.0.0\n"),
         (INC, "fle: 1 1 11 1.0.1.0.0\n"),

@@ -81,7 +81,7 @@ fn a_nested_rule_is_sealed_and_other_values_pass(rt: HostRuntime) -> Result<(), 
 
 #[test]
 fn a_refused_value_is_told_at_its_place(rt: HostRuntime) -> Result<(), Fail> {
-    let cases: [(&[u8], &str); 4] = [
+    let cases: &[(&[u8], &str)] = &[
         (NULL, "fle: 1 1 5 1.0.0\n"),
         (SECOND, "fle: 1 1 5 1.1.1\n"),
         (SEALED, "fle: 1 1 6 1.0.0\n"),
@@ -95,7 +95,7 @@ fn a_refused_value_is_told_at_its_place(rt: HostRuntime) -> Result<(), Fail> {
 
 #[test]
 fn the_fields_of_a_command_are_judged_before_its_contents(rt: HostRuntime) -> Result<(), Fail> {
-    let cases: [(&[u8], &str); 7] = [
+    let cases: &[(&[u8], &str)] = &[
         (AGGREGATE, "fle: 1 1 1 0\n"),
         // {}
         (b"\x05\x00\x00\x00\x00", "fle: 1 1 1 -\n"),

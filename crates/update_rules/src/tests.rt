@@ -157,11 +157,11 @@ fn an_array_on_the_way_is_refused_where_it_stands(rt: HostRuntime) -> Result<(),
 
 #[test]
 fn stored_values_of_updates_are_marked(rt: HostRuntime) -> Result<(), Fail> {
-    let cases: [(&[u8], u32, u32); 3] = [(SET, 19, 23), (SET_DOCUMENT, 24, 28), (DOCUMENT, 14, 18)];
+    let cases: &[(&[u8], u32, u32)] = &[(SET, 19, 23), (SET_DOCUMENT, 24, 28), (DOCUMENT, 14, 18)];
     for (update, start, end) in cases {
         assert_eq!(rt;
             see(rt.alloc(), STAFF, update)?,
-            Seen::Marked(1, Some(int_at(start, end)))
+            Seen::Marked(1, Some(int_at(*start, *end)))
         );
     }
     Ok(())
@@ -176,7 +176,7 @@ fn updates_without_stored_values_pass(rt: HostRuntime) -> Result<(), Fail> {
 
 #[test]
 fn updates_are_refused_where_they_first_offend(rt: HostRuntime) -> Result<(), Fail> {
-    let cases: [(&[u8], Reason, u32); 6] = [
+    let cases: &[(&[u8], Reason, u32)] = &[
         (SET_POSITION, Reason::PositionalOnPath, 21),
         (SET_STRING, Reason::TypeNotAllowed, 27),
         (SET_ARRAY, Reason::ArrayOnPath, 17),
@@ -185,7 +185,10 @@ fn updates_are_refused_where_they_first_offend(rt: HostRuntime) -> Result<(), Fa
         (INC, Reason::OperatorOnProtected, 19),
     ];
     for (update, reason, at) in cases {
-        assert_eq!(rt; see(rt.alloc(), STAFF, update)?, Seen::Refused(reason, at));
+        assert_eq!(rt;
+            see(rt.alloc(), STAFF, update)?,
+            Seen::Refused(*reason, *at)
+        );
     }
     assert_eq!(rt;
         see(rt.alloc(), PAIR, RENAME_OTHERWISE)?,

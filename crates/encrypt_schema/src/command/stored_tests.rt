@@ -43,7 +43,7 @@ fn refused(alloc: Global, types: &[u8], document: &[u8]) -> Result<Option<Reason
 #[test]
 fn types_and_sealed_values_are_refused(rt: HostRuntime) -> Result<(), Fail> {
     let not_allowed = Some(Reason::TypeNotAllowed);
-    let cases: [(&[u8], &[u8], Option<Reason>); 11] = [
+    let cases: &[(&[u8], &[u8], Option<Reason>)] = &[
         (&[0x10], INT, None),
         (&[0x10], STRING, not_allowed),
         (&[0x10, 0x02], STRING, None),
@@ -57,7 +57,7 @@ fn types_and_sealed_values_are_refused(rt: HostRuntime) -> Result<(), Fail> {
         (&[0x03], HOLDS_SEALED, None),
     ];
     for (types, document, expected) in cases {
-        assert_eq!(rt; refused(rt.alloc(), types, document)?, expected);
+        assert_eq!(rt; refused(rt.alloc(), types, document)?, *expected);
     }
     Ok(())
 }

@@ -60,7 +60,7 @@ fn classes_of_paths(rt: HostRuntime) -> Result<(), Fail> {
     let root = rows.root();
     assert_eq!(rt; rows.class(root), Class::Above);
     assert_eq!(rt; rows.class(rows.step(root, b"ssn")), Class::Protected(0));
-    let cases: [(&[u8], Class); 7] = [
+    let cases: &[(&[u8], Class)] = &[
         (b"ssn.x", Class::Below),
         (b"a", Class::Above),
         (b"a.b", Class::Protected(1)),
@@ -69,7 +69,7 @@ fn classes_of_paths(rt: HostRuntime) -> Result<(), Fail> {
         (b"a.x", Class::Clear),
         (b"z", Class::Clear),
     ];
-    for (dotted, class) in &cases {
+    for (dotted, class) in cases {
         assert_eq!(rt; seen(&rows, dotted), (*class, false));
     }
     Ok(())
@@ -78,7 +78,7 @@ fn classes_of_paths(rt: HostRuntime) -> Result<(), Fail> {
 #[test]
 fn positions_on_the_way(rt: HostRuntime) -> Result<(), Fail> {
     let rows = three_rules(rt.alloc())?;
-    let cases: [(&[u8], Class, bool); 7] = [
+    let cases: &[(&[u8], Class, bool)] = &[
         (b"a.0.b", Class::Clear, true),
         (b"0.a", Class::Clear, false),
         (b"a.$[].b", Class::Clear, true),
@@ -87,7 +87,7 @@ fn positions_on_the_way(rt: HostRuntime) -> Result<(), Fail> {
         (b"", Class::Clear, false),
         (b"ssn.0", Class::Below, false),
     ];
-    for (dotted, class, positional) in &cases {
+    for (dotted, class, positional) in cases {
         assert_eq!(rt; seen(&rows, dotted), (*class, *positional));
     }
     assert!(rt; is_position(b"0"));

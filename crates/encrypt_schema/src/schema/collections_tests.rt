@@ -1,6 +1,6 @@
 //! Files of collection infos, as MongoDB's `listCollections` answers them.
 
-use crate::schema::test_documents::{NO_PROPERTIES, NONE, joined, put_document, within};
+use crate::schema::test_documents::{NO_PROPERTIES, joined, put_document, within};
 use crate::{Algorithm, Class, InfoFault, InfoKind, Infos, KeyRef, Policy, SchemaFault};
 use sample_documents::PEOPLE;
 use std::alloc::Global;
@@ -91,31 +91,30 @@ fn a_file_of_no_infos_has_no_collection(rt: HostRuntime) -> Result<(), Fail> {
 
 #[test]
 fn an_info_has_fields_of_one_form(rt: HostRuntime) -> Result<(), Fail> {
-    let cases: [([&[u8]; 3], bool); 12] = [
-        ([NONE, NONE, NONE], false),
-        ([NAME, NONE, NONE], true),
-        ([b"\x02name\x00\x01\x00\x00\x00\x00", NONE, NONE], false),
-        ([b"\x08name\x00\x01", NONE, NONE], false),
-        ([NAME, NAME, NONE], false),
-        ([NAME, b"\x10type\x00\x01\x00\x00\x00", NONE], false),
-        ([NAME, OPTIONS_TEXT, NONE], false),
-        ([NAME, VIEW, OPTIONS_TEXT], false),
-        ([NAME, VIEW, VIEW], false),
+    let cases: &[(&[&[u8]], bool)] = &[
+        (&[], false),
+        (&[NAME], true),
+        (&[b"\x02name\x00\x01\x00\x00\x00\x00"], false),
+        (&[b"\x08name\x00\x01"], false),
+        (&[NAME, NAME], false),
+        (&[NAME, b"\x10type\x00\x01\x00\x00\x00"], false),
+        (&[NAME, OPTIONS_TEXT], false),
+        (&[NAME, VIEW, OPTIONS_TEXT], false),
+        (&[NAME, VIEW, VIEW], false),
         (
-            [
+            &[
                 NAME,
                 b"\x03options\x00\x11\x00\x00\x00\x08validator\x00\x01\x00",
-                NONE,
             ],
             false,
         ),
-        ([NAME, b"\x03options\x00\x05\x00\x00\x00\x00", NONE], true),
-        ([NAME, b"\x08info\x00\x01", NONE], true),
+        (&[NAME, b"\x03options\x00\x05\x00\x00\x00\x00"], true),
+        (&[NAME, b"\x08info\x00\x01"], true),
     ];
     for (parts, good) in cases {
-        let elements = joined(rt.alloc(), &parts)?;
+        let elements = joined(rt.alloc(), parts)?;
         let file = file_of(rt.alloc(), &[&elements])?;
-        let expected = if good {
+        let expected = if *good {
             (0, None)
         } else {
             (1, Some(InfoKind::Shape))

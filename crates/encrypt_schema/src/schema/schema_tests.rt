@@ -3,15 +3,15 @@
 use crate::SchemaFault;
 use crate::schema::test_documents::{
     DETERMINISTIC, ENCRYPT, ENCRYPT_OTHERWISE, INT, KEY_1, NO_KEYWORD, NO_PROPERTIES,
-    NO_SUCH_ALGORITHM, NONE, NULL, RANDOM, fault,
+    NO_SUCH_ALGORITHM, NULL, RANDOM, fault,
 };
 use std::test::Fail;
 
 /// The path of the root.
-const ROOT: [&[u8]; 3] = [NONE, NONE, NONE];
+const ROOT: [&[u8]; 0] = [];
 
 /// The schema of the field `a`.
-const A: [&[u8]; 3] = [NONE, b"properties", b"a"];
+const A: [&[u8]; 2] = [b"properties", b"a"];
 
 /// `encrypt` in the schema of the field `a`.
 const ENCRYPT_A: [&[u8]; 3] = [b"properties", b"a", b"encrypt"];
@@ -24,58 +24,54 @@ const TYPE: &[u8] = b"\x02type\x00\x07\x00\x00\x00string\x00";
 
 #[test]
 fn the_faults_of_a_schema_in_the_smallest_ones(rt: HostRuntime) -> Result<(), Fail> {
-    let cases: [([&[u8]; 3], [&[u8]; 3], SchemaFault); 4] = [
-        (ROOT, [NO_KEYWORD, NONE, NONE], SchemaFault::Keyword),
-        (ROOT, [NO_PROPERTIES, NONE, NONE], SchemaFault::Shape),
-        (ROOT, [ENCRYPT, NONE, NONE], SchemaFault::Misplaced),
-        (A, [ENCRYPT, TYPE, NONE], SchemaFault::Sibling),
+    let cases: &[(&[&[u8]], &[&[u8]], SchemaFault)] = &[
+        (&ROOT, &[NO_KEYWORD], SchemaFault::Keyword),
+        (&ROOT, &[NO_PROPERTIES], SchemaFault::Shape),
+        (&ROOT, &[ENCRYPT], SchemaFault::Misplaced),
+        (&A, &[ENCRYPT, TYPE], SchemaFault::Sibling),
     ];
     for (path, parts, expected) in cases {
-        assert_eq!(rt; fault(rt.alloc(), &path, &parts)?, Some(expected));
+        assert_eq!(rt; fault(rt.alloc(), path, parts)?, Some(*expected));
     }
     Ok(())
 }
 
 #[test]
 fn the_faults_of_a_rule_in_the_smallest_schemas(rt: HostRuntime) -> Result<(), Fail> {
-    let cases: [([&[u8]; 3], [&[u8]; 3], SchemaFault); 6] = [
-        (ENCRYPT_A, [RANDOM, NONE, NONE], SchemaFault::NoKey),
-        (ENCRYPT_A, [KEY_1, NONE, NONE], SchemaFault::NoAlgorithm),
+    let cases: &[(&[&[u8]], &[&[u8]], SchemaFault)] = &[
+        (&ENCRYPT_A, &[RANDOM], SchemaFault::NoKey),
+        (&ENCRYPT_A, &[KEY_1], SchemaFault::NoAlgorithm),
         (
-            ENCRYPT_A,
-            [KEY_1, NO_SUCH_ALGORITHM, NONE],
+            &ENCRYPT_A,
+            &[KEY_1, NO_SUCH_ALGORITHM],
             SchemaFault::Algorithm,
         ),
-        (ENCRYPT_A, [KEY_1, RANDOM, NULL], SchemaFault::TypeName),
+        (&ENCRYPT_A, &[KEY_1, RANDOM, NULL], SchemaFault::TypeName),
         (
-            ENCRYPT_A,
-            [KEY_1, DETERMINISTIC, NONE],
+            &ENCRYPT_A,
+            &[KEY_1, DETERMINISTIC],
             SchemaFault::DeterministicType,
         ),
-        (ENCRYPT_DOT, [KEY_1, RANDOM, NONE], SchemaFault::Name),
+        (&ENCRYPT_DOT, &[KEY_1, RANDOM], SchemaFault::Name),
     ];
     for (path, parts, expected) in cases {
-        assert_eq!(rt; fault(rt.alloc(), &path, &parts)?, Some(expected));
+        assert_eq!(rt; fault(rt.alloc(), path, parts)?, Some(*expected));
     }
     Ok(())
 }
 
 #[test]
 fn elements_are_judged_in_order_and_before_all_else(rt: HostRuntime) -> Result<(), Fail> {
-    let cases: [([&[u8]; 3], [&[u8]; 3], SchemaFault); 6] = [
-        (
-            ROOT,
-            [NO_KEYWORD, NO_PROPERTIES, NONE],
-            SchemaFault::Keyword,
-        ),
-        (ROOT, [NO_PROPERTIES, NO_KEYWORD, NONE], SchemaFault::Shape),
-        (ROOT, [ENCRYPT, NO_PROPERTIES, NONE], SchemaFault::Shape),
-        (ROOT, [ENCRYPT, NO_KEYWORD, NONE], SchemaFault::Keyword),
-        (ROOT, [ENCRYPT, TYPE, NONE], SchemaFault::Misplaced),
-        (A, [ENCRYPT_OTHERWISE, TYPE, NONE], SchemaFault::Sibling),
+    let cases: &[(&[&[u8]], &[&[u8]], SchemaFault)] = &[
+        (&ROOT, &[NO_KEYWORD, NO_PROPERTIES], SchemaFault::Keyword),
+        (&ROOT, &[NO_PROPERTIES, NO_KEYWORD], SchemaFault::Shape),
+        (&ROOT, &[ENCRYPT, NO_PROPERTIES], SchemaFault::Shape),
+        (&ROOT, &[ENCRYPT, NO_KEYWORD], SchemaFault::Keyword),
+        (&ROOT, &[ENCRYPT, TYPE], SchemaFault::Misplaced),
+        (&A, &[ENCRYPT_OTHERWISE, TYPE], SchemaFault::Sibling),
     ];
     for (path, parts, expected) in cases {
-        assert_eq!(rt; fault(rt.alloc(), &path, &parts)?, Some(expected));
+        assert_eq!(rt; fault(rt.alloc(), path, parts)?, Some(*expected));
     }
     Ok(())
 }
@@ -86,33 +82,29 @@ const NULL_AND_INT: &[u8] =
 
 #[test]
 fn a_rule_is_judged_in_order(rt: HostRuntime) -> Result<(), Fail> {
-    let cases: [([&[u8]; 3], [&[u8]; 3], SchemaFault); 7] = [
+    let cases: &[(&[&[u8]], &[&[u8]], SchemaFault)] = &[
+        (&ENCRYPT_A, &[NO_SUCH_ALGORITHM], SchemaFault::Algorithm),
         (
-            ENCRYPT_A,
-            [NO_SUCH_ALGORITHM, NONE, NONE],
+            &ENCRYPT_A,
+            &[NO_SUCH_ALGORITHM, NULL],
             SchemaFault::Algorithm,
         ),
+        (&ENCRYPT_A, &[], SchemaFault::NoKey),
+        (&ENCRYPT_A, &[KEY_1, NULL], SchemaFault::NoAlgorithm),
         (
-            ENCRYPT_A,
-            [NO_SUCH_ALGORITHM, NULL, NONE],
-            SchemaFault::Algorithm,
-        ),
-        (ENCRYPT_A, [NONE, NONE, NONE], SchemaFault::NoKey),
-        (ENCRYPT_A, [KEY_1, NULL, NONE], SchemaFault::NoAlgorithm),
-        (
-            ENCRYPT_A,
-            [KEY_1, DETERMINISTIC, NULL_AND_INT],
+            &ENCRYPT_A,
+            &[KEY_1, DETERMINISTIC, NULL_AND_INT],
             SchemaFault::TypeName,
         ),
-        (ENCRYPT_DOT, [KEY_1, RANDOM, NULL], SchemaFault::TypeName),
+        (&ENCRYPT_DOT, &[KEY_1, RANDOM, NULL], SchemaFault::TypeName),
         (
-            ENCRYPT_DOT,
-            [KEY_1, DETERMINISTIC, NONE],
+            &ENCRYPT_DOT,
+            &[KEY_1, DETERMINISTIC],
             SchemaFault::DeterministicType,
         ),
     ];
     for (path, parts, expected) in cases {
-        assert_eq!(rt; fault(rt.alloc(), &path, &parts)?, Some(expected));
+        assert_eq!(rt; fault(rt.alloc(), path, parts)?, Some(*expected));
     }
     Ok(())
 }
@@ -130,35 +122,35 @@ const METADATA_OTHERWISE: &[u8] =
 
 #[test]
 fn a_schema_is_judged_before_its_subschemas(rt: HostRuntime) -> Result<(), Fail> {
-    let cases: [([&[u8]; 3], [&[u8]; 3], SchemaFault); 5] = [
+    let cases: &[(&[&[u8]], &[&[u8]], SchemaFault)] = &[
         (
-            ROOT,
-            [PROPERTIES_WITHOUT_KEYWORD, METADATA_OTHERWISE, NONE],
+            &ROOT,
+            &[PROPERTIES_WITHOUT_KEYWORD, METADATA_OTHERWISE],
             SchemaFault::Algorithm,
         ),
         (
-            ROOT,
-            [PROPERTIES_WITHOUT_KEYWORD, NO_PROPERTIES, NONE],
+            &ROOT,
+            &[PROPERTIES_WITHOUT_KEYWORD, NO_PROPERTIES],
             SchemaFault::Shape,
         ),
         (
-            A,
-            [PROPERTIES_WITHOUT_KEYWORD, ENCRYPT, NONE],
+            &A,
+            &[PROPERTIES_WITHOUT_KEYWORD, ENCRYPT],
             SchemaFault::Sibling,
         ),
         (
-            ROOT,
-            [NOT_ENCRYPT, PROPERTIES_WITHOUT_KEYWORD, NONE],
+            &ROOT,
+            &[NOT_ENCRYPT, PROPERTIES_WITHOUT_KEYWORD],
             SchemaFault::Misplaced,
         ),
         (
-            ROOT,
-            [PROPERTIES_WITHOUT_KEYWORD, NOT_ENCRYPT, NONE],
+            &ROOT,
+            &[PROPERTIES_WITHOUT_KEYWORD, NOT_ENCRYPT],
             SchemaFault::Keyword,
         ),
     ];
     for (path, parts, expected) in cases {
-        assert_eq!(rt; fault(rt.alloc(), &path, &parts)?, Some(expected));
+        assert_eq!(rt; fault(rt.alloc(), path, parts)?, Some(*expected));
     }
     Ok(())
 }
@@ -176,36 +168,33 @@ const METADATA: &[u8] = b"\x03encryptMetadata\x00\x05\x00\x00\x00\x00";
 
 #[test]
 fn rules_stand_below_properties_alone(rt: HostRuntime) -> Result<(), Fail> {
-    let cases: [([&[u8]; 3], [&[u8]; 3]); 6] = [
-        (ROOT, [ENCRYPT, NONE, NONE]),
-        ([NONE, NONE, b"items"], [ENCRYPT, NONE, NONE]),
-        (A, [ITEMS_ENCRYPT, NONE, NONE]),
-        ([NONE, b"patternProperties", b"a"], [ENCRYPT, NONE, NONE]),
-        ([NONE, NONE, b"additionalProperties"], [ENCRYPT, NONE, NONE]),
-        ([NONE, NONE, b"additionalItems"], [ENCRYPT, NONE, NONE]),
+    let cases: &[(&[&[u8]], &[&[u8]])] = &[
+        (&ROOT, &[ENCRYPT]),
+        (&[b"items"], &[ENCRYPT]),
+        (&A, &[ITEMS_ENCRYPT]),
+        (&[b"patternProperties", b"a"], &[ENCRYPT]),
+        (&[b"additionalProperties"], &[ENCRYPT]),
+        (&[b"additionalItems"], &[ENCRYPT]),
     ];
     for (path, parts) in cases {
         let expected = Some(SchemaFault::Misplaced);
-        assert_eq!(rt; fault(rt.alloc(), &path, &parts)?, expected);
+        assert_eq!(rt; fault(rt.alloc(), path, parts)?, expected);
     }
     Ok(())
 }
 
 #[test]
 fn no_rules_stand_below_dependencies_not_and_items(rt: HostRuntime) -> Result<(), Fail> {
-    let cases: [([&[u8]; 3], [&[u8]; 3]); 5] = [
-        ([NONE, b"dependencies", b"a"], [ENCRYPT, NONE, NONE]),
-        ([NONE, NONE, b"not"], [ENCRYPT, NONE, NONE]),
-        (
-            [b"properties", b"a", b"items"],
-            [PROPERTIES_ENCRYPT, NONE, NONE],
-        ),
-        ([NONE, NONE, b"items"], [METADATA, NONE, NONE]),
-        ([NONE, b"dependencies", b"a"], [METADATA, NONE, NONE]),
+    let cases: &[(&[&[u8]], &[&[u8]])] = &[
+        (&[b"dependencies", b"a"], &[ENCRYPT]),
+        (&[b"not"], &[ENCRYPT]),
+        (&[b"properties", b"a", b"items"], &[PROPERTIES_ENCRYPT]),
+        (&[b"items"], &[METADATA]),
+        (&[b"dependencies", b"a"], &[METADATA]),
     ];
     for (path, parts) in cases {
         let expected = Some(SchemaFault::Misplaced);
-        assert_eq!(rt; fault(rt.alloc(), &path, &parts)?, expected);
+        assert_eq!(rt; fault(rt.alloc(), path, parts)?, expected);
     }
     Ok(())
 }
@@ -231,32 +220,32 @@ const FIELD_A: &[u8] = b"\x03a\x00\x05\x00\x00\x00\x00";
 
 #[test]
 fn keywords_stand_once_and_have_their_forms(rt: HostRuntime) -> Result<(), Fail> {
-    let cases: [([&[u8]; 3], [&[u8]; 3]); 5] = [
-        (ROOT, [TYPE, TYPE, NONE]),
-        ([NONE, NONE, b"properties"], [FIELD_A, FIELD_A, NONE]),
-        ([NONE, NONE, b"allOf"], [FIELD_A, NONE, NONE]),
-        (ROOT, [ITEMS_BOOL, NONE, NONE]),
-        ([NONE, b"not", b"properties"], [NO_KEYWORD, NONE, NONE]),
+    let cases: &[(&[&[u8]], &[&[u8]])] = &[
+        (&ROOT, &[TYPE, TYPE]),
+        (&[b"properties"], &[FIELD_A, FIELD_A]),
+        (&[b"allOf"], &[FIELD_A]),
+        (&ROOT, &[ITEMS_BOOL]),
+        (&[b"not", b"properties"], &[NO_KEYWORD]),
     ];
     for (path, parts) in cases {
-        assert_eq!(rt; fault(rt.alloc(), &path, &parts)?, Some(SchemaFault::Shape));
+        assert_eq!(rt; fault(rt.alloc(), path, parts)?, Some(SchemaFault::Shape));
     }
     Ok(())
 }
 
 #[test]
 fn settings_stand_once_and_have_their_forms(rt: HostRuntime) -> Result<(), Fail> {
-    let cases: [([&[u8]; 3], [&[u8]; 3]); 7] = [
-        (ENCRYPT_A, [KEY_1, KEY_1, NONE]),
-        (ENCRYPT_A, [KEY_NAMED, NONE, NONE]),
-        (ENCRYPT_A, [KEY_OF_SUBTYPE_3, NONE, NONE]),
-        (ENCRYPT_A, [NO_KEYS, NONE, NONE]),
-        (ENCRYPT_A, [NO_TYPES, NONE, NONE]),
-        (ENCRYPT_A, [TYPE, NONE, NONE]),
-        ([NONE, NONE, b"encryptMetadata"], [INT, NONE, NONE]),
+    let cases: &[(&[&[u8]], &[&[u8]])] = &[
+        (&ENCRYPT_A, &[KEY_1, KEY_1]),
+        (&ENCRYPT_A, &[KEY_NAMED]),
+        (&ENCRYPT_A, &[KEY_OF_SUBTYPE_3]),
+        (&ENCRYPT_A, &[NO_KEYS]),
+        (&ENCRYPT_A, &[NO_TYPES]),
+        (&ENCRYPT_A, &[TYPE]),
+        (&[b"encryptMetadata"], &[INT]),
     ];
     for (path, parts) in cases {
-        assert_eq!(rt; fault(rt.alloc(), &path, &parts)?, Some(SchemaFault::Shape));
+        assert_eq!(rt; fault(rt.alloc(), path, parts)?, Some(SchemaFault::Shape));
     }
     Ok(())
 }

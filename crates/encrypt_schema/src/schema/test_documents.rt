@@ -8,9 +8,6 @@ use std::test::Fail;
 /// The longest document that a test makes.
 const LONGEST: usize = 1_000_000;
 
-/// No name, or no elements, where a table has room for more.
-pub(crate) const NONE: &[u8] = b"";
-
 /// `keyId: [K1]`, K1 being the UUID of sixteen bytes `1`.
 pub(crate) const KEY_1: &[u8] =
     b"\x04keyId\x00\x1D\x00\x00\x00\x050\x00\x10\x00\x00\x00\x041111111111111111\x00";
