@@ -2,7 +2,7 @@
 use Rattle.std.proofs.Common.{◌≡◌, ◌∙◌, ℕ, zero, suc, ◌-◌, ◌==◌, length, Bool, true, false, cond, List, [], ◌∷◌, map}
 use Rattle.std.proofs.Common.{take, Option, Some, None, Result, Ok, Err, OnOk, OnErr, refl, sym, ap, subst}
 use Rattle.std.proofs.Common.{inl, inr}
-use Rattle.std.specs.Prelude.{bytes_eq, is_some, IfSome, IsSome, IsOk, option_copied, option_map, unwrap_or}
+use Rattle.std.specs.Prelude.{bytes_eq, slice_get, is_some, IfSome, IsSome, IsOk, option_copied, option_map, unwrap_or}
 use Rattle.std.specs.Prelude.{if◌then◌else◌}
 use Rattle.std.specs.Option.{option_map_or}
 use Rattle.std.specs.Cmp.Lexicographic.{bytes_decides}
@@ -15,8 +15,8 @@ use Rattle.lru.proofs.CallerLemmas.{Contains-lookup, Contains-promoted, Contains
 use Rattle.data_key.specs.declared.key_doc.KeyDoc.{KeyDoc}
 use Rattle.local_kms.specs.Wrapped.{Unwraps, unwrapped, key_of_plain}
 use Rattle.key_vault.specs.declared.cache.Opened.{Opened}
-use Rattle.key_vault.specs.Cached.{AreOpened, Entry, capacity, entry_in, entry_of, found_first, is_kept, kept_first}
-use Rattle.key_vault.specs.Cached.{kept_key, key_from, used_first, without, KeepsOpened}
+use Rattle.key_vault.specs.Cached.{AreOpened, Entry, capacity, entry_in, entry_of, found_first, is_first, is_kept}
+use Rattle.key_vault.specs.Cached.{kept_first, kept_key, key_from, used_first, without, KeepsOpened}
 
 -- a look-up gives what was kept
 pub looked_up : (master : List ℕ) (test : List ℕ → Bool) (es : List (List ℕ × Opened)) (v : Opened)
@@ -254,6 +254,43 @@ used_by key k es (Some f) has e = by_test (bytes_eq f.material key.material) ref
 pub used_kept : (key : KeyDoc) (k : List ℕ) (es : List Entry) → kept_key key es ≡ Some k
     → used_first key.id es ≡ kept_first (record { id = key.id; material = key.material; key = k }) es
 used_kept key k es e = used_by key k es (entry_in key.id es) (has_id key.id es) e
+
+-- ---- the most recently used
+
+-- a look-up finds it where it has the id
+pub first_looked_up : (id : List ℕ) (es : List (List ℕ × Opened)) (e : List ℕ × Opened) → Some e ≡ slice_get es 0
+    → bytes_eq id e.0 ≡ true → Some e.1 ≡ lookup (bytes_eq id) es
+first_looked_up id [] e is same = absurd cc
+first_looked_up id (f ∷ es) e is same =
+    let one : e ≡ f = ap (λ (o : Option (List ℕ × Opened)). unwrap_or o e) is in
+    ap (λ (x : List ℕ × Opened). Some x.1) one
+    ∙ sym (ap (λ (b : Bool). cond b (Some f.1) (lookup (bytes_eq id) es))
+    (subst (λ (x : List ℕ × Opened). bytes_eq id x.0 ≡ true) one same))
+
+pub none_looked_up : (id : List ℕ) (es : List (List ℕ × Opened)) → None ≡ slice_get es 0
+    → None ≡ lookup (bytes_eq id) es
+none_looked_up id [] is = refl
+none_looked_up id (f ∷ es) is = absurd cc
+
+pub first_by : (id : List ℕ) (es : List (List ℕ × Opened)) (e : List ℕ × Opened) → Some e ≡ slice_get es 0
+    → bytes_eq id e.0 ≡ is_first id (map entry_of es)
+first_by id [] e is = absurd cc
+first_by id (f ∷ es) e is =
+    ap (λ (x : List ℕ × Opened). bytes_eq id x.0) (ap (λ (o : Option (List ℕ × Opened)). unwrap_or o e) is)
+
+pub none_first : (id : List ℕ) (es : List (List ℕ × Opened)) → None ≡ slice_get es 0
+    → false ≡ is_first id (map entry_of es)
+none_first id [] is = refl
+none_first id (f ∷ es) is = absurd cc
+
+-- used once more, it stays first
+pub used_again : (id : List ℕ) (es : List Entry) → is_first id es ≡ true → es ≡ used_first id es
+used_again id [] same = refl
+used_again id (e ∷ es) same =
+    let self : bytes_eq e.id e.id ≡ true = (bytes_decides e.id e.id).1 refl in
+    sym (ap (λ (b : Bool). found_first (cond b (Some e) (entry_in id es)) (e ∷ es)) same
+    ∙ ap (λ (b : Bool). e ∷ cond (cond b true (is_kept e.id es)) (cond b es (e ∷ without e.id es))
+    (take (capacity - 1) (e ∷ es))) self)
 
 -- ---- put
 map_take : (n : ℕ) (es : List (List ℕ × Opened)) → map entry_of (take n es) ≡ take n (map entry_of es)

@@ -85,6 +85,11 @@ KeepsOpened key opened before now =
     (now ≡ kept_first (record { id = key.id; material = key.material; key = opened }) before)
     ⊎ ((is_kept key.id before ≡ false) × (now ≡ before))
 
+-- the most recently used entry has this id
+abbrev pub is_first : List ℕ → List Entry → Bool
+is_first id [] = false
+is_first id (e ∷ es) = bytes_eq id e.id
+
 -- after a refusal the list is as before
 abbrev pub Keeps : KeyDoc → List Entry → List Entry → Result (List ℕ) UnwrapFault → Type 0
 Keeps key before now (Ok opened) = KeepsOpened key opened before now

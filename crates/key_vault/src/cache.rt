@@ -1,8 +1,10 @@
 //! A bounded cache of opened keys.
 
 ghost use Rattle.std.specs.Prelude.{◌≡◌, ℕ, List, [], map, length, bytes_eq, option_copied, Ok, IfOk, IfSome, Some};
+ghost use Rattle.std.specs.Map.{lookup};
 ghost use Rattle.local_kms.specs.Wrapped.{Unwraps};
-ghost use Rattle.key_vault.specs.Cached.{AreOpened, capacity, entry_of, Keeps, KeepsOpened, kept_key, used_first};
+ghost use Rattle.key_vault.specs.Cached.{AreOpened, capacity, entry_of, is_first, Keeps, KeepsOpened, kept_key};
+ghost use Rattle.key_vault.specs.Cached.{used_first};
 
 use crate::kept_key::{KeptKey, again};
 use crypto_hooks::Block256;
@@ -132,7 +134,9 @@ impl KeyCache {
         ensures master { self.new.master ≡ self.old.master }
         ensures first { self.new.entries ≡ used_first id.now self.old.entries }
     {
-        self.kept.promote(id);
+        if !is_first(&self.kept, id) {
+            self.kept.promote(id);
+        }
     }
 }
 
@@ -140,7 +144,7 @@ impl KeyCache {
 fn found<'k>(kept: &'k LruCache<[u8; 16], Opened>, key: &KeyDoc) -> Option<&'k KeptKey>
     ensures found { option_copied result ≡ kept_key key.now (map entry_of kept.now.entries) }
 {
-    match kept.peek(&key.id) {
+    match looked_up(kept, &key.id) {
         Some(opened) => {
             if is_material(&opened.material, key.material.as_slice()) {
                 Some(&opened.key)
@@ -149,6 +153,32 @@ fn found<'k>(kept: &'k LruCache<[u8; 16], Opened>, key: &KeyDoc) -> Option<&'k K
             }
         }
         None => None,
+    }
+}
+
+/// What is kept under an id. The most recently used is looked at first, for which the id isn't hashed.
+fn looked_up<'k>(kept: &'k LruCache<[u8; 16], Opened>, id: &[u8; 16]) -> Option<&'k Opened>
+    ensures value { option_copied result ≡ lookup (bytes_eq id.now) kept.now.entries }
+{
+    match kept.peek_mru() {
+        Some((first, opened)) => {
+            if *id == *first {
+                Some(opened)
+            } else {
+                kept.peek(id)
+            }
+        }
+        None => None,
+    }
+}
+
+/// Whether the most recently used key has this id.
+fn is_first(kept: &LruCache<[u8; 16], Opened>, id: &[u8; 16]) -> bool
+    ensures first { result ≡ is_first id.now (map entry_of kept.now.entries) }
+{
+    match kept.peek_mru() {
+        Some((first, _)) => *id == *first,
+        None => false,
     }
 }
 

@@ -11,6 +11,9 @@ use std::alloc::Global;
 use std::collections::HashMap;
 use std::marker::Model;
 
+/// So many keys are looked through for one of an id, which costs less than its hash.
+const FEW: usize = 8;
+
 /// The keys of a file, seen as their list, in the file's order.
 #[derive(Drop)]
 pub struct Vault {
@@ -72,10 +75,13 @@ impl Vault {
         &self.keys
     }
 
-    /// The key of this id, found by its hash; `None` exactly where there is none.
+    /// The key of this id, found by its hash where there are more than eight; `None` exactly where there is none.
     pub fn by_id(&self, id: &[u8; 16]) -> Option<&KeyDoc>
         ensures found { option_copied result ≡ key_by_id self.now id.now }
     {
+        if self.keys.len() <= FEW {
+            return first_key(&self.keys, id);
+        }
         match number_of_id(&self.ids, id) {
             Some(number) => key_at(&self.keys, number as usize),
             None => None,
@@ -102,6 +108,18 @@ impl Vault {
             names: HashMap::new(alloc),
         }
     }
+}
+
+/// The first key of an id of these, which are looked through.
+fn first_key<'k>(keys: &'k [KeyDoc], id: &[u8; 16]) -> Option<&'k KeyDoc>
+    ensures found { option_copied result ≡ key_by_id keys.now id.now }
+{
+    for key in keys {
+        if key.id == *id {
+            return Some(key);
+        }
+    }
+    None
 }
 
 /// Key number `i`, from 0.

@@ -1,6 +1,6 @@
-use Rattle.std.proofs.Common.{◌∙◌, sym, subst, ap, map}
+use Rattle.std.proofs.Common.{◌≡◌, ◌∙◌, sym, subst, ap, map, rules, true}
 use Rattle.key_vault.specs.Cached.{AreOpened, entry_of}
-use Rattle.key_vault.proofs.Kept.{promoted_opened, promoted_used}
+use Rattle.key_vault.proofs.Kept.{promoted_opened, promoted_used, used_again}
 use Rattle.key_vault.proofs.cache.KeyCache.promote.Goals as goal
 
 pub invariant_of-self : goal.invariant_of-self
@@ -10,8 +10,14 @@ invariant_of-self c = (
   ap (λ s. s.cap) c.promote.ensures.entries ∙ c.self.invariant.1,
 )
 
-pub returns-clause-first : goal.returns-clause-first
-returns-clause-first c =
+pub returns-then-not-is_first-clause-first : goal.returns-then-not-is_first-clause-first
+returns-then-not-is_first-clause-first c =
     rw (sym c.self.view_is)
     (ap (λ s. map entry_of s.entries) c.promote.ensures.entries
     ∙ promoted_used c.args.id.now c.self.inside.kept.entries)
+
+pub returns-else-not-is_first-clause-first : goal.returns-else-not-is_first-clause-first
+returns-else-not-is_first-clause-first c =
+    let first : c.is_first.result ≡ true = search rules in
+    rw (sym c.self.view_is)
+    (used_again c.args.id.now (map entry_of c.self.inside.kept.entries) (sym c.is_first.ensures.first ∙ first))
