@@ -1,18 +1,19 @@
 -- The slots of the ids that are needed: one more, and a number in one.
-use Rattle.std.proofs.Common.{◌≡◌, ◌∙◌, ℕ, ◌+◌, Bool, true, false, not, ◌&&◌, ◌||◌, cond, List, [], ◌∷◌, ◌++◌, length}
-use Rattle.std.proofs.Common.{Option, Some, None, refl, sym, ap, subst, arith}
+use Rattle.std.proofs.Common.{◌≡◌, ◌∙◌, ◌≤◌, ◌<◌, ℕ, ◌+◌, Bool, true, false, not, ◌&&◌, ◌||◌, cond, List, []}
+use Rattle.std.proofs.Common.{◌∷◌, ◌++◌, length, Option, Some, None, Result, Ok, Err, OnOk, refl, sym, ap, subst, arith}
 use Rattle.std.specs.Prelude.{bytes_eq, is_some}
 use Rattle.std.specs.BTreeMap.{BTreeMap, UpdatesBy}
 use Rattle.std.specs.Cmp.Lexicographic.{bytes_decides, slice_cmp}
 use Rattle.std.specs.Ordering.{nat_cmp}
+use Rattle.std.proofs.lemmas.List.{length_push}
 use Rattle.std.proofs.lemmas.Map.Text.{is_eq-slice_cmp}
 use Rattle.data_key.specs.declared.key_doc.KeyDoc.{KeyDoc}
 use Rattle.key_vault.specs.Keys.{first_key, has_id, place_from}
 use Rattle.context_machine.specs.declared.need.Need.{Need}
-use Rattle.context_machine.specs.Kept.{fed, is_kept}
+use Rattle.context_machine.specs.Kept.{fed, is_kept, lacking}
 use Rattle.context_machine.specs.Needs.{is_needed}
-use Rattle.context_machine.specs.Slots.{AreSlots, is_free, number_in, slot_of}
-use Rattle.context_machine.proofs.Kept.{needed_behind}
+use Rattle.context_machine.specs.Slots.{AreManySlots, AreSlots, is_free, number_in, slot_of}
+use Rattle.context_machine.proofs.Kept.{lacks_less, needed_behind}
 
 -- the slot of one id is put, and others stay
 pub put_one : (id : List ℕ) (m n : BTreeMap (List ℕ) (Option ℕ)) (w : Option (Option ℕ))
@@ -89,19 +90,29 @@ both false b e = absurd cc
 both true true e = absurd cc
 both true false e = (refl, refl)
 
+-- a key is new: its id is needed, and no key of it is kept
+abbrev is_new : List Need → List KeyDoc → KeyDoc → Bool
+is_new needs kept k = is_needed k.id needs && not (is_kept k.id kept)
+
+module _ (needs : List Need) (kept : List KeyDoc) (k : KeyDoc) where
+  pub new_key : is_new needs kept k ≡ true → (is_needed k.id needs ≡ true) × (is_kept k.id kept ≡ false)
+  new_key new = both (is_needed k.id needs) (is_kept k.id kept) new
+
+  pub fed_new : is_new needs kept k ≡ true → kept ++ k ∷ [] ≡ fed needs kept k
+  fed_new new = ap (λ (b : Bool). cond b (kept ++ k ∷ []) kept) (sym new)
+
+  pub fed_old : is_new needs kept k ≡ false → kept ≡ fed needs kept k
+  fed_old old = ap (λ (b : Bool). cond b (kept ++ k ∷ []) kept) (sym old)
+
+  -- one need less is without a key
+  pub less_new : is_new needs kept k ≡ true → lacking (kept ++ (k ∷ [])) needs + 1 ≤ lacking kept needs
+  less_new new = lacks_less kept k needs (new_key new).0 (new_key new).1
+
 module _ (needs : List Need) (kept : List KeyDoc) (m : BTreeMap (List ℕ) (Option ℕ)) (k : KeyDoc)
     (are : AreSlots needs kept m) where
-  -- a key whose slot is free is needed and new
-  pub open_key : is_free (slot_of m k.id) ≡ true → (is_needed k.id needs ≡ true) × (is_kept k.id kept ≡ false)
-  open_key free = both (is_needed k.id needs) (is_kept k.id kept) (sym (is_open needs kept m are k.id) ∙ free)
-
-  pub fed_free : is_free (slot_of m k.id) ≡ true → kept ++ k ∷ [] ≡ fed needs kept k
-  fed_free free =
-      ap (λ (b : Bool). cond b (kept ++ k ∷ []) kept) (sym free ∙ is_open needs kept m are k.id)
-
-  pub fed_taken : is_free (slot_of m k.id) ≡ false → kept ≡ fed needs kept k
-  fed_taken taken =
-      ap (λ (b : Bool). cond b (kept ++ k ∷ []) kept) (sym taken ∙ is_open needs kept m are k.id)
+  -- a key is new where its slot is free
+  pub new_by : (b : Bool) → is_free (slot_of m k.id) ≡ b → is_new needs kept k ≡ b
+  new_by b free = sym (is_open needs kept m are k.id) ∙ free
 
 -- ---- a key more
 
@@ -163,4 +174,38 @@ key_more needs kept m n k number are filled free count =
           (sym (are.numbered k.id) ∙ none_there (slot_of m k.id) free))
           ∙ ap (or_new (place_from 0 (has_id id) kept) (bytes_eq k.id id)) size
           ∙ sym (place_behind 0 (has_id id) kept k);
+    }
+
+-- ---- few and many
+
+-- the same where many are needed
+pub key_more_many : (needs : List Need) (kept : List KeyDoc) (m n : BTreeMap (List ℕ) (Option ℕ)) (k : KeyDoc)
+    (number : ℕ) → 8 < length needs → AreSlots needs kept m
+    → ((other : List ℕ) → slot_of n other
+    ≡ cond (is_free (slot_of m k.id) && bytes_eq k.id other) (Some (Some number)) (slot_of m other))
+    → is_free (slot_of m k.id) ≡ true → number ≡ length kept → AreManySlots needs (kept ++ k ∷ []) n
+key_more_many needs kept m n k number many are filled free count = record {
+  few = λ few. absurd (omega (arith, many, few));
+  many = λ _. key_more needs kept m n k number are filled free count;
+}
+
+-- few have no slots, whatever is kept
+pub no_more_slots : (needs : List Need) (kept more : List KeyDoc) (m : BTreeMap (List ℕ) (Option ℕ))
+    → length needs ≤ 8 → AreManySlots needs kept m → AreManySlots needs more m
+no_more_slots needs kept more m few are = record {
+  few = are.few;
+  many = λ many. absurd (omega (arith, many, few));
+}
+
+-- a value more, with its slot, where they are many
+pub slot_more : {A E : Type 0} (needs more : List Need) (m n : BTreeMap (List ℕ) (Option ℕ)) (need : Need)
+    (r : Result A E) → more ≡ needs ++ need ∷ [] → 8 < length needs → AreManySlots needs [] m
+    → OnOk r ((other : List ℕ) → slot_of n other ≡ cond (bytes_eq need.id other) (Some None) (slot_of m other))
+    → OnOk r (AreManySlots more [] n)
+slot_more needs more m n need (Err e) is many are put = tt
+slot_more needs more m n need (Ok a) is many are put =
+    let size : length more ≡ length needs + 1 = ap length is ∙ length_push needs need in
+    record {
+      few = λ few. absurd (omega (arith, many, few, size));
+      many = λ _. subst (λ (ns : List Need). AreSlots ns [] n) (sym is) (one_more needs m n need (are.many many) put);
     }

@@ -1,5 +1,5 @@
 -- MongoDB Client Side Encryption: a slot for each id that is needed, and the number of its key among those kept
-use Rattle.std.specs.Prelude.{◌≡◌, ℕ, Bool, true, false, List, Option, Some, None, is_some}
+use Rattle.std.specs.Prelude.{◌≡◌, ◌<◌, ◌≤◌, ℕ, Bool, true, false, List, [], length, Option, Some, None, is_some}
 use Rattle.std.specs.BTreeMap.{BTreeMap, get_by}
 use Rattle.std.specs.Cmp.Lexicographic.{slice_cmp}
 use Rattle.std.specs.Ordering.{nat_cmp}
@@ -27,3 +27,8 @@ is_free (Some (Some number)) = false
 pub record AreSlots (needs : List Need) (kept : List KeyDoc) (slots : BTreeMap (List ℕ) (Option ℕ)) : Type 0 where
   pub there : (id : List ℕ) → is_some (slot_of slots id) ≡ is_needed id needs
   pub numbered : (id : List ℕ) → number_in (slot_of slots id) ≡ place_from 0 (has_id id) kept
+
+-- the ids of more than eight keys have slots, those of fewer none
+pub record AreManySlots (needs : List Need) (kept : List KeyDoc) (slots : BTreeMap (List ℕ) (Option ℕ)) : Type 0 where
+  pub few : length needs ≤ 8 → AreSlots [] [] slots
+  pub many : 8 < length needs → AreSlots needs kept slots

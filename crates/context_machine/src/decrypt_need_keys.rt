@@ -15,6 +15,7 @@ ghost use Rattle.context_machine.specs.Tables.{KeysFail};
 use crate::decrypt_ready::DecryptReady;
 use crate::keys_asked::key_filter;
 use crate::need::Need;
+use crate::needed::put_new;
 use crate::opened_keys::{KeysStop, open_keys, open_keys_cached};
 use crate::wanted::Wanted;
 use bson_codec::RawDoc;
@@ -26,6 +27,7 @@ use fle_outside::Memory;
 use key_vault::KeyCache;
 use local_kms::MasterKey;
 use std::alloc::Global;
+use std::collections::BTreeMap;
 use std::marker::Model;
 
 /// A document whose payloads need keys, and the keys kept so far.
@@ -182,32 +184,25 @@ impl<'a> DecryptNeedKeys<'a> {
 fn wanted_of<'a>(alloc: Global, found: &Found) -> Result<Wanted<'a>, Memory>
     ensures wanted { IfOk result (λ w. w ≡ record { needs = first_needs (map need_found found.now); kept = [] }) }
 {
-    match uses_of(alloc, found) {
-        Ok(uses) => Wanted::new(alloc, &uses),
-        Err(Memory) => Err(Memory),
-    }
-}
-
-/// The needs of payloads, in their order.
-fn uses_of(alloc: Global, found: &Found) -> Result<Vec<Need>, Memory>
-    ensures uses { IfOk result (λ v. v.items ≡ map need_found found.now) }
-{
-    let Ok(mut uses) = Vec::with_capacity(alloc, found.len()) else {
-        return Err(Memory);
-    };
+    let mut needs = Vec::new(alloc);
+    let mut slots = BTreeMap::new(alloc);
     for i in 0..found.len() {
         match payload_at(found, i) {
-            Some(payload) => {
-                let id = payload.key_id;
-                let at = payload.start;
-                if uses.push(Need { id, at }).is_err() {
-                    return Err(Memory);
-                }
-            }
+            Some(payload) => put_new(&mut needs, &mut slots, need_of(&payload))?,
             None => unreachable!(),
         }
     }
-    Ok(uses)
+    Wanted::new(alloc, needs, slots)
+}
+
+/// What a payload needs: the key that it names.
+fn need_of(payload: &FoundAt) -> Need
+    ensures need { result ≡ need_found payload.now }
+{
+    Need {
+        id: payload.key_id,
+        at: payload.start,
+    }
 }
 
 /// The payload of this number, counted from 0.

@@ -32,6 +32,7 @@ mod need;
 mod need_coll_info;
 mod need_keys;
 mod need_markings;
+mod needed;
 mod opened_keys;
 mod ready;
 mod slots;

@@ -3,18 +3,16 @@
 ghost use Rattle.std.specs.Prelude.{◌≡◌, [], false, true, None, Some, option_copied, IfErr, IfOk};
 ghost use Rattle.bson_tree.specs.Spelling.{doc_bytes};
 ghost use Rattle.command_marker.specs.Commands.{is_marked_command};
-ghost use Rattle.context_machine.specs.Needs.{first_needs};
-ghost use Rattle.context_machine.specs.Rings.{needs_of};
 ghost use Rattle.context_machine.specs.Waiting.{IsRefusal};
 ghost use Rattle.encrypt_schema.specs.Commands.Offences.{is_view};
 ghost use Rattle.encrypt_schema.specs.Commands.Targets.{rows_in};
 ghost use Rattle.encrypt_schema.specs.Commands.Visits.{content_verdict};
 
-use crate::command_needs::needs_of;
+use crate::command_needs::wanted_by;
 use crate::need_keys::NeedKeys;
 use crate::wanted::Wanted;
 use bson_codec::RawDoc;
-use command_marker::{Marked, mark_command};
+use command_marker::mark_command;
 use encrypt_schema::{Info, MarkFault};
 use fle_outside::Memory;
 use std::alloc::Global;
@@ -95,10 +93,10 @@ fn wait<'a>(
 {
     match info {
         Some(info) => wait_marked(alloc, command, info),
-        None => match Wanted::new(alloc, &[]) {
-            Ok(wanted) => Ok(NeedKeys::new(command.again(), None, None, wanted)),
-            Err(Memory) => Err(MarkFault::Memory),
-        },
+        None => {
+            let wanted = Wanted::none(alloc);
+            Ok(NeedKeys::new(command.again(), None, None, wanted))
+        }
     }
 }
 
@@ -123,13 +121,4 @@ fn wait_marked<'a>(
         },
         Err(fault) => Err(fault),
     }
-}
-
-/// The keys that the values of a marked command need, none of them kept yet.
-fn wanted_by<'a>(alloc: Global, marked: &Marked<'_>) -> Result<Wanted<'a>, Memory>
-    ensures wanted { IfOk result (λ w.
-        w ≡ record { needs = first_needs (needs_of marked.now.rows marked.now.command); kept = [] }) }
-{
-    let needs = needs_of(alloc, marked)?;
-    Wanted::new(alloc, &needs)
 }

@@ -1,14 +1,15 @@
 //! The keys that are needed, and those that are kept.
 
-ghost use Rattle.std.specs.Prelude.{◌≡◌, ◌<◌, ◌∷◌, [], ◌++◌, false, true, drop, length, map, option_copied, option_map};
-ghost use Rattle.std.specs.Prelude.{slice_get, IfOk, OnOk};
+ghost use Rattle.std.specs.Prelude.{◌≡◌, ◌<◌, ◌≤◌, ◌∷◌, [], ◌++◌, ◌&&◌, false, true, drop, length, map, not};
+ghost use Rattle.std.specs.Prelude.{option_copied, option_map, slice_get, IfOk};
 ghost use Rattle.key_vault.specs.Keys.{key_by_id};
-ghost use Rattle.context_machine.specs.Kept.{fed};
-ghost use Rattle.context_machine.specs.Needs.{first_needs, put_new};
-ghost use Rattle.context_machine.specs.Slots.{AreSlots};
+ghost use Rattle.context_machine.specs.Kept.{fed, is_kept};
+ghost use Rattle.context_machine.specs.Needs.{is_needed};
+ghost use Rattle.context_machine.specs.Slots.{AreManySlots};
 
 use crate::need::Need;
-use crate::slots::{Slots, add_slot, fill_slot, has_slot, number_of};
+use crate::needed::{FEW, is_among};
+use crate::slots::{Slots, fill_slot, number_of};
 use data_key::KeyDoc;
 use fle_outside::Memory;
 use std::alloc::Global;
@@ -16,7 +17,7 @@ use std::collections::BTreeMap;
 use std::marker::Model;
 
 /// The first value that needs each key, in reading order, and the keys that are kept, in the order in which they were
-/// handed in. There is room for each key that is kept from now on, and a slot for its number.
+/// handed in. There is room for each key that is kept from now on, and a slot for its number where they aren't few.
 #[derive(Drop)]
 pub(crate) struct Wanted<'a> {
     needs: Vec<Need>,
@@ -27,23 +28,33 @@ pub(crate) struct Wanted<'a> {
 impl<'a> Model for Wanted<'a> {
     ghost use Rattle.std.specs.Prelude.{◌≤◌, ◌+◌, map, vec_len, vec_capacity};
     ghost use Rattle.context_machine.specs.Kept.{Wants, lacking};
-    ghost use Rattle.context_machine.specs.Slots.{AreSlots};
+    ghost use Rattle.context_machine.specs.Slots.{AreManySlots};
 
     ghost Value = { Wants };
 
     ghost view = { λ w. record { needs = w.needs.items; kept = map (λ k. k.now) w.kept.items } };
 
     ghost invariant = { λ w. (vec_len w.kept + lacking (map (λ k. k.now) w.kept.items) w.needs.items
-        ≤ vec_capacity w.kept) × AreSlots w.needs.items (map (λ k. k.now) w.kept.items) w.slots };
+        ≤ vec_capacity w.kept) × AreManySlots w.needs.items (map (λ k. k.now) w.kept.items) w.slots };
 }
 
 impl<'a> Wanted<'a> {
-    /// The keys that these values need, none of them kept yet. `Memory` where there is no room for them.
-    pub(crate) fn new(alloc: Global, uses: &[Need]) -> Result<Wanted<'a>, Memory>
-        ensures none { IfOk result (λ w. w ≡ record { needs = first_needs uses.now; kept = [] }) }
+    /// No key is needed. It takes no memory.
+    pub(crate) fn none(alloc: Global) -> Wanted<'a>
+        ensures none { result ≡ record { needs = []; kept = [] } }
     {
-        let mut slots = BTreeMap::new(alloc);
-        let needs = first_needs(alloc, uses, &mut slots)?;
+        Wanted {
+            needs: Vec::new(alloc),
+            slots: BTreeMap::new(alloc),
+            kept: Vec::new(alloc),
+        }
+    }
+
+    /// These values need keys, each another one, and none is kept yet. `Memory` where there is no room for them.
+    pub(crate) fn new(alloc: Global, needs: Vec<Need>, slots: Slots) -> Result<Wanted<'a>, Memory>
+        requires slots { AreManySlots needs.items [] slots }
+        ensures wanted { IfOk result (λ w. w ≡ record { needs = needs.items; kept = [] }) }
+    {
         match Vec::with_capacity(alloc, needs.len()) {
             Ok(kept) => Ok(Wanted { needs, slots, kept }),
             Err(_) => Err(Memory),
@@ -73,6 +84,32 @@ impl<'a> Wanted<'a> {
         ensures needs { self.new.needs ≡ self.old.needs }
         ensures fed { self.new.kept ≡ fed self.old.needs self.old.kept key.entry.now }
     {
+        if self.needs.len() > FEW {
+            self.feed_many(key);
+        } else {
+            self.feed_few(key);
+        }
+    }
+
+    /// The same where a few keys are needed: they are looked through.
+    fn feed_few(&mut self, key: &'a KeyDoc)
+        requires few { length self.old.needs ≤ 8 }
+        ensures needs { self.new.needs ≡ self.old.needs }
+        ensures fed { self.new.kept ≡ fed self.old.needs self.old.kept key.entry.now }
+    {
+        if is_new(&self.needs, &self.kept, &key.id) {
+            if self.kept.push(key).is_err() {
+                unreachable!();
+            }
+        }
+    }
+
+    /// The same where many are: each has a slot.
+    fn feed_many(&mut self, key: &'a KeyDoc)
+        requires many { 8 < length self.old.needs }
+        ensures needs { self.new.needs ≡ self.old.needs }
+        ensures fed { self.new.kept ≡ fed self.old.needs self.old.kept key.entry.now }
+    {
         if fill_slot(&mut self.slots, &key.id, self.kept.len()) {
             if self.kept.push(key).is_err() {
                 unreachable!();
@@ -84,39 +121,34 @@ impl<'a> Wanted<'a> {
     pub(crate) fn by_id(&self, id: &[u8; 16]) -> Option<&'a KeyDoc>
         ensures found { option_copied result ≡ key_by_id self.now.kept id.now }
     {
-        match number_of(&self.slots, id) {
-            Some(number) => kept_at(&self.kept, number),
-            None => None,
+        if self.needs.len() > FEW {
+            match number_of(&self.slots, id) {
+                Some(number) => kept_at(&self.kept, number),
+                None => None,
+            }
+        } else {
+            first_kept(&self.kept, id)
         }
     }
 }
 
-/// The first of the values that need each key, in order, and a free slot for each.
-fn first_needs(alloc: Global, uses: &[Need], slots: &mut Slots) -> Result<Vec<Need>, Memory>
-    requires none { AreSlots [] [] slots.old }
-    ensures first { IfOk result (λ v. v.items ≡ first_needs uses.now) }
-    ensures slots { IfOk result (λ v. AreSlots v.items [] slots.new) }
+/// Whether the key of an id is needed, and none of this id kept. All are looked through.
+fn is_new(needs: &[Need], kept: &[&KeyDoc], id: &[u8; 16]) -> bool
+    ensures new { result ≡ (is_needed id.now needs.now && not (is_kept id.now (map (λ k. k.now) kept.now))) }
 {
-    let mut needs = Vec::new(alloc);
-    for n in uses {
-        put_new(&mut needs, slots, *n)?;
-    }
-    Ok(needs)
+    is_among(needs, id) && first_kept(kept, id).is_none()
 }
 
-/// Appends a value where its key isn't needed yet, and makes a slot for the key.
-fn put_new(needs: &mut Vec<Need>, slots: &mut Slots, n: Need) -> Result<(), Memory>
-    requires slots { AreSlots needs.old.items [] slots.old }
-    ensures put { OnOk result (needs.new.items ≡ put_new needs.old.items n) }
-    ensures slots { OnOk result (AreSlots needs.new.items [] slots.new) }
+/// The first key of an id of those that are kept, which are looked through.
+fn first_kept<'a>(kept: &[&'a KeyDoc], id: &[u8; 16]) -> Option<&'a KeyDoc>
+    ensures found { option_copied result ≡ key_by_id (map (λ k. k.now) kept.now) id.now }
 {
-    if !has_slot(slots, &n.id) {
-        add_slot(slots, n.id)?;
-        if needs.push(n).is_err() {
-            return Err(Memory);
+    for key in kept {
+        if key.id == *id {
+            return Some(*key);
         }
     }
-    Ok(())
+    None
 }
 
 /// The key of this number of those that are kept, counted from 0.

@@ -3,13 +3,13 @@ use Rattle.std.specs.Prelude.{vec_len, vec_capacity}
 use denote.Ref.{Bor}
 use Rattle.data_key.specs.declared.key_doc.KeyDoc.{KeyDoc}
 use Rattle.context_machine.specs.Kept.{lacking}
-use Rattle.context_machine.specs.Slots.{AreSlots}
+use Rattle.context_machine.specs.Slots.{AreManySlots}
 use Rattle.context_machine.proofs.Kept.{lacks_all}
 use Rattle.context_machine.proofs.wanted.Wanted.new.Goals as goal
 
 pub invariant_of-result : goal.invariant_of-result
 invariant_of-result c =
-    let needs = c.in_ok-needs.needs.items in
+    let needs = c.args.needs.items in
     let none : c.in-Ok.kept.items ≡ [] = search rules in
     let empty : vec_len c.in-Ok.kept ≡ 0 = search rules in
     let wide : vec_capacity c.in-Ok.kept ≡ c.len.result = search rules in
@@ -25,6 +25,6 @@ invariant_of-result c =
       number,
     ) in (
       room,
-      subst (λ (ks : List (Bor KeyDoc)). AreSlots needs (map (λ (k : Bor KeyDoc). k.now) ks) c.first_needs.new.slots)
-          (sym none) c.in_ok-needs.ensures.slots,
+      subst (λ (ks : List (Bor KeyDoc)). AreManySlots needs (map (λ (k : Bor KeyDoc). k.now) ks) c.args.slots)
+          (sym none) c.requires.slots,
     )
