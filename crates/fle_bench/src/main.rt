@@ -77,6 +77,3 @@ fn main(rt: HostRuntime) -> anyhow::Result<()> {
     println!(rt; "{word} {size} {turns} {checksum:08x}")?;
     Ok(())
 }
-
-#[cfg(test)]
-mod tests;
