@@ -26,6 +26,7 @@ mod sealing;
 use crate::job::{Direction, MOST_BYTES, Subject, subject_of};
 use fle_outside::StdinSource;
 use std::env;
+use std::io::Input;
 
 /// Runs the subject that the words name, so many times, and writes its line.
 fn main(rt: HostRuntime) -> anyhow::Result<()> {
@@ -59,15 +60,15 @@ fn main(rt: HostRuntime) -> anyhow::Result<()> {
             payload::run_opening(rt.alloc(), algorithm, size, turns)?
         }
         Subject::BsonCheck => {
-            let document = bson::document(rt.alloc(), &mut StdinSource::new(rt.stdin()), size)?;
+            let document = bson::document(rt.alloc(), &mut StdinSource::new(rt.reader()), size)?;
             bson::run(&document, turns) as u32
         }
         Subject::RuleNames => {
-            let bytes = bson::document(rt.alloc(), &mut StdinSource::new(rt.stdin()), size)?;
+            let bytes = bson::document(rt.alloc(), &mut StdinSource::new(rt.reader()), size)?;
             rules::run(rt.alloc(), &bytes, turns)
         }
         Subject::Document(direction) => {
-            let bytes = bson::document(rt.alloc(), &mut StdinSource::new(rt.stdin()), size)?;
+            let bytes = bson::document(rt.alloc(), &mut StdinSource::new(rt.reader()), size)?;
             let Some(sum) = documents::run(rt.alloc(), direction, &bytes, turns) else {
                 anyhow::bail!("the input is not what is sealed or opened");
             };

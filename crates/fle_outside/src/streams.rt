@@ -1,21 +1,30 @@
 //! The system's standard input, standard output and standard error.
 
-ghost use Rattle.std.specs.Prelude.{◌≡◌, ◌<◌, false, length, None};
+ghost use Rattle.std.specs.Prelude.{◌≡◌, ◌<◌, ◌≤◌, false, length, true, IfOk, None};
 ghost use Rattle.fle_outside.specs.Reads.{ReadWithin, ReadCause};
 ghost use Rattle.fle_outside.specs.Writes.{WriteWithin, WriteCause};
 
 use crate::answers::{ReadAnswer, WriteAnswer};
 use crate::sink::Sink;
 use crate::source::Source;
-use std::io::{ErrorKind, Read, Write};
+use std::io::{self, BufRead, ErrorKind, Write};
 
 /// How often a call is made again that a signal cut off.
 pub(crate) const TURNS: u64 = u64::MAX;
 
+/// From this length on a piece is read as it is, in bytes: the lock on standard input holds no more.
+const AHEAD: usize = 4096;
+
 /// Standard input, or another reader of the system. It tells nothing and is assured of nothing.
+///
+/// Small pieces are copies of bytes that the reader holds. The lock on standard input, `rt.reader()`,
+/// reads ahead where the input is a file, and when it is dropped sets the file back to the first byte
+/// that wasn't handed out. From a pipe it would take one byte at a time; so where its first look gives
+/// a single byte, each piece is read as it is, and no byte of a pipe is taken that wasn't asked for.
 #[derive(Drop)]
 pub struct StdinSource<R> {
     reader: R,
+    reads_ahead: bool,
     taken: u64,
     faults: u64,
 }
@@ -34,16 +43,52 @@ pub struct StderrSink<W> {
     faults: u64,
 }
 
-impl<R: Read> StdinSource<R> {
+impl<R: BufRead> StdinSource<R> {
     /// A source over this reader, with no fault so far.
     pub fn new(reader: R) -> StdinSource<R>
-        ensures begins { result ≡ record { reader = reader; taken = 0; faults = 0 } }
+        ensures begins { result ≡ record { reader = reader; reads_ahead = true; taken = 0; faults = 0 } }
     {
         StdinSource {
             reader,
+            reads_ahead: true,
             taken: 0,
             faults: 0,
         }
+    }
+
+    /// Reads once, counts each error, and reads again after one that came from a signal.
+    fn read_some(&mut self, piece: &mut [u8]) -> ReadAnswer
+        requires { 0 < length piece.old }
+        ensures within { ReadWithin result (length piece.new) }
+        ensures taken { self.new.taken ≡ self.old.taken }
+        ensures cause { ReadCause self.old.faults self.new.faults result }
+    {
+        for _turn in 0..TURNS {
+            match self.read_once(piece) {
+                Ok(0) => return ReadAnswer::End,
+                Ok(n) => return ReadAnswer::Took(n),
+                Err(error) => {
+                    self.faults = self.faults.saturating_add(1);
+                    if error.kind() != ErrorKind::Interrupted {
+                        return ReadAnswer::Failed;
+                    }
+                }
+            }
+        }
+        ReadAnswer::Failed
+    }
+
+    /// Reads once, out of what the reader holds where the piece is small.
+    fn read_once(&mut self, piece: &mut [u8]) -> io::Result<usize>
+        ensures within { IfOk result (λ n. n ≤ length piece.new) }
+        ensures taken { self.new.taken ≡ self.old.taken }
+        ensures faults { self.new.faults ≡ self.old.faults }
+    {
+        if self.reads_ahead && piece.len() < AHEAD {
+            let held = self.reader.fill_buf()?.len();
+            self.reads_ahead = held != 1 || self.taken > 0;
+        }
+        self.reader.read(piece)
     }
 }
 
@@ -65,11 +110,11 @@ impl<W: Write> StderrSink<W> {
     }
 }
 
-impl<R: Read> Source for StdinSource<R> {
+impl<R: BufRead> Source for StdinSource<R> {
     ghost seen = { λ s. record { told = None; taken = s.taken; faults = s.faults; assured = false } };
 
     fn read(&mut self, piece: &mut [u8]) -> ReadAnswer {
-        let answer = read_some(&mut self.reader, &mut self.faults, piece);
+        let answer = self.read_some(piece);
         if let ReadAnswer::Took(n) = answer {
             self.taken = self.taken.saturating_add(n as u64);
         }
@@ -91,27 +136,6 @@ impl<W: Write> Sink for StderrSink<W> {
     fn write(&mut self, piece: &[u8]) -> WriteAnswer {
         write_some(&mut self.writer, &mut self.faults, piece)
     }
-}
-
-/// Reads once, counts each error, and reads again after one that came from a signal.
-fn read_some<R: Read>(reader: &mut R, faults: &mut u64, piece: &mut [u8]) -> ReadAnswer
-    requires { 0 < length piece.old }
-    ensures within { ReadWithin result (length piece.new) }
-    ensures cause { ReadCause faults.old faults.new result }
-{
-    for _turn in 0..TURNS {
-        match reader.read(piece) {
-            Ok(0) => return ReadAnswer::End,
-            Ok(n) => return ReadAnswer::Took(n),
-            Err(error) => {
-                *faults = faults.saturating_add(1);
-                if error.kind() != ErrorKind::Interrupted {
-                    return ReadAnswer::Failed;
-                }
-            }
-        }
-    }
-    ReadAnswer::Failed
 }
 
 /// Writes once, counts each error, and writes again after one that came from a signal. A writer that

@@ -1,7 +1,7 @@
 //! What no clause says: that each call can succeed, and what the system's streams and files do.
 
 use super::*;
-use std::io::{ErrorKind, Read};
+use std::io::{BufRead, ErrorKind, Read};
 use std::test::Fail;
 use std::{fs, io};
 
@@ -111,25 +111,54 @@ fn system_gives_different_blocks(rt: HostRuntime) {
     }
 }
 
-/// A reader whose first call a signal cuts off.
+/// A reader of sevens that holds one byte at a time, and whose first look a signal cuts off.
 #[derive(Drop)]
 struct CutOff {
-    calls: u64,
+    looks: u64,
+    held: usize,
 }
 
 impl Read for CutOff {
     fn read(&mut self, buf: &mut [u8]) -> io::Result<usize> {
-        self.calls = self.calls.saturating_add(1);
-        if self.calls == 1 {
+        let n = if self.held > 0 {
+            buf.len().min(1)
+        } else {
+            buf.len()
+        };
+        self.held = 0;
+        buf[..n].fill(7);
+        Ok(n)
+    }
+}
+
+impl BufRead for CutOff {
+    fn fill_buf(&mut self) -> io::Result<&[u8]> {
+        self.looks = self.looks.saturating_add(1);
+        if self.looks == 1 {
             return Err(io::Error::from(ErrorKind::Interrupted));
         }
-        Ok(buf.len().min(1))
+        self.held = 1;
+        Ok(&[7])
+    }
+
+    fn consume(&mut self, _amount: usize) {
+        self.held = 0;
     }
 }
 
 #[test]
 fn interrupted_read_is_made_again(rt: HostRuntime) {
-    let mut source = StdinSource::new(CutOff { calls: 0 });
+    let mut source = StdinSource::new(CutOff { looks: 0, held: 0 });
     let mut piece = [0u8; 2];
     assert_eq!(rt; source.read(&mut piece), ReadAnswer::Took(1));
+    assert_eq!(rt; piece, [7, 0]);
+}
+
+#[test]
+fn reader_that_holds_a_byte_at_a_time_is_not_looked_at_again(rt: HostRuntime) {
+    let mut source = StdinSource::new(CutOff { looks: 1, held: 0 });
+    let mut piece = [0u8; 4];
+    assert_eq!(rt; source.read(&mut piece), ReadAnswer::Took(1));
+    assert_eq!(rt; source.read(&mut piece[1..]), ReadAnswer::Took(3));
+    assert_eq!(rt; piece, [7; 4]);
 }

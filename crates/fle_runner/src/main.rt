@@ -88,7 +88,7 @@ use fle_stream::{Cut, End, Finish, Status, Why, report};
 use help::{HELP, VERSION, tell};
 use program::fle;
 use std::env;
-use std::io::ErrorKind;
+use std::io::{ErrorKind, Input};
 use std::process::ExitCode;
 use std::rt::{Clock, Env};
 use std::time::SystemTime;
@@ -117,7 +117,7 @@ fn over_system<O: Sink, G: Sink>(
     out: &mut O,
     diag: &mut G,
 ) -> Status {
-    let mut input = StdinSource::new(rt.stdin());
+    let mut input = StdinSource::new(rt.reader());
     let mut files = FileFolder::new(rt);
     let mut entropy = SystemEntropy::new(rt);
     let seal = |s: &Schedule, b: [u8; 16]| -> [u8; 16]
