@@ -1,15 +1,31 @@
--- FIPS 197, appendices A.3 and C.3: the definitions give the standard's own words and block.
+-- FIPS 197, figure 7 and appendices A.3 and C.3: the definitions give the standard's own entries, words and block.
 use Rattle.std.specs.Prelude.{◌≡◌}
 use Rattle.std.proofs.Common.{refl, ap, sym, ◌∙◌, rules}
 use Rattle.aes_block.specs.Block.{IsBlock, four_words}
 use Rattle.aes_block.specs.Field.{times_x, product_by, product, product_of_squares, inverse}
-use Rattle.aes_block.specs.Substitution.{affine, sub_byte}
+use Rattle.aes_block.specs.Substitution.{affine, inv_affine, sub_byte, inv_sub_byte}
 use Rattle.aes_block.specs.Expansion.{sub_word, rot_word, power_of_x, round_constant, added_word, word_at, key_words}
 use Rattle.aes_block.specs.Expansion.{words_to, expanded}
 use Rattle.aes_block.specs.Steps.{sub_bytes, shift_rows, mix_columns, round_key, add_round_key}
 use Rattle.aes_block.specs.Cipher.{rounds, cipher, inv_cipher}
 use Rattle.aes_block.proofs.Inverses.{inv_cipher-cipher}
 use Rattle.fle_vectors.specs.declared.aes256.TheConstants.{BLOCK_C3, EXPANSION_A3}
+
+pub entry_00 : sub_byte 0x00 ≡ 0x63
+unfolding sub_byte affine inverse product_of_squares product product_by times_x
+entry_00 = refl
+
+pub entry_53 : sub_byte 0x53 ≡ 0xED
+unfolding sub_byte affine inverse product_of_squares product product_by times_x
+entry_53 = refl
+
+pub entry_63_back : inv_sub_byte 0x63 ≡ 0x00
+unfolding inv_sub_byte inv_affine inverse product_of_squares product product_by times_x
+entry_63_back = refl
+
+pub entry_ed_back : inv_sub_byte 0xED ≡ 0x53
+unfolding inv_sub_byte inv_affine inverse product_of_squares product product_by times_x
+entry_ed_back = refl
 
 pub expanded_a3 : expanded EXPANSION_A3.key ≡ EXPANSION_A3.words
 unfolding expanded words_to key_words word_at added_word round_constant power_of_x rot_word sub_word sub_byte affine

@@ -6,6 +6,7 @@ ghost use Rattle.aes_block.specs.Block.{IsBlock};
 ghost use Rattle.aes_block.specs.Cipher.{cipher, inv_cipher};
 ghost use Rattle.aes_block.specs.Expansion.{expanded};
 ghost use Rattle.aes_block.specs.Field.{inverse, product};
+ghost use Rattle.aes_block.specs.Substitution.{inv_sub_byte, sub_byte};
 ghost use Rattle.fle_vectors.specs.declared.aes256.TheConstants.{BLOCK_C3, EXPANSION_A3};
 
 /// InvCipher undoes Cipher (FIPS 197, 5.3), on each block and under any words.
@@ -21,6 +22,15 @@ pub fn sealing_undoes_opening()
 /// A byte other than 0 times its inverse is 1 (FIPS 197, 4.2).
 pub fn inverse_is_multiplicative()
     ensures unit { (a : ℕ) → 0 < a → a < 256 → product a (inverse a) ≡ 1 }
+{}
+
+/// The definitions give two entries of the S-box of FIPS 197, 5.1.1, figure 7: the first one, and that of row 5 and
+/// column 3, which is the text's example. The inverse S-box takes both back.
+pub fn published_entries()
+    ensures first { sub_byte 0x00 ≡ 0x63 }
+    ensures example { sub_byte 0x53 ≡ 0xED }
+    ensures first_back { inv_sub_byte 0x63 ≡ 0x00 }
+    ensures example_back { inv_sub_byte 0xED ≡ 0x53 }
 {}
 
 /// The definitions give the words of FIPS 197, appendix A.3, for its key of 256 bits.

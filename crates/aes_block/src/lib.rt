@@ -34,5 +34,3 @@ pub use plain_form::{cipher, inv_cipher};
 pub use schedule::{Schedule, expand};
 pub use table_form::{cipher_tables, inv_cipher_tables, inv_cipher_tables_pair};
 
-#[cfg(test)]
-mod tests;

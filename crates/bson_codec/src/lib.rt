@@ -36,8 +36,3 @@ pub use fault::{BsonFault, BsonKind, CodecFault};
 pub use item::RawItem;
 pub use iter::RawIter;
 pub use measuring::well_formed;
-
-#[cfg(test)]
-mod borrowed_tests;
-#[cfg(test)]
-mod tests;

@@ -24,5 +24,3 @@ pub use putter::{Putter, Stopped};
 pub use splicing::splice;
 pub use values::{NewValue, TooLong, splice_values, spliced_len};
 
-#[cfg(test)]
-mod tests;

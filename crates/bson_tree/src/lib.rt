@@ -28,5 +28,3 @@ pub use place::{Place, value_at};
 pub use size::byte_size;
 pub use tree::{Body, Doc, Kids, Value};
 
-#[cfg(test)]
-mod tests;

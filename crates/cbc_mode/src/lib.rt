@@ -22,5 +22,3 @@ pub mod laws;
 mod opening;
 mod padding;
 mod sealing;
-#[cfg(test)]
-mod tests;

@@ -36,10 +36,3 @@ pub use marked::{Marked, mark_command};
 pub use replying::{reply, reply_clear};
 pub use stop::ReplyFault;
 pub use targeting::target;
-
-#[cfg(test)]
-mod command_tests;
-#[cfg(test)]
-mod inside_tests;
-#[cfg(test)]
-mod tests;

@@ -50,16 +50,3 @@ pub use need_keys::NeedKeys;
 pub use need_markings::NeedMarkings;
 pub use opened_keys::KeysStop;
 pub use ready::Ready;
-
-#[cfg(test)]
-mod asking_tests;
-#[cfg(test)]
-mod decrypting_samples;
-#[cfg(test)]
-mod decrypting_tests;
-#[cfg(test)]
-mod refusal_tests;
-#[cfg(test)]
-mod sealing_samples;
-#[cfg(test)]
-mod sealing_tests;

@@ -26,6 +26,4 @@ mod boxed;
 mod closures;
 mod pairs;
 mod tables;
-#[cfg(test)]
-mod tests;
 mod uses;

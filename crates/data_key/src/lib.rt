@@ -21,5 +21,3 @@ pub use key_doc::{KeyDoc, KeyFault, Provider};
 pub use reading::read_key;
 pub use writing::write_key;
 
-#[cfg(test)]
-mod tests;

@@ -43,24 +43,3 @@ pub use planning::{Plan, PlanFault, plan_clear, plan_seal, sites_of};
 pub use sealing::seal_through;
 pub use site::Site;
 pub use unsealing::Spot;
-
-#[cfg(test)]
-mod changed_tests;
-#[cfg(test)]
-mod deep_samples;
-#[cfg(test)]
-mod key_table_tests;
-#[cfg(test)]
-mod keyed;
-#[cfg(test)]
-mod opening_tests;
-#[cfg(test)]
-mod payload_samples;
-#[cfg(test)]
-mod sample_bytes;
-#[cfg(test)]
-mod samples;
-#[cfg(test)]
-mod standing;
-#[cfg(test)]
-mod tests;

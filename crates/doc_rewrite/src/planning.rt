@@ -54,7 +54,7 @@ impl Plan {
     }
 
     /// The values that are to be sealed, in reading order.
-    pub(crate) fn sites(&self) -> &[Site]
+    pub fn sites(&self) -> &[Site]
         ensures sites { result.now ≡ self.now.sites }
         ensures long { AreLong self.now.sites }
         ensures small { self.now.size ≤ 48000000 }

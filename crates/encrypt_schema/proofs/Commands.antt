@@ -23,3 +23,4 @@ pub mod Elements
 pub mod Plans
 pub mod Taken
 pub mod Ruled
+pub mod WorkedStored

@@ -11,3 +11,4 @@ pub mod Steps
 pub mod Opened
 pub mod Splits
 pub mod Walks
+pub mod WorkedClasses

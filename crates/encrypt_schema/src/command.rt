@@ -4,6 +4,4 @@ pub(crate) mod marks;
 pub(crate) mod operators;
 pub(crate) mod reason;
 pub(crate) mod stored;
-#[cfg(test)]
-mod stored_tests;
 pub(crate) mod walking;

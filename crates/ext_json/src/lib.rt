@@ -40,12 +40,3 @@ pub use infos::infos_from_json;
 pub use pieces::{Piece, send_text, show_whole};
 pub use showing::{Shown, show_text};
 pub use text::write_text;
-
-#[cfg(test)]
-mod example_tests;
-#[cfg(test)]
-mod infos_tests;
-#[cfg(test)]
-mod pieces_tests;
-#[cfg(test)]
-mod text_tests;

@@ -16,5 +16,3 @@ mod filter;
 mod names;
 mod operators;
 mod places;
-#[cfg(test)]
-mod tests;

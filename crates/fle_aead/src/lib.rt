@@ -25,5 +25,3 @@ pub mod laws;
 mod opening;
 mod sealing;
 mod shared_key;
-#[cfg(test)]
-mod tests;

@@ -28,8 +28,6 @@ pub mod source;
 pub mod streams;
 pub mod system_entropy;
 pub mod system_folder;
-#[cfg(test)]
-mod tests;
 pub mod writing;
 
 pub use answers::{Failed, FileAnswer, Memory, ReadAnswer, WriteAnswer};

@@ -1,13 +1,4 @@
-// FIPS 197: the S-box, the key expansion and the cipher with a 256-bit key.
-
-/// One entry of the S-box.
-#[derive(Clone, Copy)]
-pub struct Substitution {
-    /// The byte that is substituted.
-    pub byte: u8,
-    /// What SubBytes puts in its place.
-    pub substitute: u8,
-}
+// FIPS 197: the key expansion and the cipher with a 256-bit key.
 
 /// A key, and the words that it expands to.
 #[derive(Clone, Copy)]
@@ -28,19 +19,6 @@ pub struct BlockVector {
     /// The block that it is encrypted to.
     pub sealed: [u8; 16],
 }
-
-// FIPS 197, 5.1.1, figure 7: the entry of row 0 and column 0, and the entry of row 5 and column 3,
-// which the text gives as its example.
-pub const SUBSTITUTIONS: [Substitution; 2] = [
-    Substitution {
-        byte: 0x00,
-        substitute: 0x63,
-    },
-    Substitution {
-        byte: 0x53,
-        substitute: 0xed,
-    },
-];
 
 // FIPS 197, A.3: the expansion of a 256-bit cipher key.
 pub const EXPANSION_A3: ExpansionVector = ExpansionVector {

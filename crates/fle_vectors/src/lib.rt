@@ -19,9 +19,7 @@ mod data_key;
 mod hmac_sha512;
 
 pub use aead::{AEAD_B3, AeadVector};
-pub use aes256::{
-    BLOCK_C3, BlockVector, EXPANSION_A3, ExpansionVector, SUBSTITUTIONS, Substitution,
-};
+pub use aes256::{BLOCK_C3, BlockVector, EXPANSION_A3, ExpansionVector};
 pub use cbc_aes256::{CBC_AES256, CbcVector};
 pub use data_key::DATA_KEY;
 pub use hmac_sha512::{

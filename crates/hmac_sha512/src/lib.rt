@@ -24,6 +24,4 @@ mod key_block;
 mod keyed;
 pub mod laws;
 mod running;
-#[cfg(test)]
-mod tests;
 mod whole;

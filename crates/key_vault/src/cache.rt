@@ -17,8 +17,6 @@ use std::alloc::Global;
 use std::marker::Model;
 use std::num::NonZeroUsize;
 
-#[cfg(test)]
-mod tests;
 
 /// How many keys are kept.
 const CAPACITY: usize = 64;

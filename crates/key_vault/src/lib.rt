@@ -15,8 +15,6 @@ mod kept_key;
 mod loading;
 mod lookup;
 mod numbers;
-#[cfg(test)]
-mod tests;
 mod vault;
 
 pub use cache::KeyCache;

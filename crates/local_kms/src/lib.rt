@@ -21,5 +21,3 @@ pub use making::{NewFault, new_key};
 pub use master::{MasterFault, MasterKey, read_master};
 pub use wrapping::{UnwrapFault, unwrap_key, wrap_key};
 
-#[cfg(test)]
-mod tests;

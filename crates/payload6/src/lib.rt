@@ -26,5 +26,3 @@ mod markings;
 mod opening;
 mod payload;
 mod sealing;
-#[cfg(test)]
-mod tests;

@@ -21,5 +21,3 @@ mod paths;
 mod place;
 mod renames;
 mod sets;
-#[cfg(test)]
-mod tests;

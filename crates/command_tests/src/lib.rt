@@ -1,0 +1,12 @@
+//! Tests of commands: of the public calls of `command_marker`, `doc_rewrite` and `context_machine` (MongoDB Client Side
+//! Encryption).
+//!
+//! They stand in a crate of their own since a crate with tests is proved once more for them.
+#![tactic(auto)]
+
+#[cfg(test)]
+mod machine;
+#[cfg(test)]
+mod marker;
+#[cfg(test)]
+mod rewrite;

@@ -1,0 +1,8 @@
+//! The states in which commands are sealed and documents opened (`context_machine`).
+
+mod decrypting_samples;
+mod decrypting_tests;
+mod filters;
+mod refusal_tests;
+mod sealing_samples;
+mod sealing_tests;

@@ -1,0 +1,5 @@
+//! Marks, refusals and replies (`command_marker`).
+
+mod inside_tests;
+mod reply_tests;
+mod target_tests;

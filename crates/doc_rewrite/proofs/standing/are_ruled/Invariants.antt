@@ -1,6 +1,0 @@
-use Rattle.std.proofs.Common.{drop, length}
-use Rattle.doc_rewrite.specs.Plans.{AreRuled}
-use Rattle.doc_rewrite.proofs.standing.are_ruled.Given as goal
-
-abbrev pub invariant-loop-i : goal.invariant-loop-i
-invariant-loop-i l = AreRuled (length l.rows) (drop l.i l.marks) → AreRuled (length l.rows) l.marks

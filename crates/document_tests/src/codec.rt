@@ -1,0 +1,4 @@
+//! Documents read, checked and written (`bson_codec`).
+
+mod borrowed_tests;
+mod owned_tests;

@@ -1,0 +1,86 @@
+//! Classes of paths and walks of dotted paths among a few rules.
+
+use crate::schema::test_documents::{KEY_1, KEY_2, RANDOM, rules, within};
+use encrypt_schema::{Class, KeyRef, Policy, Rows, Walk, is_dollar, is_position};
+use std::alloc::Global;
+use std::test::Fail;
+
+/// The rules of [ssn], [a, b] and [a, c, d], in this order, with the keys 1, 2 and 1.
+fn three_rules(alloc: Global) -> Result<Rows, Fail> {
+    let ssn = within(alloc, &[b"ssn", b"encrypt"], &[KEY_1, RANDOM])?;
+    let b = within(alloc, &[b"b", b"encrypt"], &[KEY_2, RANDOM])?;
+    let c = within(
+        alloc,
+        &[b"c", b"properties", b"d", b"encrypt"],
+        &[KEY_1, RANDOM],
+    )?;
+    let a = within(alloc, &[b"a", b"properties"], &[&b, &c])?;
+    let schema = within(alloc, &[b"properties"], &[&ssn, &a])?;
+    Ok(rules(alloc, &schema)?.ok().ok_or("a schema is refused")?)
+}
+
+fn has_key(policy: Option<&Policy>, key: u8) -> bool {
+    match policy {
+        Some(policy) => policy.key == KeyRef::Id([key; 16]),
+        None => false,
+    }
+}
+
+/// The class of a dotted path, and whether it is positional.
+fn seen(rows: &Rows, dotted: &[u8]) -> (Class, bool) {
+    let Walk { at, positional } = rows.walk(dotted);
+    (rows.class(at), positional)
+}
+
+#[test]
+fn rules_in_order(rt: HostRuntime) -> Result<(), Fail> {
+    let rows = three_rules(rt.alloc())?;
+    assert_eq!(rt; rows.len(), 3);
+    assert!(rt; has_key(rows.policy(0), b'1'));
+    assert!(rt; has_key(rows.policy(1), b'2'));
+    assert!(rt; rows.policy(3).is_none());
+    Ok(())
+}
+
+#[test]
+fn classes_of_paths(rt: HostRuntime) -> Result<(), Fail> {
+    let rows = three_rules(rt.alloc())?;
+    let root = rows.root();
+    assert_eq!(rt; rows.class(root), Class::Above);
+    assert_eq!(rt; rows.class(rows.step(root, b"ssn")), Class::Protected(0));
+    let cases: &[(&[u8], Class)] = &[
+        (b"ssn.x", Class::Below),
+        (b"a", Class::Above),
+        (b"a.b", Class::Protected(1)),
+        (b"a.c", Class::Above),
+        (b"a.c.d", Class::Protected(2)),
+        (b"a.x", Class::Clear),
+        (b"z", Class::Clear),
+    ];
+    for (dotted, class) in cases {
+        assert_eq!(rt; seen(&rows, dotted), (*class, false));
+    }
+    Ok(())
+}
+
+#[test]
+fn positions_on_the_way(rt: HostRuntime) -> Result<(), Fail> {
+    let rows = three_rules(rt.alloc())?;
+    let cases: &[(&[u8], Class, bool)] = &[
+        (b"a.0.b", Class::Clear, true),
+        (b"0.a", Class::Clear, false),
+        (b"a.$[].b", Class::Clear, true),
+        (b"a.c.12", Class::Clear, true),
+        (b"a..b", Class::Clear, false),
+        (b"", Class::Clear, false),
+        (b"ssn.0", Class::Below, false),
+    ];
+    for (dotted, class, positional) in cases {
+        assert_eq!(rt; seen(&rows, dotted), (*class, *positional));
+    }
+    assert!(rt; is_position(b"0"));
+    assert!(rt; !is_position(b"0x"));
+    assert!(rt; !is_position(b""));
+    assert!(rt; is_dollar(b"$set"));
+    Ok(())
+}

@@ -1,0 +1,147 @@
+//! The rules that schemas state.
+
+use crate::schema::test_documents::{
+    DETERMINISTIC, INT, KEY_1, KEY_2, RANDOM, fault, joined, rules, within,
+};
+use encrypt_schema::{Algorithm, Class, KeyRef, Policy, Rows, SchemaFault};
+use std::alloc::Global;
+use std::test::Fail;
+
+/// `encrypt` in the schema of the field `a`.
+const ENCRYPT_A: [&[u8]; 3] = [b"properties", b"a", b"encrypt"];
+
+/// `bsonType: ["int", "int"]`.
+const INT_AND_INT: &[u8] =
+    b"\x04bsonType\x00\x1B\x00\x00\x00\x020\x00\x04\x00\x00\x00int\x00\x021\x00\x04\x00\x00\x00int\x00\x00";
+
+/// `bsonType: ["int"]`.
+const LIST_OF_INT: &[u8] = b"\x04bsonType\x00\x10\x00\x00\x00\x020\x00\x04\x00\x00\x00int\x00\x00";
+
+/// `bsonType: "double"`.
+const DOUBLE: &[u8] = b"\x02bsonType\x00\x07\x00\x00\x00double\x00";
+
+/// `bsonType: "bool"`.
+const BOOL: &[u8] = b"\x02bsonType\x00\x05\x00\x00\x00bool\x00";
+
+#[test]
+fn deterministic_rules_have_one_type(rt: HostRuntime) -> Result<(), Fail> {
+    let refused = Some(SchemaFault::DeterministicType);
+    let cases: &[(&[&[u8]], Option<SchemaFault>)] = &[
+        (&[KEY_1, DETERMINISTIC, INT], None),
+        (&[KEY_1, DETERMINISTIC, LIST_OF_INT], None),
+        (&[KEY_1, DETERMINISTIC, INT_AND_INT], refused),
+        (&[KEY_1, DETERMINISTIC, DOUBLE], refused),
+        (&[KEY_1, DETERMINISTIC, BOOL], refused),
+        (&[KEY_1, RANDOM, INT_AND_INT], None),
+        (&[KEY_1, RANDOM, BOOL], None),
+        (&[KEY_1, RANDOM], None),
+    ];
+    for (parts, expected) in cases {
+        assert_eq!(rt; fault(rt.alloc(), &ENCRYPT_A, parts)?, *expected);
+    }
+    Ok(())
+}
+
+/// Whether the policy is this one, which allows an int, and a string where the flag says so.
+fn is_policy(policy: Option<&Policy>, algorithm: Algorithm, key: u8, string: bool) -> bool {
+    match policy {
+        Some(policy) => {
+            policy.algorithm == algorithm
+                && policy.key == KeyRef::Id([key; 16])
+                && policy.types.has(0x10)
+                && policy.types.has(0x02) == string
+        }
+        None => false,
+    }
+}
+
+/// The rules of the schema with these elements.
+fn rows_of(alloc: Global, parts: &[&[u8]]) -> Result<Rows, Fail> {
+    let elements = joined(alloc, parts)?;
+    match rules(alloc, &elements)? {
+        Ok(rows) => Ok(rows),
+        Err(_) => Err("the schema is refused".into()),
+    }
+}
+
+/// The class of a dotted path.
+fn class_of(rows: &Rows, dotted: &[u8]) -> Class {
+    rows.class(rows.walk(dotted).at)
+}
+
+/// `{encryptMetadata: {keyId: [K2], algorithm: RAND}, properties: {a: {encryptMetadata: {keyId: [K1]},
+/// properties: {b: {encrypt: {bsonType: "int"}}}}}}`.
+#[test]
+fn the_nearest_metadata_counts(rt: HostRuntime) -> Result<(), Fail> {
+    let alloc = rt.alloc();
+    let near = within(alloc, &[b"encryptMetadata"], &[KEY_1])?;
+    let far = within(alloc, &[b"encryptMetadata"], &[KEY_2, RANDOM])?;
+    let below = within(alloc, &[b"properties", b"b", b"encrypt"], &[INT])?;
+    let a = within(alloc, &[b"properties", b"a"], &[&near, &below])?;
+    let rows = rows_of(alloc, &[&far, &a])?;
+    assert_eq!(rt; rows.len(), 1);
+    assert_eq!(rt; class_of(&rows, b"a.b"), Class::Protected(0));
+    assert_eq!(rt; class_of(&rows, b"a"), Class::Above);
+    assert!(rt; is_policy(rows.policy(0), Algorithm::Random, b'1', false));
+    Ok(())
+}
+
+/// `{properties: {a: {bsonType: "object", encryptMetadata: {keyId: [K1], algorithm: DET}, properties: {b:
+/// {encrypt: {bsonType: "int"}}}}}}`.
+#[test]
+fn a_field_of_a_field_is_protected(rt: HostRuntime) -> Result<(), Fail> {
+    let alloc = rt.alloc();
+    let object = joined(alloc, &[b"\x02bsonType\x00\x07\x00\x00\x00object\x00"])?;
+    let metadata = within(alloc, &[b"encryptMetadata"], &[KEY_1, DETERMINISTIC])?;
+    let below = within(alloc, &[b"properties", b"b", b"encrypt"], &[INT])?;
+    let a = within(alloc, &[b"properties", b"a"], &[&object, &metadata, &below])?;
+    let rows = rows_of(alloc, &[&a])?;
+    assert_eq!(rt; rows.len(), 1);
+    assert_eq!(rt; class_of(&rows, b"a.b"), Class::Protected(0));
+    assert!(rt; is_policy(rows.policy(0), Algorithm::Deterministic, b'1', false));
+    Ok(())
+}
+
+/// What is in force beside a schema isn't in force in it: `{properties: {a: {encryptMetadata: {keyId: [K1],
+/// algorithm: RAND}}, b: {encrypt: {}}}}`.
+#[test]
+fn metadata_of_a_sibling_is_not_in_force(rt: HostRuntime) -> Result<(), Fail> {
+    let alloc = rt.alloc();
+    let a = within(alloc, &[b"a", b"encryptMetadata"], &[KEY_1, RANDOM])?;
+    let b = within(alloc, &[b"b", b"encrypt"], &[])?;
+    let found = fault(alloc, &[b"properties"], &[&a, &b])?;
+    assert_eq!(rt; found, Some(SchemaFault::NoKey));
+    Ok(())
+}
+
+/// `{encryptMetadata: {keyId: [K1], algorithm: RAND}, properties: {..}}` with so many fields that are protected,
+/// of names of two bytes.
+fn many_rules(alloc: Global, count: u32) -> Result<Result<Rows, SchemaFault>, Fail> {
+    let mut fields = Vec::new(alloc);
+    for i in 0..count {
+        let name = [
+            b'a'.wrapping_add((i % 64) as u8),
+            0x80 | ((i / 64) % 128) as u8,
+        ];
+        let field = within(alloc, &[&name, b"encrypt"], &[])?;
+        fields.extend_from_slice(&field)?;
+    }
+    let metadata = within(alloc, &[b"encryptMetadata"], &[KEY_1, RANDOM])?;
+    let properties = within(alloc, &[b"properties"], &[&fields])?;
+    let elements = joined(alloc, &[&metadata, &properties])?;
+    rules(alloc, &elements)
+}
+
+#[test]
+fn the_4097th_rule_is_one_too_many(rt: HostRuntime) -> Result<(), Fail> {
+    match many_rules(rt.alloc(), 4096)? {
+        Ok(rows) => {
+            assert_eq!(rt; rows.len(), 4096);
+            assert!(rt; is_policy(rows.policy(4095), Algorithm::Random, b'1', true));
+        }
+        Err(_) => assert!(rt; false),
+    }
+    let found = many_rules(rt.alloc(), 4097)?.err();
+    assert_eq!(rt; found, Some(SchemaFault::TooMany));
+    Ok(())
+}

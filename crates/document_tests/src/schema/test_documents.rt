@@ -1,0 +1,112 @@
+//! BSON documents for tests, put together from names and elements.
+
+use bson_codec::check_bson;
+use encrypt_schema::{Rows, SchemaFault};
+use std::alloc::Global;
+use std::test::Fail;
+
+/// The longest document that a test makes.
+const LONGEST: usize = 1_000_000;
+
+/// `keyId: [K1]`, K1 being the UUID of sixteen bytes `1`.
+pub(crate) const KEY_1: &[u8] =
+    b"\x04keyId\x00\x1D\x00\x00\x00\x050\x00\x10\x00\x00\x00\x041111111111111111\x00";
+
+/// `keyId: [K2]`, K2 being the UUID of sixteen bytes `2`.
+pub(crate) const KEY_2: &[u8] =
+    b"\x04keyId\x00\x1D\x00\x00\x00\x050\x00\x10\x00\x00\x00\x042222222222222222\x00";
+
+/// `algorithm` of the deterministic algorithm.
+pub(crate) const DETERMINISTIC: &[u8] =
+    b"\x02algorithm\x00\x2C\x00\x00\x00AEAD_AES_256_CBC_HMAC_SHA_512-Deterministic\x00";
+
+/// `algorithm` of the random algorithm.
+pub(crate) const RANDOM: &[u8] =
+    b"\x02algorithm\x00\x25\x00\x00\x00AEAD_AES_256_CBC_HMAC_SHA_512-Random\x00";
+
+/// `algorithm: "x"`.
+pub(crate) const NO_SUCH_ALGORITHM: &[u8] = b"\x02algorithm\x00\x02\x00\x00\x00x\x00";
+
+/// `bsonType: "int"`.
+pub(crate) const INT: &[u8] = b"\x02bsonType\x00\x04\x00\x00\x00int\x00";
+
+/// `bsonType: "null"`.
+pub(crate) const NULL: &[u8] = b"\x02bsonType\x00\x05\x00\x00\x00null\x00";
+
+/// `encrypt: {}`.
+pub(crate) const ENCRYPT: &[u8] = b"\x03encrypt\x00\x05\x00\x00\x00\x00";
+
+/// `encrypt: {algorithm: "x"}`.
+pub(crate) const ENCRYPT_OTHERWISE: &[u8] =
+    b"\x03encrypt\x00\x16\x00\x00\x00\x02algorithm\x00\x02\x00\x00\x00x\x00\x00";
+
+/// `properties: true`.
+pub(crate) const NO_PROPERTIES: &[u8] = b"\x08properties\x00\x01";
+
+/// `foo: true`, which is no keyword.
+pub(crate) const NO_KEYWORD: &[u8] = b"\x08foo\x00\x01";
+
+/// Puts a document of these elements behind the bytes.
+pub(crate) fn put_document(out: &mut Vec<u8>, elements: &[u8]) -> Result<(), Fail> {
+    if elements.len() > LONGEST {
+        return Err("a test's document is too long".into());
+    }
+    let width = elements.len() as u32 + 5;
+    out.extend_from_slice(&width.to_le_bytes())?;
+    out.extend_from_slice(elements)?;
+    out.push(0)?;
+    Ok(())
+}
+
+/// Puts an element of this name behind the bytes, a document of these elements.
+pub(crate) fn put_within(out: &mut Vec<u8>, name: &[u8], elements: &[u8]) -> Result<(), Fail> {
+    out.push(0x03)?;
+    out.extend_from_slice(name)?;
+    out.push(0)?;
+    put_document(out, elements)
+}
+
+/// These parts one after another.
+pub(crate) fn joined(alloc: Global, parts: &[&[u8]]) -> Result<Vec<u8>, Fail> {
+    let mut out = Vec::new(alloc);
+    for part in parts {
+        out.extend_from_slice(part)?;
+    }
+    Ok(out)
+}
+
+/// The elements of a document that has, under the first name, a document that has, under the next name, and so
+/// on, a document of these elements. A name that is empty counts for none.
+pub(crate) fn within(alloc: Global, path: &[&[u8]], parts: &[&[u8]]) -> Result<Vec<u8>, Fail> {
+    let mut inner = joined(alloc, parts)?;
+    for i in 0..path.len() {
+        let name = path[path.len() - 1 - i];
+        if !name.is_empty() {
+            let mut outer = Vec::new(alloc);
+            put_within(&mut outer, name, &inner)?;
+            inner = outer;
+        }
+    }
+    Ok(inner)
+}
+
+/// The rules of the schema of these elements, or why it is refused.
+pub(crate) fn rules(alloc: Global, elements: &[u8]) -> Result<Result<Rows, SchemaFault>, Fail> {
+    let mut schema = Vec::new(alloc);
+    put_document(&mut schema, elements)?;
+    if schema.len() > LONGEST {
+        return Err("a test's document is too long".into());
+    }
+    let schema = check_bson(&schema)?;
+    Ok(Rows::read(alloc, &schema))
+}
+
+/// Why the schema is refused that has these elements at the end of this path; `None` where it is accepted.
+pub(crate) fn fault(
+    alloc: Global,
+    path: &[&[u8]],
+    parts: &[&[u8]],
+) -> Result<Option<SchemaFault>, Fail> {
+    let elements = within(alloc, path, parts)?;
+    Ok(rules(alloc, &elements)?.err())
+}

@@ -1,0 +1,134 @@
+ghost use Rattle.std.specs.Prelude.{◌≡◌, IfOk, OnOk};
+ghost use Rattle.bson_tree.specs.Tree.{leaf, node as node_tree, item, join, no_items};
+ghost use Rattle.bson_tree.specs.View.{tree};
+
+use bson_tree::{Body, Bytes, Doc, Kids, Names, Place, Value, byte_size, copy_doc, value_at};
+use fle_outside::Memory;
+use std::alloc::Global;
+use std::test::Fail;
+
+// String values of BSON 1.1: its length with the final 00, its bytes, 00.
+const PEOPLE: [u8; 11] = *b"\x07\x00\x00\x00people\x00";
+
+const NUMBER: [u8; 16] = *b"\x0C\x00\x00\x00123-45-6789\x00";
+
+const HR: [u8; 7] = *b"\x03\x00\x00\x00hr\x00";
+
+fn raw(alloc: Global, tag: u8, bytes: &[u8]) -> Result<Value, Memory>
+    ensures { IfOk result (λ v. tree v ≡ leaf tag bytes.now) }
+{
+    let body = Body::Raw(Bytes::from_slice(alloc, bytes)?);
+    Ok(Value { tag, body })
+}
+
+fn add(alloc: Global, kids: &mut Kids, name: &[u8], value: Value) -> Result<(), Memory>
+    ensures { OnOk result (kids.new ≡ join kids.old (item name.now (tree value) no_items)) }
+{
+    let name = Bytes::from_slice(alloc, name)?;
+    match kids.push(name, value) {
+        Ok(()) => Ok(()),
+        Err(_) => Err(Memory),
+    }
+}
+
+fn node(tag: u8, kids: Kids) -> Value
+    ensures { tree result ≡ node_tree tag kids }
+{
+    let body = Body::Kids(kids);
+    Value { tag, body }
+}
+
+// {insert: "people", documents: [{ssn: "123-45-6789", n: 1}], $db: "hr"}
+fn insert_command(alloc: Global) -> Result<Doc, Memory> {
+    let mut person = Kids::new(alloc);
+    add(alloc, &mut person, b"ssn", raw(alloc, 0x02, &NUMBER)?)?;
+    add(alloc, &mut person, b"n", raw(alloc, 0x10, &[1, 0, 0, 0])?)?;
+    let mut documents = Kids::new(alloc);
+    add(alloc, &mut documents, b"0", node(0x03, person))?;
+    let mut kids = Kids::new(alloc);
+    add(alloc, &mut kids, b"insert", raw(alloc, 0x02, &PEOPLE)?)?;
+    add(alloc, &mut kids, b"documents", node(0x04, documents))?;
+    add(alloc, &mut kids, b"$db", raw(alloc, 0x02, &HR)?)?;
+    Ok(Doc { kids })
+}
+
+fn raw_bytes(value: Option<&Value>) -> Option<&[u8]> {
+    match &value?.body {
+        Body::Raw(bytes) => Some(bytes.as_slice()),
+        Body::Kids(_) => None,
+    }
+}
+
+#[test]
+fn a_copy_of_the_insert_command_is_read_at_its_places(rt: HostRuntime) -> Result<(), Fail> {
+    let document = insert_command(rt.alloc())?;
+    let copy = copy_doc(rt.alloc(), &document)?;
+    let place = Place::from_slice(rt.alloc(), &[1, 0, 0])?;
+    assert_eq!(rt; place.as_slice(), [1u32, 0, 0].as_slice());
+    assert_eq!(rt; raw_bytes(value_at(&copy, &place)), Some(NUMBER.as_slice()));
+    let past = Place::from_slice(rt.alloc(), &[1, 0, 2])?;
+    assert!(rt; value_at(&copy, &past).is_none());
+    let whole = Place::from_slice(rt.alloc(), &[])?;
+    assert!(rt; value_at(&copy, &whole).is_none());
+    Ok(())
+}
+
+#[test]
+fn names_and_values_stand_in_order(rt: HostRuntime) -> Result<(), Fail> {
+    let document = insert_command(rt.alloc())?;
+    let kids = &document.kids;
+    assert_eq!(rt; kids.len(), 3);
+    assert_eq!(rt;
+        kids.name(2).map(|name| name.as_slice()),
+        Some(b"$db".as_slice())
+    );
+    assert_eq!(rt; raw_bytes(kids.value(0)), Some(PEOPLE.as_slice()));
+    assert!(rt; kids.len() == 3);
+    let (name, value) = kids.item(1);
+    assert_eq!(rt; name.as_slice(), b"documents".as_slice());
+    assert_eq!(rt; value.tag, 0x04);
+    assert!(rt; kids.name(3).is_none());
+    assert!(rt; kids.value(3).is_none());
+    Ok(())
+}
+
+#[test]
+fn bytes_of_a_vector_are_kept(rt: HostRuntime) -> Result<(), Fail> {
+    let bytes = Bytes::from_vec(Vec::from_slice(rt.alloc(), b"hr")?);
+    assert_eq!(rt; bytes.as_slice(), b"hr".as_slice());
+    assert_eq!(rt; bytes.into_vec().as_slice(), b"hr".as_slice());
+    let place = Place::from_vec(Vec::from_slice(rt.alloc(), &[1u32, 0])?);
+    assert_eq!(rt; place.as_slice(), [1u32, 0].as_slice());
+    assert_eq!(rt; place.into_vec().as_slice(), [1u32, 0].as_slice());
+    Ok(())
+}
+
+#[test]
+fn names_stand_in_the_order_of_pushing(rt: HostRuntime) -> Result<(), Fail> {
+    let mut names = Names::new(rt.alloc());
+    for text in [b"ssn".as_slice(), b"mail".as_slice()] {
+        if names.push(Bytes::from_slice(rt.alloc(), text)?).is_err() {
+            return Err(Fail::from(Memory));
+        }
+    }
+    assert_eq!(rt; names.len(), 2);
+    assert_eq!(rt;
+        names.name(1).map(|name| name.as_slice()),
+        Some(b"mail".as_slice())
+    );
+    assert!(rt; names.name(2).is_none());
+    let again = Names::from_vec(names.into_vec());
+    assert_eq!(rt; again.as_slice().len(), 2);
+    assert_eq!(rt; again.as_slice()[0].as_slice(), b"ssn".as_slice());
+    Ok(())
+}
+
+// bsonspec.org, examples: {"hello": "world"} has 22 bytes.
+#[test]
+fn the_hello_document_has_22_bytes(rt: HostRuntime) -> Result<(), Fail> {
+    let mut kids = Kids::new(rt.alloc());
+    let world = raw(rt.alloc(), 0x02, b"\x06\x00\x00\x00world\x00")?;
+    add(rt.alloc(), &mut kids, b"hello", world)?;
+    assert_eq!(rt; byte_size(&node(0x03, kids)), 22);
+    Ok(())
+}

@@ -1,0 +1,165 @@
+//! Payloads that were made outside this repository, and what is refused; a marking byte for byte.
+use bson_codec::check_bson;
+use crypto_hooks::Tables;
+use encrypt_schema::Infos;
+use fle_aead::DataKey;
+use fle_vectors::DATA_KEY;
+use payload6::{
+    DETERMINISTIC, PartsFault, PayloadFault, RANDOM, det_iv, marking, open_payload_into, parts,
+    payload_len, seal_payload_into,
+};
+use sample_documents::INSERT;
+use std::test::Fail;
+
+/// The id of the data key, the UUID 00112233-4455-4677-8899-aabbccddeeff.
+const ID: [u8; 16] = [
+    0x00, 0x11, 0x22, 0x33, 0x44, 0x55, 0x46, 0x77, 0x88, 0x99, 0xaa, 0xbb, 0xcc, 0xdd, 0xee, 0xff,
+];
+
+/// The string "123-45-6789" as BSON has it: its length, its bytes and 00.
+const SSN: &[u8; 16] = b"\x0c\x00\x00\x00123-45-6789\x00";
+
+/// Its deterministic payload, as Python's hmac and OpenSSL's AES-256-CBC have it.
+const SEALED_SSN: [u8; 98] = [
+    0x01, 0x00, 0x11, 0x22, 0x33, 0x44, 0x55, 0x46, 0x77, 0x88, 0x99, 0xaa, 0xbb, 0xcc, 0xdd, 0xee,
+    0xff, 0x02, 0x4e, 0x3a, 0x4a, 0x3b, 0xc6, 0x4c, 0x5c, 0x49, 0x96, 0x01, 0xbe, 0xff, 0xad, 0x19,
+    0xd3, 0xc2, 0x61, 0xa5, 0x9f, 0xe4, 0x7a, 0x66, 0xa6, 0xd8, 0x62, 0x8e, 0xc3, 0x0e, 0x92, 0x07,
+    0x4c, 0xb1, 0xd4, 0xea, 0x70, 0xd8, 0x0f, 0x61, 0x15, 0x2e, 0x7b, 0x77, 0xb8, 0xbb, 0xc4, 0x38,
+    0x75, 0xcf, 0x56, 0x6c, 0x13, 0xfa, 0xfa, 0x1f, 0x47, 0x3e, 0xa4, 0xaf, 0x47, 0x0a, 0x52, 0x93,
+    0xdb, 0x37, 0xb7, 0x11, 0x10, 0x75, 0x67, 0x7c, 0x79, 0xc4, 0xc0, 0x7b, 0xa0, 0x4f, 0xc1, 0x62,
+    0x10, 0x0b,
+];
+
+/// A random payload of a string under a right tag, made in the same way, whose block opens to zeros.
+const WRONGLY_PADDED: [u8; 82] = [
+    0x02, 0x00, 0x11, 0x22, 0x33, 0x44, 0x55, 0x46, 0x77, 0x88, 0x99, 0xaa, 0xbb, 0xcc, 0xdd, 0xee,
+    0xff, 0x02, 0x00, 0x01, 0x02, 0x03, 0x04, 0x05, 0x06, 0x07, 0x08, 0x09, 0x0a, 0x0b, 0x0c, 0x0d,
+    0x0e, 0x0f, 0x9f, 0xd4, 0x2b, 0x08, 0xb2, 0x5d, 0xa6, 0x6f, 0x1d, 0x63, 0x59, 0xfd, 0xb0, 0x6f,
+    0xc7, 0x4b, 0xe3, 0x48, 0x1a, 0x62, 0x67, 0x1b, 0xf5, 0x3f, 0xec, 0x6f, 0x34, 0x56, 0x3a, 0x11,
+    0x73, 0x0e, 0xcc, 0xae, 0x39, 0x07, 0x87, 0xf9, 0x68, 0x2e, 0x3e, 0x27, 0x08, 0x83, 0xd9, 0x1e,
+    0xf3, 0x8f,
+];
+
+#[test]
+fn payloads_have_their_lengths(rt: HostRuntime) {
+    for (n, len) in [(0, 82), (4, 82), (15, 82), (16, 98)] {
+        assert_eq!(rt; payload_len(n), len);
+    }
+}
+
+#[test]
+fn bytes_are_taken_apart_or_refused(rt: HostRuntime) {
+    assert!(rt; parts(b"").err() == Some(PartsFault::Kind));
+    assert!(rt; parts(&[0]).err() == Some(PartsFault::Kind));
+    assert!(rt; parts(&[1, 2, 3]).err() == Some(PartsFault::Short));
+    assert!(rt; parts(&[1; 66]).err() == Some(PartsFault::Short));
+    match parts(&[2; 82]) {
+        Ok(payload) => {
+            assert_eq!(rt; payload.kind, RANDOM);
+            assert_eq!(rt; payload.key_id, [2; 16]);
+            assert_eq!(rt; payload.tag, 2);
+            assert_eq!(rt; payload.head.len(), 18);
+            assert_eq!(rt; payload.sealed.len(), 64);
+        }
+        Err(_) => assert!(rt; false),
+    }
+}
+
+#[test]
+fn a_value_is_sealed_as_elsewhere(rt: HostRuntime) {
+    let key = DataKey::new(DATA_KEY);
+    let iv = det_iv(&key, ID, 2, SSN);
+    let mut out = [0; 98];
+    seal_payload_into(&Tables, &key, DETERMINISTIC, ID, 2, iv, SSN, &mut out);
+    assert_eq!(rt; out, SEALED_SSN);
+}
+
+/// What the opening of a payload answers, of at most 98 bytes.
+fn opened(bytes: &[u8], out: &mut [u8; 98]) -> Option<Result<usize, PayloadFault>> {
+    if bytes.len() > 98 {
+        return None;
+    }
+    match parts(bytes) {
+        Ok(payload) => {
+            let key = DataKey::new(DATA_KEY);
+            Some(open_payload_into(&Tables, &key, &payload, 100, out))
+        }
+        Err(_) => None,
+    }
+}
+
+#[test]
+fn a_value_is_opened(rt: HostRuntime) {
+    let mut out = [7; 98];
+    assert!(rt; opened(&SEALED_SSN, &mut out) == Some(Ok(16)));
+    assert!(rt; out.starts_with(SSN));
+}
+
+#[test]
+fn a_wrong_padding_under_a_right_tag_is_refused(rt: HostRuntime) {
+    let mut out = [7; 98];
+    assert!(rt; opened(&WRONGLY_PADDED, &mut out) == Some(Err(PayloadFault::Padding)));
+}
+
+#[test]
+fn a_changed_key_id_is_refused_by_the_tag(rt: HostRuntime) {
+    let mut bytes = SEALED_SSN;
+    bytes[1] = 1;
+    let mut out = [7; 98];
+    let answer = opened(&bytes, &mut out);
+    assert!(rt; matches!(&answer, Some(Err(PayloadFault::Tag { .. }))));
+    assert_eq!(rt; out, [7; 98]);
+}
+
+/// The answer for a payload whose plain text is these zeros, sealed as a value of this type.
+fn answer_for(tag: u8, plain: &[u8]) -> Option<Result<usize, PayloadFault>> {
+    if plain.len() > 15 {
+        return None;
+    }
+    let key = DataKey::new(DATA_KEY);
+    let mut bytes = [0; 82];
+    seal_payload_into(&Tables, &key, RANDOM, ID, tag, [9; 16], plain, &mut bytes);
+    let mut out = [0; 98];
+    opened(&bytes, &mut out)
+}
+
+#[test]
+fn what_spells_no_value_is_refused(rt: HostRuntime) {
+    assert!(rt; answer_for(0x10, &[0; 4]) == Some(Ok(4)));
+    assert!(rt; answer_for(0x10, &[0; 3]) == Some(Err(PayloadFault::Plain)));
+    assert!(rt; answer_for(0x0A, b"") == Some(Err(PayloadFault::Plain)));
+}
+
+/// The info of `people`: `ssn` deterministic and a string.
+const PEOPLE: &[u8] =
+    b"\x0d\x01\x00\x00\x02name\x00\x07\x00\x00\x00people\x00\x02type\x00\x0b\x00\x00\x00collection\
+     \x00\x03options\x00\xd9\x00\x00\x00\x03validator\x00\xc9\x00\x00\x00\x03$jsonSchema\x00\xb7\x00\
+     \x00\x00\x02bsonType\x00\x07\x00\x00\x00object\x00\x03properties\x00\x91\x00\x00\x00\x03ssn\x00\
+     \x87\x00\x00\x00\x03encrypt\x00y\x00\x00\x00\x04keyId\x00\x1d\x00\x00\x00\x050\x00\x10\x00\x00\
+     \x00\x04\x00\x11\x223DUFw\x88\x99\xaa\xbb\xcc\xdd\xee\xff\x00\x02algorithm\x00,\x00\x00\x00AEAD\
+     _AES_256_CBC_HMAC_SHA_512-Deterministic\x00\x02bsonType\x00\x07\x00\x00\x00string\x00\x00\x00\
+     \x00\x00\x00\x00\x00";
+
+/// The marking of `ssn`, 57 bytes.
+const MARKING: &[u8] =
+    b"\x008\x00\x00\x00\x02v\x00\x0c\x00\x00\x00123-45-6789\x00\x10a\x00\x01\x00\x00\x00\x05ki\x00\
+     \x10\x00\x00\x00\x04\x00\x11\x223DUFw\x88\x99\xaa\xbb\xcc\xdd\xee\xff\x00";
+
+#[test]
+fn a_string_is_marked(rt: HostRuntime) -> Result<(), Fail> {
+    let infos = Infos::load(rt.alloc(), PEOPLE)?;
+    let info = infos.info_of(b"people").ok_or("no info")?;
+    let policy = info.rows().policy(0).ok_or("no policy")?;
+    let command = check_bson(INSERT)?;
+    let (_, documents) = command.child_holding(50).ok_or("no documents")?;
+    let array = documents.child().ok_or("no array")?;
+    let (_, person) = array.child_holding(50).ok_or("no document")?;
+    let fields = person.child().ok_or("no fields")?;
+    let (_, item) = fields.child_holding(50).ok_or("no element")?;
+    if item.value().len() >= 100 {
+        return Err("a test's value is too long".into());
+    }
+    let bytes = marking(rt.alloc(), &item, policy)?;
+    assert_eq!(rt; bytes.as_slice(), MARKING);
+    Ok(())
+}

@@ -1,0 +1,102 @@
+//! Vaults, and keys that are opened from them.
+
+use crypto_hooks::Tables;
+use key_vault::{Keyless, Vault, VaultFault, VaultKind, open_key};
+use local_kms::MasterKey;
+use sample_documents::TWO_KEYS;
+use std::alloc::Global;
+use std::test::Fail;
+
+/// The first key's id, the UUID 00112233-4455-4677-8899-aabbccddeeff.
+const ID: &[u8; 16] = b"\x00\x11\x22\x33\x44\x55\x46\x77\x88\x99\xaa\xbb\xcc\xdd\xee\xff";
+
+/// How many bytes a key with the names `a` and `b` and without material has.
+const SMALL: usize = 121;
+
+/// Such a key, written in the same way.
+const AB: &[u8; SMALL] =
+    b"y\x00\x00\x00\x05_id\x00\x10\x00\x00\x00\x04\x01\x01\x01\x01\x01\x01\x01\x01\x01\x01\x01\x01\
+    \x01\x01\x01\x01\x04keyAltNames\x00\x17\x00\x00\x00\x020\x00\x02\x00\x00\x00a\x00\x021\x00\x02\
+    \x00\x00\x00b\x00\x00\x05keyMaterial\x00\x00\x00\x00\x00\x00\x03masterKey\x00\x19\x00\x00\x00\
+    \x02provider\x00\x06\x00\x00\x00local\x00\x00\x00";
+
+/// The key of this id with these two names.
+fn named(id: u8, first: u8, second: u8) -> [u8; SMALL] {
+    let mut key = *AB;
+    key[14] = id;
+    key[54] = first;
+    key[63] = second;
+    key
+}
+
+/// The master key, the bytes 00 to 5F.
+fn master() -> MasterKey {
+    let mut bytes = [0; 96];
+    for i in 0..96 {
+        bytes[i] = i as u8;
+    }
+    MasterKey::new(bytes)
+}
+
+/// The number of the faulty document of a file of two parts, and what is wrong with it.
+fn fault_of(alloc: Global, front: &[u8], back: &[u8]) -> Result<Option<(u32, VaultKind)>, Fail> {
+    let mut file = Vec::from_slice(alloc, front)?;
+    file.extend_from_slice(back)?;
+    if file.len() > 10_000 {
+        return Err("a test's file is too long".into());
+    }
+    match Vault::load(alloc, &file) {
+        Ok(_) => Ok(None),
+        Err(VaultFault::Bad { document, kind }) => Ok(Some((document, kind))),
+        Err(VaultFault::Memory) => Err("no memory".into()),
+    }
+}
+
+#[test]
+fn keys_are_found_by_id_and_by_name(rt: HostRuntime) -> Result<(), Fail> {
+    let vault = Vault::load(rt.alloc(), TWO_KEYS)?;
+    assert_eq!(rt; vault.len(), 2);
+    assert!(rt; vault.by_id(ID).is_some_and(|k| k.names.len() == 1));
+    assert!(rt; vault.by_name(b"audit").is_some_and(|k| k.names.len() == 2));
+    assert!(rt; vault.by_name(b"hr").is_none());
+    Ok(())
+}
+
+#[test]
+fn documents_are_judged_in_order(rt: HostRuntime) -> Result<(), Fail> {
+    let alloc = rt.alloc();
+    let empty: &[u8] = b"\x05\x00\x00\x00\x00";
+    assert_eq!(rt; fault_of(alloc, TWO_KEYS, b"")?, None);
+    assert_eq!(rt;
+        fault_of(alloc, TWO_KEYS, TWO_KEYS)?,
+        Some((3, VaultKind::IdTwice))
+    );
+    assert_eq!(rt; fault_of(alloc, empty, b"\x05")?, Some((1, VaultKind::Id)));
+    assert_eq!(rt;
+        fault_of(alloc, TWO_KEYS, b"\x05")?,
+        Some((3, VaultKind::Bson))
+    );
+    Ok(())
+}
+
+#[test]
+fn a_name_stands_once(rt: HostRuntime) -> Result<(), Fail> {
+    let alloc = rt.alloc();
+    let ab = named(1, b'a', b'b');
+    let twice = Some((2, VaultKind::NameTwice));
+    assert_eq!(rt; fault_of(alloc, &ab, &named(2, b'c', b'd'))?, None);
+    assert_eq!(rt; fault_of(alloc, &ab, &named(2, b'c', b'b'))?, twice);
+    assert_eq!(rt; fault_of(alloc, &ab, &named(2, b'c', b'c'))?, twice);
+    Ok(())
+}
+
+#[test]
+fn a_key_is_opened_or_told_why_not(rt: HostRuntime) -> Result<(), Fail> {
+    let vault = Vault::load(rt.alloc(), TWO_KEYS)?;
+    let other = MasterKey::new([0; 96]);
+    let key = open_key(&Tables, &master(), vault.by_id(ID));
+    assert!(rt; key.is_ok_and(|k| k.bytes()[0] == 0x80 && k.bytes()[95] == 0xdf));
+    assert!(rt; open_key(&Tables, &other, vault.by_id(ID)).err() == Some(Keyless::Damaged));
+    assert!(rt; open_key(&Tables, &other, None).err() == Some(Keyless::Missing));
+    Ok(())
+}
