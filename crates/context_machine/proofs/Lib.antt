@@ -3,7 +3,7 @@ mod Filled
 mod Frames
 pub mod Waits
 mod Tables
-mod Decrypting
+pub mod Decrypting
 pub mod Readies
 pub mod Infos
 mod Blanked

@@ -1,7 +1,7 @@
 -- A document that is opened element by element.
 use Rattle.std.proofs.Common.{◌≡◌, ◌∙◌, ℕ, ◌+◌, ◌-◌, ◌≤◌, Some, None, Result, Ok, Err, List, [], ◌∷◌, ◌++◌, length}
 use Rattle.std.proofs.Common.{take, drop, arith, sym, ap, append_assoc, append-nil, length-append, length-take-le}
-use Rattle.std.proofs.Common.{take-add}
+use Rattle.std.proofs.Common.{refl, take-add}
 use Rattle.std.proofs.lemmas.List.{length-drop, length-take}
 use Rattle.bson_tree.specs.Tree.{Tree, Items, node, item, no_items, tag_of}
 use Rattle.bson_tree.specs.Spelling.{framed, value_bytes, items_bytes, doc_bytes}
@@ -104,6 +104,14 @@ module _ (keys : Keyring) (levels : ℕ) where
           → first_wrong (spoilt keys) (founds levels (all.start + 4) all.tree) ≡ Some r
       stops r s = sym o.wrongs ∙ ap (first_wrong (spoilt keys)) parts
           ∙ before_wrong (spoilt keys) (founds_in levels e.start e.tree) (founds levels rest.start rest.tree) r s
+
+      pub halts : (new : List ℕ) (r : Result ℕ Spot) → ((behind : ℕ) → r ≡ Ok behind → ⊥)
+          → OpensAs keys (founds_in levels e.start e.tree) (element_opened keys e) now new end
+          (length (element_bytes e)) r
+          → OpensAs keys (founds levels (all.start + 4) all.tree) (elements_opened keys (all.start + 4) all.tree) old new at
+          (length (items_bytes all.tree)) r
+      halts new (Ok behind) never told = absurd (never behind refl)
+      halts new (Err spot) never told = stops (record { reason = spot.reason; at = spot.at }) told
 
     pub ends : (here : At) (new : List ℕ) (end : ℕ) → here.tree ≡ no_items → Going keys levels all here old new at end
         → (first_wrong (spoilt keys) (founds levels (all.start + 4) all.tree) ≡ None)

@@ -116,7 +116,7 @@ fn open_document<B: Block256>(
 {
     match open_items(document, levels, keys, hooks, out, at + 4) {
         Ok(end) => Ok(close(out, at, end)),
-        Err(spot) => Err(spot),
+        stopped => stopped,
     }
 }
 
@@ -146,7 +146,7 @@ fn open_items<B: Block256>(
     for item in document.items() {
         match open_item(&item, levels, keys, hooks, out, end) {
             Ok(behind) => end = behind,
-            Err(spot) => return Err(spot),
+            stopped => return stopped,
         }
     }
     Ok(end)

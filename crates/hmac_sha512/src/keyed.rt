@@ -46,7 +46,7 @@ impl KeyedMac {
         inner.update(third);
         let digest: [u8; 64] = inner.finalize();
         let mut outer = copy_of(&self.outer);
-        outer.update(digest);
+        outer.update(digest.as_slice());
         outer.finalize()
     }
 }

@@ -6,8 +6,7 @@ use Rattle.bson_tree.proofs.Sizes.{framed_size}
 use Rattle.doc_rewrite.specs.Keys.{key_in}
 use Rattle.doc_rewrite.specs.Opened.{ring_of}
 use Rattle.doc_rewrite.specs.Opening.{element_bytes}
-use Rattle.doc_rewrite.proofs.Opens.{begun, closed_document, goes_on, inside_opens, next_keyed, next_room, next_shaped}
-use Rattle.doc_rewrite.proofs.Opens.{stops}
+use Rattle.doc_rewrite.proofs.Opens.{begun, closed_document, goes_on, halts, inside_opens, next_keyed, next_room, next_shaped}
 use Rattle.doc_rewrite.proofs.opening.+open.Goals as goal
 
 pub open_document-close-requires-clause-begun : goal.open_document-close-requires-clause-begun
@@ -69,8 +68,9 @@ open_items-loop-item-preserved g t c =
           c.loop-item.out c.loop-item.end taken inv.going c.open_item.new.out c.in-Ok.behind c.in-Ok.ensures.opened;
     }
 
-pub open_items-returns-in-Err-clause-opened : goal.open_items-returns-in-Err-clause-opened
-open_items-returns-in-Err-clause-opened g t c =
-    stops (ring_of (key_in c.args.keys.now)) c.args.levels c.args.document.now c.args.out.now c.args.at
+pub open_items-returns-in_default-clause-opened : goal.open_items-returns-in_default-clause-opened
+open_items-returns-in_default-clause-opened g t c =
+    halts (ring_of (key_in c.args.keys.now)) c.args.levels c.args.document.now c.args.out.now c.args.at
     c.loop-item.item-iterator c.next.new.self c.in-Some.item
-    c.loop-item.out c.loop-item.end c.in-Some.ensures.steps c.loop-item.invariant.going _ c.in-Err.ensures.opened
+    c.loop-item.out c.loop-item.end c.in-Some.ensures.steps c.loop-item.invariant.going c.open_item.new.out
+    c.open_item.result c.in_default.not-Ok c.open_item.ensures.opened
