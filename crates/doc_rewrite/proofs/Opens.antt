@@ -108,8 +108,8 @@ module _ (keys : Keyring) (levels : ℕ) where
       pub halts : (new : List ℕ) (r : Result ℕ Spot) → ((behind : ℕ) → r ≡ Ok behind → ⊥)
           → OpensAs keys (founds_in levels e.start e.tree) (element_opened keys e) now new end
           (length (element_bytes e)) r
-          → OpensAs keys (founds levels (all.start + 4) all.tree) (elements_opened keys (all.start + 4) all.tree) old new at
-          (length (items_bytes all.tree)) r
+          → OpensAs keys (founds levels (all.start + 4) all.tree) (elements_opened keys (all.start + 4) all.tree)
+          old new at (length (items_bytes all.tree)) r
       halts new (Ok behind) never told = absurd (never behind refl)
       halts new (Err spot) never told = stops (record { reason = spot.reason; at = spot.at }) told
 

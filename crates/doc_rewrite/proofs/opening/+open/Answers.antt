@@ -6,7 +6,8 @@ use Rattle.bson_tree.proofs.Sizes.{framed_size}
 use Rattle.doc_rewrite.specs.Keys.{key_in}
 use Rattle.doc_rewrite.specs.Opened.{ring_of}
 use Rattle.doc_rewrite.specs.Opening.{element_bytes}
-use Rattle.doc_rewrite.proofs.Opens.{begun, closed_document, goes_on, halts, inside_opens, next_keyed, next_room, next_shaped}
+use Rattle.doc_rewrite.proofs.Opens.{begun, closed_document, goes_on, halts, inside_opens, next_keyed, next_room}
+use Rattle.doc_rewrite.proofs.Opens.{next_shaped}
 use Rattle.doc_rewrite.proofs.opening.+open.Goals as goal
 
 pub open_document-close-requires-clause-begun : goal.open_document-close-requires-clause-begun
