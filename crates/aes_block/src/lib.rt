@@ -33,4 +33,3 @@ mod words;
 pub use plain_form::{cipher, inv_cipher};
 pub use schedule::{Schedule, expand};
 pub use table_form::{cipher_tables, inv_cipher_tables, inv_cipher_tables_pair};
-

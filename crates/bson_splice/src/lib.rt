@@ -23,4 +23,3 @@ pub mod writing;
 pub use putter::{Putter, Stopped};
 pub use splicing::splice;
 pub use values::{NewValue, TooLong, splice_values, spliced_len};
-

@@ -27,4 +27,3 @@ pub use names::Names;
 pub use place::{Place, value_at};
 pub use size::byte_size;
 pub use tree::{Body, Doc, Kids, Value};
-

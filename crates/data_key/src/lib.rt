@@ -20,4 +20,3 @@ mod writing;
 pub use key_doc::{KeyDoc, KeyFault, Provider};
 pub use reading::read_key;
 pub use writing::write_key;
-

@@ -17,7 +17,6 @@ use std::alloc::Global;
 use std::marker::Model;
 use std::num::NonZeroUsize;
 
-
 /// How many keys are kept.
 const CAPACITY: usize = 64;
 

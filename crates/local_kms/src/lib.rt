@@ -20,4 +20,3 @@ mod wrapping;
 pub use making::{NewFault, new_key};
 pub use master::{MasterFault, MasterKey, read_master};
 pub use wrapping::{UnwrapFault, unwrap_key, wrap_key};
-
