@@ -3,8 +3,10 @@
 ghost use Rattle.std.specs.Prelude.{◌≡◌, ◌+◌, ◌∷◌, [], drop, length, map, option_map, slice_get, IfErr, IfOk};
 ghost use Rattle.std.specs.Prelude.{MatchOption, None};
 ghost use Rattle.bson_tree.specs.Spelling.{doc_bytes};
+ghost use Rattle.doc_rewrite.specs.Finding.{found_at};
 ghost use Rattle.doc_rewrite.specs.Founds.{payloads_of};
 ghost use Rattle.doc_rewrite.specs.Opened.{first_wrong, misshapen};
+ghost use Rattle.doc_rewrite.specs.Opening.{room_to_open};
 ghost use Rattle.context_machine.specs.Asks.{key_filter};
 ghost use Rattle.context_machine.specs.Decrypting.{IsMisshapen, need_found};
 ghost use Rattle.context_machine.specs.Kept.{fed};
@@ -169,11 +171,12 @@ impl<'a> DecryptNeedKeys<'a> {
         }
     }
 
-    /// Room for the opened document, which is no longer than this one.
+    /// Room for the opened document, and for opening it.
     fn room(&self, alloc: Global) -> Result<Vec<u8>, Memory>
-        ensures long { IfOk result (λ out. length out.items ≡ length (doc_bytes self.now.document.tree)) }
+        ensures long { IfOk result (λ out. length out.items
+            ≡ room_to_open self.now.document (map found_at (payloads_of self.now.document))) }
     {
-        match vec![in alloc; 0; self.document.bytes().len()] {
+        match vec![in alloc; 0; self.found.room(&self.document)] {
             Ok(out) => Ok(out),
             Err(_) => Err(Memory),
         }

@@ -1,11 +1,11 @@
 //! Opening a document, once its keys are there (libmongocrypt's state READY).
 
-ghost use Rattle.std.specs.Prelude.{◌≡◌, length, map, IfErr, IfOk};
-ghost use Rattle.bson_tree.specs.Spelling.{doc_bytes};
+ghost use Rattle.std.specs.Prelude.{◌≡◌, ◌≤◌, length, map, IfErr, IfOk};
 ghost use Rattle.doc_rewrite.specs.Finding.{HasKeysFor, found_at};
 ghost use Rattle.doc_rewrite.specs.Founds.{payloads_of};
 ghost use Rattle.doc_rewrite.specs.Keys.{key_in};
 ghost use Rattle.doc_rewrite.specs.Opened.{ring_of};
+ghost use Rattle.doc_rewrite.specs.Opening.{room_to_open};
 ghost use Rattle.context_machine.specs.Decrypting.{OpensTo, StaysSealed};
 
 use crate::decrypt_done::DecryptDone;
@@ -23,11 +23,11 @@ pub struct DecryptReady<'a> {
 }
 
 impl<'a> Model for DecryptReady<'a> {
-    ghost use Rattle.std.specs.Prelude.{◌≡◌, length, map};
-    ghost use Rattle.bson_tree.specs.Spelling.{doc_bytes};
+    ghost use Rattle.std.specs.Prelude.{◌≤◌, length, map};
     ghost use Rattle.doc_rewrite.specs.Finding.{HasKeysFor, found_at};
     ghost use Rattle.doc_rewrite.specs.Founds.{payloads_of};
     ghost use Rattle.doc_rewrite.specs.Keys.{key_in};
+    ghost use Rattle.doc_rewrite.specs.Opening.{room_to_open};
     ghost use Rattle.std.specs.Coded.{codes};
     ghost use Rattle.bson_tree.specs.Code.{coded_items};
     ghost use Rattle.context_machine.specs.States.{OpensWith};
@@ -39,14 +39,14 @@ impl<'a> Model for DecryptReady<'a> {
     ghost view = { λ s. record { document = s.asked.document; kept = s.asked.kept; table = s.table } };
 
     ghost invariant = { λ s. HasKeysFor (key_in s.table) (map found_at (payloads_of s.asked.document))
-        × (length s.out.items ≡ length (doc_bytes s.asked.document.tree)) };
+        × (room_to_open s.asked.document (map found_at (payloads_of s.asked.document)) ≤ length s.out.items) };
 }
 
 impl<'a> DecryptReady<'a> {
     /// What is asked for is there, and so is the room.
     pub(crate) fn new(asked: DecryptNeedKeys<'a>, table: KeyTable, out: Vec<u8>) -> DecryptReady<'a>
         requires keyed { HasKeysFor (key_in table) (map found_at (payloads_of asked.document)) }
-        requires room { length out.items ≡ length (doc_bytes asked.document.tree) }
+        requires room { room_to_open asked.document (map found_at (payloads_of asked.document)) ≤ length out.items }
         ensures ready { result
             ≡ record { document = asked.entry.document; kept = asked.entry.kept; table = table } }
     {

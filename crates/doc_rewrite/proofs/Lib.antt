@@ -19,6 +19,7 @@ pub mod Walks
 pub mod Finds
 pub mod Unsealed
 pub mod OneLeaf
+pub mod Held
 pub mod Opens
 pub mod Wholes
 pub mod Clear

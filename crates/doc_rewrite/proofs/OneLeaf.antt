@@ -13,6 +13,7 @@ use Rattle.encrypt_schema.specs.Commands.Visits.{or_else, refused_at}
 use Rattle.encrypt_schema.specs.declared.command.reason.Reason.{Reason}
 use Rattle.encrypt_schema.specs.declared.command.reason.Reason.TheVariants as reasons
 use Rattle.payload6.specs.Payload.{head, IsPayloadLength}
+use Rattle.payload6.proofs.PayloadForm.{head-size}
 use Rattle.payload6.specs.Verdicts.{id_in, type_in, plain_in, value_in}
 use Rattle.payload6.proofs.Verdicts.{id_is, type_is}
 use Rattle.doc_rewrite.specs.declared.unsealing.Spot.{Spot}
@@ -30,7 +31,7 @@ unrefused : (at : ℕ) (reason : Option Reason) → or_else (refused_at at reaso
 unrefused at None e = refl
 unrefused at (Some reason) e = absurd cc
 
-right_one : (judge : Place → Option Reason) (p : Place) → first_wrong judge (p ∷ []) ≡ None → judge p ≡ None
+pub right_one : (judge : Place → Option Reason) (p : Place) → first_wrong judge (p ∷ []) ≡ None → judge p ≡ None
 right_one judge p e = unrefused p.start (judge p) e
 
 shape_wrong : (b : Bool) → b ≡ false → (if b then None else Some reasons.PayloadShape) ≡ None → ⊥
@@ -76,7 +77,7 @@ module _ (keys : Lookup) (levels : ℕ) (e : Elem) (tag : ℕ) (bytes : List ℕ
       let same = kept_leaf (value_of (ring_of keys)) e.start e.tree tag bytes raw off in (
         ap (first_wrong (spoilt (ring_of keys))) (none_found levels e.start e.tree tag bytes raw off),
         written ∙ ap (λ (t : Tree). take at old ++ items_bytes (item e.name t no_items)) (sym same),
-        omega (arith, place),
+        omega (arith, place, ap length (none_found levels e.start e.tree tag bytes raw off)),
       )
 
   module _ (on : opens_here e.tree ≡ true) where
@@ -97,29 +98,26 @@ module _ (keys : Lookup) (levels : ℕ) (e : Elem) (tag : ℕ) (bytes : List ℕ
         (sym (ap (first_wrong (keyless (ring_of keys))) here) ∙ keyed) in
         some_key (keys id) (ap (λ (x : List ℕ). reason_in (found_or_missing (keys x))) (sym is) ∙ right)
 
-    contents_short : length (contents_of e.tree) ≤ length (value_bytes e.tree)
-    contents_short = omega (
-      arith,
-      ap (λ (t : Tree). length (contents_of t)) raw,
-      ap (λ (t : Tree). length (value_bytes t)) raw,
-      length-drop 5 bytes,
-    )
-
     module _ (kind type : ℕ) (id h c key : List ℕ) (long : length id ≡ 16) (is : h ≡ head kind id type)
         (whole : contents_of e.tree ≡ h ++ c) where
+      -- the value is 5 bytes of a binary, the head, and what is sealed
+      sealed_size : length (value_bytes e.tree) ≡ 23 + length c
+      sealed_size = omega (
+        arith,
+        ap (λ (t : Tree). length (contents_of t)) raw,
+        ap (λ (t : Tree). length (value_bytes t)) raw,
+        length-drop 5 bytes,
+        ap length whole,
+        length-append h c,
+        ap length is,
+        head-size kind id type long,
+      )
+
       -- there is room for what is written
       pub leaf_room : (at named : ℕ) (size : ℕ) → at + length (element_bytes e) ≤ size → named ≡ at + 2 + length e.name
           → named + length c ≤ size
       leaf_room at named size room place =
-          omega (
-            arith,
-            room,
-            place,
-            element_size e.name e.tree no_items,
-            contents_short,
-            ap length whole,
-            length-append h c,
-          )
+          omega (arith, room, place, element_size e.name e.tree no_items, sealed_size)
 
       pub leaf_opens : (at named : ℕ) (old mid new : List ℕ) (r : Result ℕ Spot) → is_some (keys id) ≡ true
           → key ≡ unwrap_or (keys id) []
@@ -145,15 +143,7 @@ module _ (keys : Lookup) (levels : ℕ) (e : Elem) (tag : ℕ) (bytes : List ℕ
             w.1 ∙ ap (λ (x : List ℕ). x ++ value_bytes (value_in key b)) name
                 ∙ append_assoc (take at old) (type ∷ (e.name ++ 0 ∷ [])) (value_bytes (value_in key b))
                 ∙ ap (λ (x : List ℕ). take at old ++ x) (sym bytes_are),
-            omega (
-              arith,
-              w.2,
-              place,
-              element_size e.name e.tree no_items,
-              contents_short,
-              ap length whole,
-              length-append h c,
-            ),
+            omega (arith, w.2, place, element_size e.name e.tree no_items, sealed_size, ap length here),
           )
       leaf_opens at named old mid new (Err spot) there same place name w =
           let b = h ++ c in

@@ -1,21 +1,23 @@
 -- A document that is opened element by element.
-use Rattle.std.proofs.Common.{◌≡◌, ◌∙◌, ℕ, ◌+◌, ◌-◌, ◌≤◌, Some, None, Result, Ok, Err, List, [], ◌∷◌, ◌++◌, length}
+use Rattle.std.proofs.Common.{◌≡◌, ◌∙◌, ℕ, ◌+◌, ◌-◌, ◌*◌, ◌≤◌, Some, None, Result, Ok, Err, List, [], ◌∷◌, ◌++◌, length}
 use Rattle.std.proofs.Common.{take, drop, arith, sym, ap, append_assoc, append-nil, length-append, length-take-le}
 use Rattle.std.proofs.Common.{refl, take-add}
 use Rattle.std.proofs.lemmas.List.{length-drop, length-take}
-use Rattle.bson_tree.specs.Tree.{Tree, Items, node, item, no_items, tag_of}
+use Rattle.bson_tree.specs.Tree.{Tree, Items, leaf, node, item, no_items, tag_of}
 use Rattle.bson_tree.specs.Spelling.{framed, value_bytes, items_bytes, doc_bytes}
 use Rattle.bson_tree.specs.Filled.{fill_tree}
-use Rattle.bson_tree.proofs.Sizes.{element_size}
+use Rattle.bson_tree.proofs.Sizes.{element_size, framed_size}
 use Rattle.bson_codec.specs.Borrowed.{At, Elem}
 use Rattle.bson_codec.specs.Elements.{TakesElement}
 use Rattle.bson_splice.proofs.Frames.{one_item}
 use Rattle.encrypt_schema.specs.Commands.Visits.{Refusal}
 use Rattle.doc_rewrite.specs.declared.unsealing.Spot.{Spot}
-use Rattle.doc_rewrite.specs.Founds.{founds, founds_in, opened_value, opened_items}
+use Rattle.doc_rewrite.specs.Founds.{founds, founds_in, is_sealed, opened_value, opened_items}
 use Rattle.doc_rewrite.specs.Opened.{Keyring, first_wrong, keyless, misshapen, spoilt, value_of}
-use Rattle.doc_rewrite.specs.Opening.{OpensAs, document_opened, element_opened, element_bytes, elements_opened}
-use Rattle.doc_rewrite.proofs.Walks.{before_wrong, behind_right, founds_parts, neither_wrong}
+use Rattle.doc_rewrite.specs.Opening.{Fits, OpensAs, document_opened, element_opened, element_bytes, elements_opened}
+use Rattle.doc_rewrite.specs.Opening.{spared}
+use Rattle.doc_rewrite.proofs.Held.{held, held_in}
+use Rattle.doc_rewrite.proofs.Walks.{before_wrong, behind_right, founds_parts, neither_wrong, one_at_most}
 
 -- some elements are opened, and these are left
 pub record Going (keys : Keyring) (levels : ℕ) (all here : At) (old new : List ℕ) (at end : ℕ) : Type 0 where
@@ -23,7 +25,8 @@ pub record Going (keys : Keyring) (levels : ℕ) (all here : At) (old new : List
       ≡ take at old ++ elements_opened keys (all.start + 4) all.tree
   pub wrongs : first_wrong (spoilt keys) (founds levels here.start here.tree)
       ≡ first_wrong (spoilt keys) (founds levels (all.start + 4) all.tree)
-  pub room : end + length (items_bytes here.tree) ≤ at + length (items_bytes all.tree)
+  pub room : end + length (items_bytes here.tree) + spared * length (founds levels (all.start + 4) all.tree)
+      ≤ at + length (items_bytes all.tree) + spared * length (founds levels here.start here.tree)
   pub shaped : first_wrong misshapen (founds levels here.start here.tree) ≡ None
   pub keyed : first_wrong (keyless keys) (founds levels here.start here.tree) ≡ None
 
@@ -54,7 +57,11 @@ module _ (keys : Keyring) (levels : ℕ) where
     starts here e shaped keyed = record {
       made = ap (λ (h : At). take at old ++ elements_opened keys h.start h.tree) e;
       wrongs = ap (λ (h : At). first_wrong (spoilt keys) (founds levels h.start h.tree)) e;
-      room = omega (arith, ap (λ (h : At). length (items_bytes h.tree)) e);
+      room = omega (
+        arith,
+        ap (λ (h : At). length (items_bytes h.tree)) e,
+        ap (λ (h : At). length (founds levels h.start h.tree)) e,
+      );
       shaped = ap (λ (h : At). first_wrong misshapen (founds levels h.start h.tree)) e ∙ shaped;
       keyed = ap (λ (h : At). first_wrong (keyless keys) (founds levels h.start h.tree)) e ∙ keyed;
     }
@@ -80,12 +87,26 @@ module _ (keys : Keyring) (levels : ℕ) where
       pub next_keyed : first_wrong (keyless keys) (founds_in levels e.start e.tree) ≡ None
       next_keyed = all_keyed.0
 
-      pub next_room : end + length (element_bytes e) ≤ at + length (items_bytes all.tree)
-      next_room = omega (arith, o.room, size_parts here rest e taken)
+      counts : length (founds levels here.start here.tree)
+          ≡ length (founds_in levels e.start e.tree) + length (founds levels rest.start rest.tree)
+      counts = ap length parts ∙ length-append (founds_in levels e.start e.tree) (founds levels rest.start rest.tree)
+
+      pub next_room : (size : ℕ)
+          → Fits at (length (items_bytes all.tree)) (founds levels (all.start + 4) all.tree) size
+          → Fits end (length (element_bytes e)) (founds_in levels e.start e.tree) size
+      next_room size fits = omega (
+        arith,
+        fits,
+        o.room,
+        size_parts here rest e taken,
+        counts,
+        held levels rest.start rest.tree shapes.1,
+      )
 
       pub goes_on : (new : List ℕ) (behind : ℕ)
           → (first_wrong (spoilt keys) (founds_in levels e.start e.tree) ≡ None)
-          × (take behind new ≡ take end now ++ element_opened keys e) × (behind ≤ end + length (element_bytes e))
+          × (take behind new ≡ take end now ++ element_opened keys e)
+          × (behind + spared * length (founds_in levels e.start e.tree) ≤ end + length (element_bytes e))
           → Going keys levels all rest old new at behind
       goes_on new behind s =
           let ps = founds_in levels e.start e.tree in
@@ -95,7 +116,7 @@ module _ (keys : Keyring) (levels : ℕ) where
                 ∙ append_assoc (take end now) (element_opened keys e) (elements_opened keys rest.start rest.tree)
                 ∙ ap (λ (x : List ℕ). take end now ++ x) (sym (opened_parts here rest e taken)) ∙ o.made;
             wrongs = sym (ap (first_wrong (spoilt keys)) parts ∙ behind_right (spoilt keys) ps qs s.0) ∙ o.wrongs;
-            room = omega (arith, s.2, o.room, size_parts here rest e taken);
+            room = omega (arith, s.2, o.room, size_parts here rest e taken, counts);
             shaped = shapes.1;
             keyed = all_keyed.1;
           }
@@ -116,13 +137,42 @@ module _ (keys : Keyring) (levels : ℕ) where
     pub ends : (here : At) (new : List ℕ) (end : ℕ) → here.tree ≡ no_items → Going keys levels all here old new at end
         → (first_wrong (spoilt keys) (founds levels (all.start + 4) all.tree) ≡ None)
         × (take end new ≡ take at old ++ elements_opened keys (all.start + 4) all.tree)
-        × (end ≤ at + length (items_bytes all.tree))
+        × (end + spared * length (founds levels (all.start + 4) all.tree) ≤ at + length (items_bytes all.tree))
     ends here new end none o = (
       sym o.wrongs ∙ ap (λ (is : Items). first_wrong (spoilt keys) (founds levels here.start is)) none,
       sym (append-nil (take end new)) ∙ ap (λ (is : Items). take end new ++ elements_opened keys here.start is)
           (sym none) ∙ o.made,
-      omega (arith, o.room, ap (λ (is : Items). length (items_bytes is)) none),
+      omega (
+        arith,
+        o.room,
+        ap (λ (is : Items). length (items_bytes is)) none,
+        ap (λ (is : Items). length (founds levels here.start is)) none,
+      ),
     )
+
+-- there is room for the first bytes of an element, and of a document
+pub name_fits : (levels at size : ℕ) (e : Elem) → first_wrong misshapen (founds_in levels e.start e.tree) ≡ None
+    → Fits at (length (element_bytes e)) (founds_in levels e.start e.tree) size → at + 2 + length e.name ≤ size
+name_fits levels at size e shaped fits =
+    omega (arith, fits, element_size e.name e.tree no_items, held_in levels e.start e.tree shaped)
+
+pub frame_fits : (levels at size : ℕ) (d : At) → first_wrong misshapen (founds levels (d.start + 4) d.tree) ≡ None
+    → Fits at (length (doc_bytes d.tree)) (founds levels (d.start + 4) d.tree) size → at + 5 ≤ size
+frame_fits levels at size d shaped fits =
+    omega (arith, fits, framed_size (items_bytes d.tree), held levels (d.start + 4) d.tree shaped)
+
+-- and for the elements of a document
+pub items_fit : (levels at size : ℕ) (d : At)
+    → Fits at (length (doc_bytes d.tree)) (founds levels (d.start + 4) d.tree) size
+    → Fits (at + 4) (length (items_bytes d.tree)) (founds levels (d.start + 4) d.tree) size
+items_fit levels at size d fits = omega (arith, fits, framed_size (items_bytes d.tree))
+
+-- a raw value takes no more than it has
+pub leaf_fits : (levels at size : ℕ) (e : Elem) (tag : ℕ) (bytes : List ℕ) → e.tree ≡ leaf tag bytes
+    → Fits at (length (element_bytes e)) (founds_in levels e.start e.tree) size
+    → at + length (element_bytes e) ≤ size
+leaf_fits levels at size e tag bytes is fits =
+    omega (arith, fits, one_at_most levels e.start e.tree tag bytes (is_sealed tag bytes) is refl)
 
 -- where the elements of a document end
 pub begun : (at end : ℕ) (old new made : List ℕ) → take end new ≡ take (at + 4) old ++ made → at + 4 ≤ length old
@@ -164,6 +214,19 @@ module _ (keys : Keyring) (levels : ℕ) (e : Elem) (d : At) (lower : ℕ) (is :
       ∙ ap (λ (n : ℕ). items_bytes (item e.name (node (tag_of e.tree) (opened_items v (n + 4) d.tree)) no_items))
       (sym start) ∙ split
 
+  -- there is room for it behind its name
+  pub inside_fits : (at named size : ℕ) → named ≡ at + 2 + length e.name
+      → Fits at (length (element_bytes e)) (founds_in levels e.start e.tree) size
+      → Fits named (length (doc_bytes d.tree)) (founds lower (d.start + 4) d.tree) size
+  inside_fits at named size place fits = omega (
+    arith,
+    fits,
+    place,
+    element_size e.name e.tree no_items,
+    ap (λ (t : Tree). length (value_bytes t)) is,
+    ap length inside_founds,
+  )
+
   pub inside_opens : (at named : ℕ) (old mid new : List ℕ) (r : Result ℕ Spot) → named ≡ at + 2 + length e.name
       → take named mid ≡ take at old ++ (tag_of e.tree ∷ (e.name ++ 0 ∷ []))
       → OpensAs keys (founds lower (d.start + 4) d.tree) (document_opened keys d) mid new named
@@ -174,6 +237,13 @@ module _ (keys : Keyring) (levels : ℕ) (e : Elem) (d : At) (lower : ℕ) (is :
     w.1 ∙ ap (λ (x : List ℕ). x ++ document_opened keys d) name
         ∙ append_assoc (take at old) (tag_of e.tree ∷ (e.name ++ 0 ∷ [])) (document_opened keys d)
         ∙ ap (λ (x : List ℕ). take at old ++ x) (sym inside_opened),
-    omega (arith, w.2, place, element_size e.name e.tree no_items, ap (λ (t : Tree). length (value_bytes t)) is),
+    omega (
+      arith,
+      w.2,
+      place,
+      element_size e.name e.tree no_items,
+      ap (λ (t : Tree). length (value_bytes t)) is,
+      ap length inside_founds,
+    ),
   )
   inside_opens at named old mid new (Err spot) place name w = ap (first_wrong (spoilt keys)) inside_founds ∙ w

@@ -1,5 +1,5 @@
 -- One payload, opened.
-use Rattle.std.proofs.Common.{◌≡◌, ℕ, zero, suc, ◌+◌, ◌-◌, ◌≤◌, ◌<◌, List, [], ◌++◌, length, Some, refl, subst, arith}
+use Rattle.std.proofs.Common.{◌≡◌, ℕ, zero, suc, ◌+◌, ◌-◌, ◌≤◌, List, [], ◌++◌, length, Some, refl, subst, arith}
 use Rattle.bson_tree.specs.Tree.{Tree, item, no_items}
 use Rattle.bson_tree.specs.Spelling.{value_bytes}
 use Rattle.bson_codec.specs.Borrowed.{SpellsValue, SpellsWithin}
@@ -7,10 +7,11 @@ use Rattle.bson_codec.specs.Layout.{IsItems, IsValue}
 use Rattle.bson_codec.proofs.Deeper.{elements_more, items_more}
 use Rattle.bson_codec.proofs.Items.{value_is}
 use Rattle.fle_aead.specs.Sealed.{iv_of}
+use Rattle.fle_aead.proofs.SealedForm.{sealed-length}
 use Rattle.payload6.specs.Opening.{IsOriginal}
 use Rattle.payload6.specs.Payload.{head, IsSealedPayload}
 use Rattle.payload6.specs.Verdicts.{plain_in, value_in}
-use Rattle.payload6.proofs.PayloadForm.{message_in, shorter}
+use Rattle.payload6.proofs.PayloadForm.{message_in}
 use Rattle.payload6.proofs.Verdicts.{type_is}
 
 -- a value takes no more levels than there are
@@ -39,6 +40,9 @@ module _ (kind : ℕ) (id key : List ℕ) (type levels : ℕ) (h c : List ℕ) (
       let sort = type_is kind id type h c long is in
       rw (plain, sort) (value_is type p (spells_value levels type p low o.spelled))
 
-  -- and is shorter than what stood there
-  pub shorter_is : (p : List ℕ) → IsSealedPayload kind id key type (iv_of c) p (h ++ c) → length p < length c
-  shorter_is p s = shorter key h (iv_of c) p c (message_in kind id key type (iv_of c) p h c long is s)
+  -- and is shorter than what stood there, by vector, tag and padding
+  pub shorter_is : (p : List ℕ) → IsSealedPayload kind id key type (iv_of c) p (h ++ c) → length p + 49 ≤ length c
+  shorter_is p s = omega (
+    arith,
+    sealed-length key h (iv_of c) p c (message_in kind id key type (iv_of c) p h c long is s),
+  )

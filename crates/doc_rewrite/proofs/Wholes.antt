@@ -1,5 +1,5 @@
 -- A document that is opened whole.
-use Rattle.std.proofs.Common.{◌≡◌, ◌∙◌, ℕ, ◌+◌, ◌-◌, ◌≤◌, Bool, true, false, Option, Some, None, Result, Ok, Err, List}
+use Rattle.std.proofs.Common.{◌≡◌, ◌∙◌, ℕ, ◌+◌, ◌-◌, ◌*◌, ◌≤◌, Bool, true, false, Option, Some, None, Result, Ok, Err, List}
 use Rattle.std.proofs.Common.{[], ◌∷◌, ◌++◌, length, map, take, arith, refl, sym, ap, subst, length-take-le}
 use Rattle.std.proofs.lemmas.List.{take-append-le}
 use Rattle.std.specs.Prelude.{is_some, if◌then◌else◌}
@@ -17,7 +17,7 @@ use Rattle.doc_rewrite.specs.Founds.{place_of}
 use Rattle.doc_rewrite.specs.Keys.{Lookup}
 use Rattle.doc_rewrite.specs.Opened.{Keyring, first_wrong, found_or_missing, keyless, misshapen, opened, opened_whole}
 use Rattle.doc_rewrite.specs.Opened.{reason_in, ring_of, spoilt, value_of}
-use Rattle.doc_rewrite.specs.Opening.{OpensAs, OpensWhole, document_opened}
+use Rattle.doc_rewrite.specs.Opening.{OpensAs, OpensWhole, document_opened, spared}
 
 -- ---- keys
 
@@ -92,8 +92,8 @@ module _ (keys : Keyring) (d : At) (shaped : first_wrong misshapen (payloads_of 
       )
   opens_none (f ∷ fs) new n all none written size = absurd cc
 
-  pub opens_all : (old front rest new : List ℕ) (r : Result ℕ Spot) → length front ≡ length (doc_bytes d.tree)
-      → new ≡ front ++ rest
+  pub opens_all : (old front rest new : List ℕ) (r : Result ℕ Spot)
+      → length (doc_bytes d.tree) ≤ length front + spared * length (payloads_of d) → new ≡ front ++ rest
       → OpensAs keys (payloads_of d) (document_opened keys d) old front 0 (length (doc_bytes d.tree)) r
       → OpensWhole keys d new r
   opens_all old front rest new (Ok end) size is w =

@@ -14,6 +14,10 @@ use std::alloc::Global;
 /// How many levels a value at the top of a document may add: one less than a document may have.
 pub(crate) const LEVELS: u32 = 99;
 
+/// The fewest bytes of an element with a payload: its type byte, the 00 behind a name of no byte, and a binary of 5 bytes
+/// with a payload of 66 and one block.
+const LEAST: usize = 89;
+
 /// Why the payloads of a document weren't found.
 #[derive(Clone, Copy, Debug, PartialEq, Eq)]
 pub enum FindFault {
@@ -85,7 +89,9 @@ fn find_items(document: &RawDoc<'_>, levels: u32, found: &mut Vec<FoundAt>) -> R
 pub fn find_payloads(alloc: Global, document: &RawDoc<'_>) -> Result<Found, FindFault>
     ensures found { FindsPayloads document.now result }
 {
-    let mut payloads = Vec::new(alloc);
+    let Ok(mut payloads) = Vec::with_capacity(alloc, document.bytes().len() / LEAST) else {
+        return Err(FindFault::Memory);
+    };
     match find_items(document, LEVELS, &mut payloads) {
         Ok(()) => Ok(Found { payloads }),
         Err(fault) => Err(fault),

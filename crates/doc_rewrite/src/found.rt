@@ -1,8 +1,14 @@
 //! The payloads of a document, as they were found.
 
 ghost use Rattle.std.specs.Prelude.{◌≡◌, length, slice_get};
+ghost use Rattle.doc_rewrite.specs.Opening.{room_to_open};
 
+use bson_codec::RawDoc;
 use std::marker::Model;
+
+/// By how many bytes a payload's value is shorter than the payload's binary, at least: 5 before the payload, 18 of its
+/// head, a vector of 16, a tag of 32 and one byte of padding.
+const SPARED: usize = 72;
 
 /// Where a payload stands, and which key opens it.
 #[derive(Clone, Copy, Debug, PartialEq, Eq)]
@@ -50,5 +56,14 @@ impl Found {
         } else {
             None
         }
+    }
+
+    /// How many bytes of room `open_through` asks for to open their document: as many as the document has, less 72 for
+    /// each payload but one.
+    pub fn room(&self, document: &RawDoc<'_>) -> usize
+        ensures room { result ≡ room_to_open document.now self.now }
+    {
+        let spared = SPARED.saturating_mul(self.len().saturating_sub(1));
+        document.bytes().len().saturating_sub(spared)
     }
 }

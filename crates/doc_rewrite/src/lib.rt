@@ -15,6 +15,7 @@
 //!
 //! ```text
 //! let found = find_payloads(alloc, &document)?;
+//! let mut out = vec![in alloc; 0; found.room(&document)]?;
 //! let n = open_through(&found, &document, &keys, &hooks, &mut out)?;
 //! ```
 //!

@@ -7,8 +7,8 @@ ghost use Rattle.doc_rewrite.specs.Finding.{HasKeysFor, IsFoundIn};
 ghost use Rattle.doc_rewrite.specs.Founds.{founds, founds_in};
 ghost use Rattle.doc_rewrite.specs.Keys.{key_in};
 ghost use Rattle.doc_rewrite.specs.Opened.{first_wrong, keyless, misshapen, ring_of};
-ghost use Rattle.doc_rewrite.specs.Opening.{OpensAs, OpensWhole, document_opened, element_bytes, element_opened};
-ghost use Rattle.doc_rewrite.specs.Opening.{elements_opened};
+ghost use Rattle.doc_rewrite.specs.Opening.{Fits, OpensAs, OpensWhole, document_opened, element_bytes};
+ghost use Rattle.doc_rewrite.specs.Opening.{element_opened, elements_opened, room_to_open};
 
 use crate::finding::LEVELS;
 use crate::found::Found;
@@ -77,7 +77,8 @@ fn open_item<B: Block256>(
     requires shaped { first_wrong misshapen (founds_in levels item.now.start item.now.tree) ≡ None }
     requires keyed { first_wrong (keyless (ring_of (key_in keys.now))) (founds_in levels item.now.start item.now.tree)
         ≡ None }
-    requires room { at + length (element_bytes item.now) ≤ length out.old }
+    requires room { Fits at (length (element_bytes item.now)) (founds_in levels item.now.start item.now.tree)
+        (length out.old) }
     ensures size { length out.new ≡ length out.old }
     ensures opened { OpensAs (ring_of (key_in keys.now)) (founds_in levels item.now.start item.now.tree)
         (element_opened (ring_of (key_in keys.now)) item.now) out.old out.new at
@@ -108,7 +109,8 @@ fn open_document<B: Block256>(
     requires shaped { first_wrong misshapen (founds levels (document.now.start + 4) document.now.tree) ≡ None }
     requires keyed { first_wrong (keyless (ring_of (key_in keys.now)))
         (founds levels (document.now.start + 4) document.now.tree) ≡ None }
-    requires room { at + length (doc_bytes document.now.tree) ≤ length out.old }
+    requires room { Fits at (length (doc_bytes document.now.tree))
+        (founds levels (document.now.start + 4) document.now.tree) (length out.old) }
     ensures size { length out.new ≡ length out.old }
     ensures opened { OpensAs (ring_of (key_in keys.now)) (founds levels (document.now.start + 4) document.now.tree)
         (document_opened (ring_of (key_in keys.now)) document.now) out.old out.new at
@@ -136,7 +138,8 @@ fn open_items<B: Block256>(
     requires shaped { first_wrong misshapen (founds levels (document.now.start + 4) document.now.tree) ≡ None }
     requires keyed { first_wrong (keyless (ring_of (key_in keys.now)))
         (founds levels (document.now.start + 4) document.now.tree) ≡ None }
-    requires room { at + length (items_bytes document.now.tree) ≤ length out.old }
+    requires room { Fits at (length (items_bytes document.now.tree))
+        (founds levels (document.now.start + 4) document.now.tree) (length out.old) }
     ensures size { length out.new ≡ length out.old }
     ensures opened { OpensAs (ring_of (key_in keys.now)) (founds levels (document.now.start + 4) document.now.tree)
         (elements_opened (ring_of (key_in keys.now)) (document.now.start + 4) document.now.tree) out.old out.new at
@@ -155,9 +158,9 @@ fn open_items<B: Block256>(
 /// Writes the document to the front of `out` with each payload opened, the value of its original type in its place,
 /// and answers how many bytes that are. What a payload opens to isn't looked into.
 ///
-/// `found` is what `find_payloads` gives for the document, `keys` has the key of each of its ids, and `out` is at least
-/// as long as the document. Otherwise the first payload, in reading order, whose tag, padding or value is wrong; `out`
-/// may hold anything then. It takes no memory.
+/// `found` is what `find_payloads` gives for the document, `keys` has the key of each of its ids, and `out` has the room
+/// that `found` tells, which is at most as many bytes as the document has. Otherwise the first payload, in reading
+/// order, whose tag, padding or value is wrong; `out` may hold anything then. It takes no memory.
 pub fn open_through<B: Block256>(
     found: &Found,
     document: &RawDoc<'_>,
@@ -168,7 +171,7 @@ pub fn open_through<B: Block256>(
     requires hooks { B.answers hooks.now }
     requires found { IsFoundIn document.now found.now }
     requires keyed { HasKeysFor (key_in keys.now) found.now }
-    requires room { length (doc_bytes document.now.tree) ≤ length out.old }
+    requires room { room_to_open document.now found.now ≤ length out.old }
     ensures size { length out.new ≡ length out.old }
     ensures opened { OpensWhole (ring_of (key_in keys.now)) document.now out.new result }
 {
@@ -176,6 +179,6 @@ pub fn open_through<B: Block256>(
     if found.len() == 0 {
         return Ok(put(out, 0, bytes));
     }
-    let (front, _) = out.split_at_mut(bytes.len());
+    let (front, _) = out.split_at_mut(found.room(document));
     open_document(document, LEVELS, keys, hooks, front, 0)
 }

@@ -1,10 +1,10 @@
 //! A sealed document opened some times over.
 
 ghost use Rattle.std.specs.Prelude.{◌≡◌, ◌+◌, ◌<◌, ◌≤◌, ◌∷◌, [], drop, length, map, take, IfSome, IsTrue, MatchOption};
-ghost use Rattle.bson_tree.specs.Spelling.{doc_bytes};
 ghost use Rattle.doc_rewrite.specs.Finding.{HasKeysFor, found_at};
 ghost use Rattle.doc_rewrite.specs.Founds.{payloads_of};
 ghost use Rattle.doc_rewrite.specs.Keys.{key_in};
+ghost use Rattle.doc_rewrite.specs.Opening.{room_to_open};
 ghost use Rattle.fle_bench.specs.Checksum.{checksum};
 ghost use Rattle.fle_bench.specs.Documents.{opened_bytes, the_keys};
 
@@ -37,7 +37,7 @@ fn open_document(alloc: Global, document: &RawDoc<'_>, turns: u32) -> Option<u32
     if !payloads_keyed(&found, &keys) {
         return None;
     }
-    match vec![in alloc; 0u8; document.bytes().len()] {
+    match vec![in alloc; 0u8; found.room(document)] {
         Ok(out) => opened_sum(alloc, document, &keys, out, turns),
         Err(_) => None,
     }
@@ -52,7 +52,7 @@ fn opened_sum(
     turns: u32,
 ) -> Option<u32>
     requires keyed { HasKeysFor (key_in keys.now) (map found_at (payloads_of document.now)) }
-    requires room { length (doc_bytes document.now.tree) ≤ length out.items }
+    requires room { room_to_open document.now (map found_at (payloads_of document.now)) ≤ length out.items }
     ensures sum { IfSome result (λ sum. 0 < turns → sum ≡ checksum (opened_bytes keys.now document.now)) }
 {
     match open(alloc, document, keys, &mut out, turns) {
@@ -100,7 +100,7 @@ fn open(
     turns: u32,
 ) -> Option<usize>
     requires keyed { HasKeysFor (key_in keys.now) (map found_at (payloads_of document.now)) }
-    requires room { length (doc_bytes document.now.tree) ≤ length out.old }
+    requires room { room_to_open document.now (map found_at (payloads_of document.now)) ≤ length out.old }
     ensures opened { 0 < turns → IfSome result (λ n. take n out.new ≡ opened_bytes keys.now document.now) }
 {
     let mut opened = Some(0);
@@ -113,7 +113,7 @@ fn open(
 /// Finds the payloads of a document and opens them; `None` where one isn't opened, and for want of memory.
 fn open_once(alloc: Global, document: &RawDoc<'_>, keys: &KeyTable, out: &mut [u8]) -> Option<usize>
     requires keyed { HasKeysFor (key_in keys.now) (map found_at (payloads_of document.now)) }
-    requires room { length (doc_bytes document.now.tree) ≤ length out.old }
+    requires room { room_to_open document.now (map found_at (payloads_of document.now)) ≤ length out.old }
     ensures size { length out.new ≡ length out.old }
     ensures opened { IfSome result (λ n. take n out.new ≡ opened_bytes keys.now document.now) }
 {

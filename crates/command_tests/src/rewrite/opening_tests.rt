@@ -57,7 +57,7 @@ fn open(alloc: Global, document: &RawDoc<'_>) -> Result<Result<Vec<u8>, Refused>
     if !has_keys(&found, &keys) {
         return Err("keys".into());
     }
-    let mut out = vec![in alloc; 0; document.bytes().len()]?;
+    let mut out = vec![in alloc; 0; found.room(document)]?;
     match open_through(&found, document, &keys, &Tables, &mut out) {
         Ok(n) => {
             out.truncate(n);

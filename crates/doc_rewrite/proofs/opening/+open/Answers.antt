@@ -5,24 +5,44 @@ use Rattle.bson_tree.specs.Spelling.{items_bytes}
 use Rattle.bson_tree.proofs.Sizes.{framed_size}
 use Rattle.doc_rewrite.specs.Keys.{key_in}
 use Rattle.doc_rewrite.specs.Opened.{ring_of}
-use Rattle.doc_rewrite.specs.Opening.{element_bytes}
-use Rattle.doc_rewrite.proofs.Opens.{begun, closed_document, goes_on, halts, inside_opens, next_keyed, next_room}
-use Rattle.doc_rewrite.proofs.Opens.{next_shaped}
+use Rattle.doc_rewrite.proofs.Opens.{begun, closed_document, frame_fits, goes_on, halts, inside_opens, next_keyed}
+use Rattle.doc_rewrite.proofs.Opens.{name_fits, next_room, next_shaped}
 use Rattle.doc_rewrite.proofs.opening.+open.Goals as goal
+
+pub open_document-overflow_add-at : goal.open_document-overflow_add-at
+open_document-overflow_add-at g t c =
+    omega (
+      arith,
+      frame_fits c.args.levels c.args.at (length c.args.out.now) c.args.document.now c.requires.shaped c.requires.room,
+      c.requires.small,
+    )
 
 pub open_document-close-requires-clause-begun : goal.open_document-close-requires-clause-begun
 open_document-close-requires-clause-begun g t c =
     begun c.args.at c.in-Ok.end c.args.out.now c.open_items.new.out _ c.in-Ok.ensures.opened.1
-    (omega (arith, c.requires.room, framed_size (items_bytes c.args.document.now.tree)))
+    (omega (
+      arith,
+      frame_fits c.args.levels c.args.at (length c.args.out.now) c.args.document.now c.requires.shaped c.requires.room,
+    ))
 
 pub open_document-returns-in-Ok-clause-opened : goal.open_document-returns-in-Ok-clause-opened
 open_document-returns-in-Ok-clause-opened g t c =
     let frame = framed_size (items_bytes c.args.document.now.tree) in (
       c.in-Ok.ensures.opened.0,
       closed_document c.args.at c.in-Ok.end c.close.result c.args.out.now c.open_items.new.out c.close.new.out _
-          (omega (arith, c.requires.room, frame)) c.close.ensures.closed c.in-Ok.ensures.opened.1,
+          (frame_fits c.args.levels c.args.at (length c.args.out.now) c.args.document.now c.requires.shaped
+          c.requires.room) c.close.ensures.closed c.in-Ok.ensures.opened.1,
       omega (arith, c.in-Ok.ensures.opened.2, c.close.ensures.end, frame),
     )
+
+pub open_item-put_name-named-requires : goal.open_item-put_name-named-requires
+open_item-put_name-named-requires g t c = record {
+  room = omega (
+    arith,
+    name_fits c.args.levels c.args.at (length c.args.out.now) c.args.item.now c.requires.shaped c.requires.room,
+    ap length c.name.ensures.name,
+  );
+}
 
 pub open_item-returns-in-Some-clause-opened : goal.open_item-returns-in-Some-clause-opened
 open_item-returns-in-Some-clause-opened g t c =
@@ -51,10 +71,9 @@ open_items-open_item-requires g t c κs within =
     c.next.new.self c.in-Some.item c.loop-item.out c.loop-item.end taken inv.going in
     let keyed = next_keyed keys c.args.levels c.args.document.now c.args.out.now c.args.at c.loop-item.item-iterator
     c.next.new.self c.in-Some.item c.loop-item.out c.loop-item.end taken inv.going in
-    let fits = next_room keys c.args.levels c.args.document.now c.args.out.now c.args.at c.loop-item.item-iterator
-    c.next.new.self c.in-Some.item c.loop-item.out c.loop-item.end taken inv.going in
-    let room : c.loop-item.end + length (element_bytes c.in-Some.item) ≤ length c.loop-item.out =
-    omega (arith, fits, c.requires.room, inv.long) in
+    let room = next_room keys c.args.levels c.args.document.now c.args.out.now c.args.at c.loop-item.item-iterator
+    c.next.new.self c.in-Some.item c.loop-item.out c.loop-item.end taken inv.going (length c.loop-item.out)
+    (omega (arith, c.requires.room, inv.long)) in
     search (rules, falls, room, small, shaped, keyed, c.requires.hooks, c.requires.levels)
 
 pub open_items-loop-item-preserved : goal.open_items-loop-item-preserved

@@ -1,7 +1,11 @@
-use Rattle.std.proofs.Common.{◌≡◌, ◌∙◌, ap, refl, arith, length}
+use Rattle.std.proofs.Common.{◌≡◌, ◌∙◌, ◌+◌, ◌*◌, ◌≤◌, ap, refl, arith, length}
+use Rattle.std.proofs.lemmas.List.{length-map}
 use Rattle.bson_tree.specs.Spelling.{doc_bytes}
+use Rattle.doc_rewrite.specs.Finding.{found_at}
+use Rattle.doc_rewrite.specs.Founds.{payloads_of}
 use Rattle.doc_rewrite.specs.Keys.{key_in}
 use Rattle.doc_rewrite.specs.Opened.{ring_of}
+use Rattle.doc_rewrite.specs.Opening.{spared}
 use Rattle.doc_rewrite.proofs.Wholes.{found_keyed, opens_all, opens_none}
 use Rattle.doc_rewrite.proofs.opening.open_through.Goals as goal
 
@@ -24,12 +28,15 @@ pub returns-clause-opened : goal.returns-clause-opened
 returns-clause-opened g c =
     let keyed = found_keyed (key_in c.args.keys.now) c.args.document.now c.args.found.now c.requires.found
     c.requires.keyed in
-    let size : length c.open_document.new.out ≡ length (doc_bytes c.args.document.now.tree) =
+    let size : length (doc_bytes c.args.document.now.tree)
+    ≤ length c.open_document.new.out + spared * length (payloads_of c.args.document.now) =
     omega (
       arith,
       c.open_document.ensures.size,
       c.split_at_mut-front.ensures.front_len,
-      ap length c.bytes-bytes.ensures.spelling,
+      c.room.ensures.room,
+      ap length c.requires.found.all,
+      length-map (payloads_of c.args.document.now) found_at,
     ) in
     opens_all (ring_of (key_in c.args.keys.now)) c.args.document.now c.requires.found.shaped keyed
     c.split_at_mut-front.result.0.now c.open_document.new.out c.split_at_mut-front.result.1.now _
