@@ -14,8 +14,8 @@ use std::alloc::Global;
 /// How many levels a value at the top of a document may add: one less than a document may have.
 pub(crate) const LEVELS: u32 = 99;
 
-/// The fewest bytes of an element with a payload: its type byte, the 00 behind a name of no byte, and a binary of 5 bytes
-/// with a payload of 66 and one block.
+/// The fewest bytes of an element with a payload: its type byte, the 00 behind a name of no byte, and a binary of 5
+/// bytes and a payload of 66 with one block.
 const LEAST: usize = 89;
 
 /// Why the payloads of a document weren't found.

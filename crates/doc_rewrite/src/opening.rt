@@ -158,9 +158,9 @@ fn open_items<B: Block256>(
 /// Writes the document to the front of `out` with each payload opened, the value of its original type in its place,
 /// and answers how many bytes that are. What a payload opens to isn't looked into.
 ///
-/// `found` is what `find_payloads` gives for the document, `keys` has the key of each of its ids, and `out` has the room
-/// that `found` tells, which is at most as many bytes as the document has. Otherwise the first payload, in reading
-/// order, whose tag, padding or value is wrong; `out` may hold anything then. It takes no memory.
+/// `found` is what `find_payloads` gives for the document, `keys` has the key of each of its ids, and `out` has the
+/// room that `found` tells, which is at most as many bytes as the document has. Otherwise the first payload, in
+/// reading order, whose tag, padding or value is wrong; `out` may hold anything then. It takes no memory.
 pub fn open_through<B: Block256>(
     found: &Found,
     document: &RawDoc<'_>,

@@ -1,5 +1,5 @@
-use crate::placing::place_at;
 use bson_codec::check_bson;
+use fle_runner::place_at;
 use std::test::Fail;
 
 // {a: 1, b: {c: 2, d: [3]}, e: null}

@@ -1,7 +1,7 @@
 //! The program `fle`: the client's part of MongoDB's client-side field level encryption, over standard
 //! input and output and named files.
 //!
-//! `program::fle` is the program over any objects of the outside; here stand the real ones. `main`
+//! `fle` of `fle_runner` is the program over any objects of the outside; here stand the real ones. `main`
 //! answers `--help` and `--version` itself, each only as the sole word.
 //!
 //! ```text
@@ -14,79 +14,14 @@
 //! ```
 #![tactic(auto)]
 
-mod act;
-mod decrypt;
-mod demo;
-mod demo_commands;
-mod demo_laws;
-mod demo_opening;
-#[cfg(test)]
-mod demo_run_tests;
-mod demo_sealing;
-mod demo_summing;
-mod demo_totals;
-#[cfg(test)]
-mod device_tests;
-mod encrypt;
-#[cfg(test)]
-mod filter_tests;
-mod generator;
-mod help;
-#[cfg(test)]
-mod hook_tests;
-#[cfg(test)]
-mod hostile_tests;
-mod infos;
-#[cfg(test)]
-mod json_tests;
-mod keygen;
-#[cfg(test)]
-mod keygen_tests;
-mod keys;
-#[cfg(test)]
-mod keys_tests;
-mod laws;
-#[cfg(test)]
-mod limit_tests;
-mod mark;
-mod numbers;
-#[cfg(test)]
-mod opening_tests;
-mod placing;
-#[cfg(test)]
-mod placing_tests;
-mod program;
-mod refusing;
-#[cfg(test)]
-mod runs;
-#[cfg(test)]
-mod schema_tests;
-#[cfg(test)]
-mod seal_tests;
-mod sealing;
-mod setup;
-mod show;
-#[cfg(test)]
-mod show_tests;
-#[cfg(test)]
-mod size_tests;
-#[cfg(test)]
-mod tests;
-#[cfg(test)]
-mod update_tests;
-#[cfg(test)]
-mod verdict_tests;
-mod words;
-
 ghost use Rattle.std.specs.Prelude.{◌≡◌};
 ghost use Rattle.aes_block.specs.Cipher.{cipher, inv_cipher};
 
 use aes_block::{Schedule, cipher_tables, inv_cipher_tables, inv_cipher_tables_pair};
 use crypto_hooks::Hooks;
 use fle_outside::{FileFolder, Sink, StderrSink, StdinSource, StdoutSink, SystemEntropy};
+use fle_runner::{HELP, VERSION, fle, tell};
 use fle_stream::{Cut, End, Finish, Status, Why, report};
-use help::{HELP, VERSION, tell};
-use program::fle;
 use std::env;
 use std::io::{ErrorKind, Input};
 use std::process::ExitCode;

@@ -1,7 +1,7 @@
 //! Whole runs of `mark` and of words without a form: the worked commands of an insert, each way to cut a stream.
 
-use crate::help::{VERSION, tell};
 use crate::runs::{Run, expect, joined, look, marking, sink_of};
+use fle_runner::{VERSION, tell};
 use fle_stream::Status;
 use sample_documents::{INSERT, NOTES, NOTES_REPLY, REPLY};
 use std::test::Fail;

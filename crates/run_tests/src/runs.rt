@@ -1,11 +1,11 @@
 //! Whole runs of the program over objects in memory, as the tests share them.
 
 use crate::keys_tests::VAULT;
-use crate::program::fle;
 use crate::schema_tests::{NOTES, STAFF, VIEW};
 use crate::update_tests::PAIR;
 use crypto_hooks::{Block256, Tables};
 use fle_outside::{MemEntropy, MemFolder, MemSink, MemSource};
+use fle_runner::fle;
 use fle_stream::Status;
 use sample_documents::PEOPLE;
 use std::alloc::Global;

@@ -1,0 +1,43 @@
+//! Tests of whole runs: of the public calls of `fle_runner` over objects in memory (MongoDB Client Side Encryption).
+//!
+//! They stand in a crate of their own since a crate with tests is proved once more for them.
+#![tactic(auto)]
+
+#[cfg(test)]
+mod demo_run_tests;
+#[cfg(test)]
+mod device_tests;
+#[cfg(test)]
+mod filter_tests;
+#[cfg(test)]
+mod hook_tests;
+#[cfg(test)]
+mod hostile_tests;
+#[cfg(test)]
+mod json_tests;
+#[cfg(test)]
+mod keygen_tests;
+#[cfg(test)]
+mod keys_tests;
+#[cfg(test)]
+mod limit_tests;
+#[cfg(test)]
+mod opening_tests;
+#[cfg(test)]
+mod placing_tests;
+#[cfg(test)]
+mod runs;
+#[cfg(test)]
+mod schema_tests;
+#[cfg(test)]
+mod seal_tests;
+#[cfg(test)]
+mod show_tests;
+#[cfg(test)]
+mod size_tests;
+#[cfg(test)]
+mod tests;
+#[cfg(test)]
+mod update_tests;
+#[cfg(test)]
+mod verdict_tests;
