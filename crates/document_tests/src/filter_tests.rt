@@ -76,7 +76,7 @@ fn compared_values_are_marked(rt: HostRuntime) -> Result<(), Fail> {
     ];
     for (filter, expected) in cases {
         match outcome(rt.alloc(), PEOPLE_SCHEMA, filter)? {
-            Ok(starts) => assert_eq!(rt; &starts[..], *expected),
+            Ok(starts) => assert!(rt; &starts[..] == *expected),
             Err(_) => return Err("it is refused".into()),
         }
     }
@@ -126,7 +126,7 @@ fn values_are_refused_where_they_stand(rt: HostRuntime) -> Result<(), Fail> {
     ];
     for (filter, reason, at) in cases {
         match outcome(rt.alloc(), PEOPLE_SCHEMA, filter)? {
-            Err(refused) => assert_eq!(rt; refused, (*reason, *at)),
+            Err(refused) => assert!(rt; refused == (*reason, *at)),
             Ok(_) => return Err("it isn't refused".into()),
         }
     }
@@ -150,7 +150,7 @@ fn paths_below_and_above_are_refused(rt: HostRuntime) -> Result<(), Fail> {
     ];
     for (filter, reason, at) in cases {
         match outcome(rt.alloc(), STAFF, filter)? {
-            Err(refused) => assert_eq!(rt; refused, (*reason, *at)),
+            Err(refused) => assert!(rt; refused == (*reason, *at)),
             Ok(_) => return Err("it isn't refused".into()),
         }
     }

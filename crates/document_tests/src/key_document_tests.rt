@@ -83,7 +83,7 @@ fn named_key(alloc: Global) -> Result<KeyDoc, Fail>
 fn a_key_is_written_as_elsewhere(rt: HostRuntime) -> Result<(), Fail> {
     let key = named_key(rt.alloc())?;
     let bytes = write_key(rt.alloc(), &key, CREATED, CREATED, 0).map_err(|_| "no memory")?;
-    assert_eq!(rt; bytes.as_slice(), NAMED.as_slice());
+    assert!(rt; bytes.as_slice() == NAMED.as_slice());
     Ok(())
 }
 
@@ -91,10 +91,10 @@ fn a_key_is_written_as_elsewhere(rt: HostRuntime) -> Result<(), Fail> {
 fn a_key_is_read(rt: HostRuntime) -> Result<(), Fail> {
     let document = check_bson(&NAMED).map_err(|_| "no document")?;
     let key = read_key(rt.alloc(), &document).map_err(|_| "no key")?;
-    assert_eq!(rt; key.id, ID);
-    assert_eq!(rt; key.names.len(), 1);
-    assert_eq!(rt; key.names.as_slice()[0].as_slice(), b"hr-key".as_slice());
-    assert_eq!(rt; key.material.as_slice(), MATERIAL.as_slice());
+    assert!(rt; key.id == ID);
+    assert!(rt; key.names.len() == 1);
+    assert!(rt; key.names.as_slice()[0].as_slice() == b"hr-key".as_slice());
+    assert!(rt; key.material.as_slice() == MATERIAL.as_slice());
     assert!(rt; key.provider == Provider::Local);
     Ok(())
 }
@@ -206,7 +206,7 @@ fn a_key_of_a_service_is_read(rt: HostRuntime) -> Result<(), Fail> {
     let document = check_bson(bytes).map_err(|_| "no document")?;
     let key = read_key(rt.alloc(), &document).map_err(|_| "no key")?;
     assert!(rt; key.provider == Provider::Other);
-    assert_eq!(rt; key.names.len(), 0);
-    assert_eq!(rt; key.material.as_slice(), b"\x01\x02".as_slice());
+    assert!(rt; key.names.len() == 0);
+    assert!(rt; key.material.as_slice() == b"\x01\x02".as_slice());
     Ok(())
 }

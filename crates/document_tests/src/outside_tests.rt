@@ -11,12 +11,12 @@ fn source_hands_out_its_bytes_in_steps(rt: HostRuntime) -> Result<(), Fail> {
     let bytes = vec![in alloc; 1u8, 2, 3, 4, 5]?;
     let mut source = MemSource::new(bytes, 2, vec![in alloc; 1u64]?);
     let mut piece = [0u8; 4];
-    assert_eq!(rt; source.read(&mut piece), ReadAnswer::Took(2));
-    assert_eq!(rt; piece, [1, 2, 0, 0]);
-    assert_eq!(rt; source.read(&mut piece), ReadAnswer::Failed);
-    assert_eq!(rt; fill_piece(&mut source, &mut piece), Fill::Ended(3));
-    assert_eq!(rt; piece, [3, 4, 5, 0]);
-    assert_eq!(rt; source.read(&mut piece), ReadAnswer::End);
+    assert!(rt; source.read(&mut piece) == ReadAnswer::Took(2));
+    assert!(rt; piece == [1, 2, 0, 0]);
+    assert!(rt; source.read(&mut piece) == ReadAnswer::Failed);
+    assert!(rt; fill_piece(&mut source, &mut piece) == Fill::Ended(3));
+    assert!(rt; piece == [3, 4, 5, 0]);
+    assert!(rt; source.read(&mut piece) == ReadAnswer::End);
     Ok(())
 }
 
@@ -28,11 +28,11 @@ fn folder_reads_its_files_by_name(rt: HostRuntime) -> Result<(), Fail> {
     let files = vec![in alloc; (name, bytes)]?;
     let mut folder = MemFolder::new(files, vec![in alloc; 3u64]?);
     let mut piece = [0u8; 2];
-    assert_eq!(rt; folder.read_at("keys", 1, &mut piece), FileAnswer::Took(2));
-    assert_eq!(rt; piece, [8, 9]);
-    assert_eq!(rt; folder.read_at("keys", 3, &mut piece), FileAnswer::End);
-    assert_eq!(rt; folder.read_at("key", 0, &mut piece), FileAnswer::Missing);
-    assert_eq!(rt; folder.read_at("keys", 0, &mut piece), FileAnswer::Failed);
+    assert!(rt; folder.read_at("keys", 1, &mut piece) == FileAnswer::Took(2));
+    assert!(rt; piece == [8, 9]);
+    assert!(rt; folder.read_at("keys", 3, &mut piece) == FileAnswer::End);
+    assert!(rt; folder.read_at("key", 0, &mut piece) == FileAnswer::Missing);
+    assert!(rt; folder.read_at("keys", 0, &mut piece) == FileAnswer::Failed);
     Ok(())
 }
 
@@ -42,11 +42,11 @@ fn sink_takes_bytes_until_it_is_full(rt: HostRuntime) -> Result<(), Fail> {
     let mut sink = MemSink::new(alloc, 6, 2, vec![in alloc; 1u64]?)
         .ok()
         .ok_or("memory")?;
-    assert_eq!(rt; sink.write(b"abc"), WriteAnswer::Took(2));
-    assert_eq!(rt; sink.write(b"c"), WriteAnswer::Failed);
-    assert_eq!(rt; put_parts(&mut sink, &[b"c", b"de"]), Ok(()));
-    assert_eq!(rt; write_whole(&mut sink, b"fg"), Err(Failed));
-    assert_eq!(rt; sink.written(), b"abcdef".as_slice());
+    assert!(rt; sink.write(b"abc") == WriteAnswer::Took(2));
+    assert!(rt; sink.write(b"c") == WriteAnswer::Failed);
+    assert!(rt; put_parts(&mut sink, &[b"c", b"de"]) == Ok(()));
+    assert!(rt; write_whole(&mut sink, b"fg") == Err(Failed));
+    assert!(rt; sink.written() == b"abcdef".as_slice());
     Ok(())
 }
 
@@ -54,22 +54,22 @@ fn sink_takes_bytes_until_it_is_full(rt: HostRuntime) -> Result<(), Fail> {
 fn standard_input_is_read_to_its_end(rt: HostRuntime) {
     let mut source = StdinSource::new(b"xyz".as_slice());
     let mut piece = [0u8; 2];
-    assert_eq!(rt; source.read(&mut piece), ReadAnswer::Took(2));
-    assert_eq!(rt; piece, *b"xy");
-    assert_eq!(rt; source.read(&mut piece), ReadAnswer::Took(1));
-    assert_eq!(rt; source.read(&mut piece), ReadAnswer::End);
+    assert!(rt; source.read(&mut piece) == ReadAnswer::Took(2));
+    assert!(rt; piece == *b"xy");
+    assert!(rt; source.read(&mut piece) == ReadAnswer::Took(1));
+    assert!(rt; source.read(&mut piece) == ReadAnswer::End);
 }
 
 #[test]
 fn standard_output_takes_a_line(rt: HostRuntime) {
     let mut sink = StdoutSink::new(rt.stdout());
-    assert_eq!(rt; sink.write(b"one line\n"), WriteAnswer::Took(9));
+    assert!(rt; sink.write(b"one line\n") == WriteAnswer::Took(9));
 }
 
 #[test]
 fn standard_error_takes_a_line(rt: HostRuntime) {
     let mut sink = StderrSink::new(rt.stderr());
-    assert_eq!(rt; sink.write(b"one line\n"), WriteAnswer::Took(9));
+    assert!(rt; sink.write(b"one line\n") == WriteAnswer::Took(9));
 }
 
 #[test]
@@ -81,11 +81,11 @@ fn files_are_opened_by_name(rt: HostRuntime) -> Result<(), Fail> {
     let front = folder.read_at(name, 0, &mut piece);
     let end = folder.read_at(name, 4, &mut piece);
     fs::remove_file(&rt, name)?;
-    assert_eq!(rt; front, FileAnswer::Took(3));
-    assert_eq!(rt; piece, *b"abc");
-    assert_eq!(rt; end, FileAnswer::End);
-    assert_eq!(rt; folder.read_at(name, 0, &mut piece), FileAnswer::Missing);
-    assert_eq!(rt; folder.read_at(".", 0, &mut piece), FileAnswer::Failed);
+    assert!(rt; front == FileAnswer::Took(3));
+    assert!(rt; piece == *b"abc");
+    assert!(rt; end == FileAnswer::End);
+    assert!(rt; folder.read_at(name, 0, &mut piece) == FileAnswer::Missing);
+    assert!(rt; folder.read_at(".", 0, &mut piece) == FileAnswer::Failed);
     Ok(())
 }
 
@@ -94,10 +94,10 @@ fn entropy_hands_out_its_blocks(rt: HostRuntime) -> Result<(), Fail> {
     let alloc = rt.alloc();
     let blocks = vec![in alloc; [1u8; 16], [2u8; 16]]?;
     let mut entropy = MemEntropy::new(blocks, vec![in alloc; 1u64]?);
-    assert_eq!(rt; entropy.block(), Ok([1u8; 16]));
-    assert_eq!(rt; entropy.block(), Err(Failed));
-    assert_eq!(rt; draw_block(&mut entropy), Ok([2u8; 16]));
-    assert_eq!(rt; draw_block(&mut entropy), Err(Failed));
+    assert!(rt; entropy.block() == Ok([1u8; 16]));
+    assert!(rt; entropy.block() == Err(Failed));
+    assert!(rt; draw_block(&mut entropy) == Ok([2u8; 16]));
+    assert!(rt; draw_block(&mut entropy) == Err(Failed));
     Ok(())
 }
 
@@ -105,9 +105,9 @@ fn entropy_hands_out_its_blocks(rt: HostRuntime) -> Result<(), Fail> {
 fn system_gives_different_blocks(rt: HostRuntime) {
     let mut entropy = SystemEntropy::new(&rt);
     let first = entropy.block();
-    assert_eq!(rt; first.is_ok(), true);
+    assert!(rt; first.is_ok());
     for _ in 0..16 {
-        assert_eq!(rt; first == entropy.block(), false);
+        assert!(rt; first != entropy.block());
     }
 }
 
@@ -150,15 +150,15 @@ impl BufRead for CutOff {
 fn interrupted_read_is_made_again(rt: HostRuntime) {
     let mut source = StdinSource::new(CutOff { looks: 0, held: 0 });
     let mut piece = [0u8; 2];
-    assert_eq!(rt; source.read(&mut piece), ReadAnswer::Took(1));
-    assert_eq!(rt; piece, [7, 0]);
+    assert!(rt; source.read(&mut piece) == ReadAnswer::Took(1));
+    assert!(rt; piece == [7, 0]);
 }
 
 #[test]
 fn reader_that_holds_a_byte_at_a_time_is_not_looked_at_again(rt: HostRuntime) {
     let mut source = StdinSource::new(CutOff { looks: 1, held: 0 });
     let mut piece = [0u8; 4];
-    assert_eq!(rt; source.read(&mut piece), ReadAnswer::Took(1));
-    assert_eq!(rt; source.read(&mut piece[1..]), ReadAnswer::Took(3));
-    assert_eq!(rt; piece, [7; 4]);
+    assert!(rt; source.read(&mut piece) == ReadAnswer::Took(1));
+    assert!(rt; source.read(&mut piece[1..]) == ReadAnswer::Took(3));
+    assert!(rt; piece == [7; 4]);
 }

@@ -64,8 +64,8 @@ fn a_copy_of_the_insert_command_is_read_at_its_places(rt: HostRuntime) -> Result
     let document = insert_command(rt.alloc())?;
     let copy = copy_doc(rt.alloc(), &document)?;
     let place = Place::from_slice(rt.alloc(), &[1, 0, 0])?;
-    assert_eq!(rt; place.as_slice(), [1u32, 0, 0].as_slice());
-    assert_eq!(rt; raw_bytes(value_at(&copy, &place)), Some(NUMBER.as_slice()));
+    assert!(rt; place.as_slice() == [1u32, 0, 0].as_slice());
+    assert!(rt; raw_bytes(value_at(&copy, &place)) == Some(NUMBER.as_slice()));
     let past = Place::from_slice(rt.alloc(), &[1, 0, 2])?;
     assert!(rt; value_at(&copy, &past).is_none());
     let whole = Place::from_slice(rt.alloc(), &[])?;
@@ -77,16 +77,13 @@ fn a_copy_of_the_insert_command_is_read_at_its_places(rt: HostRuntime) -> Result
 fn names_and_values_stand_in_order(rt: HostRuntime) -> Result<(), Fail> {
     let document = insert_command(rt.alloc())?;
     let kids = &document.kids;
-    assert_eq!(rt; kids.len(), 3);
-    assert_eq!(rt;
-        kids.name(2).map(|name| name.as_slice()),
-        Some(b"$db".as_slice())
-    );
-    assert_eq!(rt; raw_bytes(kids.value(0)), Some(PEOPLE.as_slice()));
+    assert!(rt; kids.len() == 3);
+    assert!(rt; kids.name(2).map(|name| name.as_slice()) == Some(b"$db".as_slice()));
+    assert!(rt; raw_bytes(kids.value(0)) == Some(PEOPLE.as_slice()));
     assert!(rt; kids.len() == 3);
     let (name, value) = kids.item(1);
-    assert_eq!(rt; name.as_slice(), b"documents".as_slice());
-    assert_eq!(rt; value.tag, 0x04);
+    assert!(rt; name.as_slice() == b"documents".as_slice());
+    assert!(rt; value.tag == 0x04);
     assert!(rt; kids.name(3).is_none());
     assert!(rt; kids.value(3).is_none());
     Ok(())
@@ -95,11 +92,11 @@ fn names_and_values_stand_in_order(rt: HostRuntime) -> Result<(), Fail> {
 #[test]
 fn bytes_of_a_vector_are_kept(rt: HostRuntime) -> Result<(), Fail> {
     let bytes = Bytes::from_vec(Vec::from_slice(rt.alloc(), b"hr")?);
-    assert_eq!(rt; bytes.as_slice(), b"hr".as_slice());
-    assert_eq!(rt; bytes.into_vec().as_slice(), b"hr".as_slice());
+    assert!(rt; bytes.as_slice() == b"hr".as_slice());
+    assert!(rt; bytes.into_vec().as_slice() == b"hr".as_slice());
     let place = Place::from_vec(Vec::from_slice(rt.alloc(), &[1u32, 0])?);
-    assert_eq!(rt; place.as_slice(), [1u32, 0].as_slice());
-    assert_eq!(rt; place.into_vec().as_slice(), [1u32, 0].as_slice());
+    assert!(rt; place.as_slice() == [1u32, 0].as_slice());
+    assert!(rt; place.into_vec().as_slice() == [1u32, 0].as_slice());
     Ok(())
 }
 
@@ -111,15 +108,12 @@ fn names_stand_in_the_order_of_pushing(rt: HostRuntime) -> Result<(), Fail> {
             return Err(Fail::from(Memory));
         }
     }
-    assert_eq!(rt; names.len(), 2);
-    assert_eq!(rt;
-        names.name(1).map(|name| name.as_slice()),
-        Some(b"mail".as_slice())
-    );
+    assert!(rt; names.len() == 2);
+    assert!(rt; names.name(1).map(|name| name.as_slice()) == Some(b"mail".as_slice()));
     assert!(rt; names.name(2).is_none());
     let again = Names::from_vec(names.into_vec());
-    assert_eq!(rt; again.as_slice().len(), 2);
-    assert_eq!(rt; again.as_slice()[0].as_slice(), b"ssn".as_slice());
+    assert!(rt; again.as_slice().len() == 2);
+    assert!(rt; again.as_slice()[0].as_slice() == b"ssn".as_slice());
     Ok(())
 }
 
@@ -129,6 +123,6 @@ fn the_hello_document_has_22_bytes(rt: HostRuntime) -> Result<(), Fail> {
     let mut kids = Kids::new(rt.alloc());
     let world = raw(rt.alloc(), 0x02, b"\x06\x00\x00\x00world\x00")?;
     add(rt.alloc(), &mut kids, b"hello", world)?;
-    assert_eq!(rt; byte_size(&node(0x03, kids)), 22);
+    assert!(rt; byte_size(&node(0x03, kids)) == 22);
     Ok(())
 }

@@ -31,15 +31,26 @@ fn open_document(alloc: Global, document: &RawDoc<'_>, turns: u32) -> Option<u32
     ensures sum { IfSome result (λ sum. 0 < turns → sum ≡ checksum (opened_bytes the_keys document.now)) }
 {
     let keys = keys(alloc)?;
+    let room = keyed_room(alloc, document, &keys)?;
+    match vec![in alloc; 0u8; room] {
+        Ok(out) => opened_sum(alloc, document, &keys, out, turns),
+        Err(_) => None,
+    }
+}
+
+/// How much room it takes to open a document; `None` where the key of a payload is missing, where one has a length that
+/// none has, and for want of memory. The list of payloads isn't kept.
+fn keyed_room(alloc: Global, document: &RawDoc<'_>, keys: &KeyTable) -> Option<usize>
+    ensures keyed { IfSome result (λ _. HasKeysFor (key_in keys.now) (map found_at (payloads_of document.now))) }
+    ensures room { IfSome result (λ n. n ≡ room_to_open document.now (map found_at (payloads_of document.now))) }
+{
     let Ok(found) = find_payloads(alloc, document) else {
         return None;
     };
-    if !payloads_keyed(&found, &keys) {
-        return None;
-    }
-    match vec![in alloc; 0u8; found.room(document)] {
-        Ok(out) => opened_sum(alloc, document, &keys, out, turns),
-        Err(_) => None,
+    if payloads_keyed(&found, keys) {
+        Some(found.room(document))
+    } else {
+        None
     }
 }
 

@@ -28,7 +28,7 @@ fn each_value_is_found_by_the_offset_at_which_it_begins(rt: HostRuntime) -> Resu
     ];
     for (at, steps) in cases {
         let place = place_at(rt.alloc(), &document, *at)?;
-        assert_eq!(rt; place.as_slice(), *steps);
+        assert!(rt; place.as_slice() == *steps);
     }
     Ok(())
 }

@@ -8,13 +8,13 @@ use std::alloc::AllocError;
 #[test]
 fn fips197_a3_key_expansion(rt: HostRuntime) {
     let schedule = expand(&EXPANSION_A3.key);
-    assert_eq!(rt; *schedule.words(), EXPANSION_A3.words);
+    assert!(rt; *schedule.words() == EXPANSION_A3.words);
 }
 
 #[test]
 fn a_clone_has_the_same_words(rt: HostRuntime) -> Result<(), AllocError> {
     let schedule = expand(&EXPANSION_A3.key).clone()?;
-    assert_eq!(rt; *schedule.words(), EXPANSION_A3.words);
+    assert!(rt; *schedule.words() == EXPANSION_A3.words);
     Ok(())
 }
 
@@ -22,19 +22,16 @@ fn a_clone_has_the_same_words(rt: HostRuntime) -> Result<(), AllocError> {
 #[test]
 fn fips197_c3_step_by_step(rt: HostRuntime) {
     let schedule = expand(&BLOCK_C3.key);
-    assert_eq!(rt; cipher(&schedule, BLOCK_C3.plain), BLOCK_C3.sealed);
-    assert_eq!(rt; inv_cipher(&schedule, BLOCK_C3.sealed), BLOCK_C3.plain);
+    assert!(rt; cipher(&schedule, BLOCK_C3.plain) == BLOCK_C3.sealed);
+    assert!(rt; inv_cipher(&schedule, BLOCK_C3.sealed) == BLOCK_C3.plain);
 }
 
 // FIPS 197, C.3.
 #[test]
 fn fips197_c3_by_tables(rt: HostRuntime) {
     let schedule = expand(&BLOCK_C3.key);
-    assert_eq!(rt; cipher_tables(&schedule, BLOCK_C3.plain), BLOCK_C3.sealed);
-    assert_eq!(rt;
-        inv_cipher_tables(&schedule, BLOCK_C3.sealed),
-        BLOCK_C3.plain
-    );
+    assert!(rt; cipher_tables(&schedule, BLOCK_C3.plain) == BLOCK_C3.sealed);
+    assert!(rt; inv_cipher_tables(&schedule, BLOCK_C3.sealed) == BLOCK_C3.plain);
 }
 
 // Two blocks, each told from the other.
@@ -42,8 +39,7 @@ fn fips197_c3_by_tables(rt: HostRuntime) {
 fn a_pair_is_opened_in_its_order(rt: HostRuntime) {
     let schedule = expand(&BLOCK_C3.key);
     let zeros = cipher(&schedule, [0; 16]);
-    assert_eq!(rt;
-        inv_cipher_tables_pair(&schedule, BLOCK_C3.sealed, zeros),
-        (BLOCK_C3.plain, [0; 16])
+    assert!(rt;
+        inv_cipher_tables_pair(&schedule, BLOCK_C3.sealed, zeros) == (BLOCK_C3.plain, [0; 16])
     );
 }

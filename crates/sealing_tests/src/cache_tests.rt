@@ -74,9 +74,9 @@ fn a_cache_keeps_what_a_plain_list_keeps(rt: HostRuntime) -> Result<(), Fail> {
             }
             Err(_) => assert!(rt; damaged),
         }
-        assert_eq!(rt; cache.len(), list.len());
+        assert!(rt; cache.len() == list.len());
     }
-    assert_eq!(rt; cache.len(), MOST);
+    assert!(rt; cache.len() == MOST);
     Ok(())
 }
 
@@ -97,7 +97,7 @@ fn a_kept_key_doesnt_answer_for_other_material(rt: HostRuntime) -> Result<(), Fa
             .data_key(&Tables, &key)
             .is_ok_and(|k| *k.bytes() == [9; 96])
     );
-    assert_eq!(rt; cache.len(), 1);
+    assert!(rt; cache.len() == 1);
     Ok(())
 }
 

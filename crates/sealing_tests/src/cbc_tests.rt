@@ -77,9 +77,9 @@ fn no_bytes_are_sealed_to_a_block_of_padding(rt: HostRuntime) {
     cbc_seal_into(&Tables, &schedule, CBC_AES256.iv, &[], &mut sealed);
     let mut opened = [0; 16];
     let answer = cbc_open_into(&Tables, &schedule, CBC_AES256.iv, &sealed, &mut opened);
-    assert_eq!(rt; padded_len(0), 16);
+    assert!(rt; padded_len(0) == 16);
     assert!(rt; answer == Ok(0));
-    assert_eq!(rt; opened, [16; 16]);
+    assert!(rt; opened == [16; 16]);
 }
 
 #[test]
@@ -90,7 +90,7 @@ fn lengths_of_no_whole_blocks_are_refused(rt: HostRuntime) {
     assert!(rt; empty == Err(CbcFault::Blocks));
     let odd = cbc_open_into(&Tables, &schedule, CBC_AES256.iv, &[0; 17], &mut out);
     assert!(rt; odd == Err(CbcFault::Blocks));
-    assert_eq!(rt; out, [7; 17]);
+    assert!(rt; out == [7; 17]);
 }
 
 // The block opens to zeros, which are the padding of no message.
@@ -101,5 +101,5 @@ fn a_block_of_zeros_is_no_padding(rt: HostRuntime) {
     let mut out = [7; 17];
     let answer = cbc_open_into(&Tables, &schedule, CBC_AES256.iv, &sealed, &mut out);
     assert!(rt; answer == Err(CbcFault::Padding));
-    assert_eq!(rt; out, [0, 0, 0, 0, 0, 0, 0, 0, 0, 0, 0, 0, 0, 0, 0, 0, 7]);
+    assert!(rt; out == [0, 0, 0, 0, 0, 0, 0, 0, 0, 0, 0, 0, 0, 0, 0, 0, 7]);
 }

@@ -43,7 +43,7 @@ const WRONGLY_PADDED: [u8; 82] = [
 #[test]
 fn payloads_have_their_lengths(rt: HostRuntime) {
     for (n, len) in [(0, 82), (4, 82), (15, 82), (16, 98)] {
-        assert_eq!(rt; payload_len(n), len);
+        assert!(rt; payload_len(n) == len);
     }
 }
 
@@ -55,11 +55,11 @@ fn bytes_are_taken_apart_or_refused(rt: HostRuntime) {
     assert!(rt; parts(&[1; 66]).err() == Some(PartsFault::Short));
     match parts(&[2; 82]) {
         Ok(payload) => {
-            assert_eq!(rt; payload.kind, RANDOM);
-            assert_eq!(rt; payload.key_id, [2; 16]);
-            assert_eq!(rt; payload.tag, 2);
-            assert_eq!(rt; payload.head.len(), 18);
-            assert_eq!(rt; payload.sealed.len(), 64);
+            assert!(rt; payload.kind == RANDOM);
+            assert!(rt; payload.key_id == [2; 16]);
+            assert!(rt; payload.tag == 2);
+            assert!(rt; payload.head.len() == 18);
+            assert!(rt; payload.sealed.len() == 64);
         }
         Err(_) => assert!(rt; false),
     }
@@ -71,7 +71,7 @@ fn a_value_is_sealed_as_elsewhere(rt: HostRuntime) {
     let iv = det_iv(&key, ID, 2, SSN);
     let mut out = [0; 98];
     seal_payload_into(&Tables, &key, DETERMINISTIC, ID, 2, iv, SSN, &mut out);
-    assert_eq!(rt; out, SEALED_SSN);
+    assert!(rt; out == SEALED_SSN);
 }
 
 /// What the opening of a payload answers, of at most 98 bytes.
@@ -108,7 +108,7 @@ fn a_changed_key_id_is_refused_by_the_tag(rt: HostRuntime) {
     let mut out = [7; 98];
     let answer = opened(&bytes, &mut out);
     assert!(rt; matches!(&answer, Some(Err(PayloadFault::Tag { .. }))));
-    assert_eq!(rt; out, [7; 98]);
+    assert!(rt; out == [7; 98]);
 }
 
 /// The answer for a payload whose plain text is these zeros, sealed as a value of this type.
@@ -160,6 +160,6 @@ fn a_string_is_marked(rt: HostRuntime) -> Result<(), Fail> {
         return Err("a test's value is too long".into());
     }
     let bytes = marking(rt.alloc(), &item, policy)?;
-    assert_eq!(rt; bytes.as_slice(), MARKING);
+    assert!(rt; bytes.as_slice() == MARKING);
     Ok(())
 }

@@ -95,14 +95,20 @@ fn opened(alloc: Global, asking: DecryptNeedKeys<'_>) -> Result<Vec<u8>, Fail> {
     }
 }
 
-/// Whether the keys that were kept don't do for this reason at this offset.
-fn stops(
+/// The bytes of a document that is opened under these keys.
+fn opened_by<'a>(alloc: Global, bytes: &'a [u8], keys: &[&'a KeyDoc]) -> Result<Vec<u8>, Fail> {
+    opened(alloc, fed(alloc, bytes, keys)?)
+}
+
+/// Whether these keys don't do for a document, for this reason at this offset.
+fn stops<'a>(
     alloc: Global,
-    asking: DecryptNeedKeys<'_>,
+    bytes: &'a [u8],
+    keys: &[&'a KeyDoc],
     reason: Reason,
     at: u32,
 ) -> Result<bool, Fail> {
-    let (_, stop) = stopped(alloc, asking)?;
+    let (_, stop) = stopped(alloc, fed(alloc, bytes, keys)?)?;
     Ok(stop == KeysStop::Refused { reason, at })
 }
 
@@ -148,8 +154,7 @@ fn after_a_missing_key_the_same_state_is_fed_and_opens(rt: HostRuntime) -> Resul
 fn a_key_of_another_provider_is_told(rt: HostRuntime) -> Result<(), Fail> {
     let bytes = sealed();
     let key = foreign_key(rt.alloc())?;
-    let asking = fed(rt.alloc(), &bytes, &[&key])?;
-    assert!(rt; stops(rt.alloc(), asking, Reason::KeyNotLocal, 50)?);
+    assert!(rt; stops(rt.alloc(), &bytes, &[&key], Reason::KeyNotLocal, 50)?);
     Ok(())
 }
 
@@ -158,10 +163,16 @@ fn the_first_key_of_an_id_stays(rt: HostRuntime) -> Result<(), Fail> {
     let bytes = sealed();
     let right = right_key(rt.alloc())?;
     let damaged = damaged_key(rt.alloc())?;
-    let asking = fed(rt.alloc(), &bytes, &[&right, &damaged])?;
-    assert!(rt; is_opened(&opened(rt.alloc(), asking)?));
-    let asking = fed(rt.alloc(), &bytes, &[&damaged, &right])?;
-    assert!(rt; stops(rt.alloc(), asking, Reason::KeyDamaged, 50)?);
+    assert!(rt; is_opened(&opened_by(rt.alloc(), &bytes, &[&right, &damaged])?));
+    assert!(rt;
+        stops(
+            rt.alloc(),
+            &bytes,
+            &[&damaged, &right],
+            Reason::KeyDamaged,
+            50
+        )?
+    );
     Ok(())
 }
 
@@ -171,8 +182,7 @@ fn keys_are_fed_in_any_order(rt: HostRuntime) -> Result<(), Fail> {
     let key = right_key(rt.alloc())?;
     let other = other_key(rt.alloc())?;
     let unneeded = key_of(rt.alloc(), [9; 16], &material())?;
-    let asking = fed(rt.alloc(), &bytes, &[&unneeded, &key, &other])?;
-    assert!(rt; is_three_opened(&opened(rt.alloc(), asking)?));
+    assert!(rt; is_three_opened(&opened_by(rt.alloc(), &bytes, &[&unneeded, &key, &other])?));
     Ok(())
 }
 
@@ -181,10 +191,8 @@ fn the_first_payload_without_a_key_is_told(rt: HostRuntime) -> Result<(), Fail> 
     let bytes = three_sealed();
     let key = right_key(rt.alloc())?;
     let other = other_key(rt.alloc())?;
-    let asking = fed(rt.alloc(), &bytes, &[&key])?;
-    assert!(rt; stops(rt.alloc(), asking, Reason::KeyMissing, 7)?);
-    let asking = fed(rt.alloc(), &bytes, &[&other])?;
-    assert!(rt; stops(rt.alloc(), asking, Reason::KeyMissing, 97)?);
+    assert!(rt; stops(rt.alloc(), &bytes, &[&key], Reason::KeyMissing, 7)?);
+    assert!(rt; stops(rt.alloc(), &bytes, &[&other], Reason::KeyMissing, 97)?);
     Ok(())
 }
 
@@ -196,7 +204,7 @@ fn a_cache_answers_for_the_material_that_is_fed(rt: HostRuntime) -> Result<(), F
     let mut cache = KeyCache::new(rt.alloc(), master()).map_err(|_| "no memory")?;
     let asking = fed(rt.alloc(), &bytes, &[&right])?;
     assert!(rt; asking.done_cached(rt.alloc(), &mut cache, &Tables).is_ok());
-    assert_eq!(rt; cache.len(), 1);
+    assert!(rt; cache.len() == 1);
     let asking = fed(rt.alloc(), &bytes, &[&damaged])?;
     assert!(rt; asking.done_cached(rt.alloc(), &mut cache, &Tables).is_err());
     Ok(())

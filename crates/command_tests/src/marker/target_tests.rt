@@ -139,7 +139,7 @@ fn protected_values_are_marked(rt: HostRuntime) -> Result<(), Fail> {
         ),
     ];
     for (schema, command, expected) in cases {
-        assert_eq!(rt; what_becomes(rt.alloc(), schema, command)?, *expected);
+        assert!(rt; what_becomes(rt.alloc(), schema, command)? == *expected);
     }
     Ok(())
 }
@@ -153,7 +153,7 @@ fn compared_and_updated_values_are_marked(rt: HostRuntime) -> Result<(), Fail> {
     ];
     for (schema, command, mark) in cases {
         let marked = what_becomes(rt.alloc(), schema, command)?;
-        assert_eq!(rt; marked, Outcome::Marked(1, *mark));
+        assert!(rt; marked == Outcome::Marked(1, *mark));
     }
     Ok(())
 }
@@ -169,10 +169,7 @@ fn contents_are_refused_where_they_stand(rt: HostRuntime) -> Result<(), Fail> {
         (PEOPLE_SCHEMA, NO_DOCUMENT, Reason::BadField, 41),
     ];
     for (schema, command, reason, at) in cases {
-        assert_eq!(rt;
-            what_becomes(rt.alloc(), schema, command)?,
-            Outcome::Refused(*reason, *at)
-        );
+        assert!(rt; what_becomes(rt.alloc(), schema, command)? == Outcome::Refused(*reason, *at));
     }
     Ok(())
 }
@@ -188,9 +185,8 @@ fn fields_are_refused_before_contents(rt: HostRuntime) -> Result<(), Fail> {
         (TWO_DBS, Reason::BadField, 40),
     ];
     for (command, reason, at) in cases {
-        assert_eq!(rt;
-            what_becomes(rt.alloc(), PEOPLE_SCHEMA, command)?,
-            Outcome::Refused(*reason, *at)
+        assert!(rt;
+            what_becomes(rt.alloc(), PEOPLE_SCHEMA, command)? == Outcome::Refused(*reason, *at)
         );
     }
     Ok(())
@@ -198,9 +194,6 @@ fn fields_are_refused_before_contents(rt: HostRuntime) -> Result<(), Fail> {
 
 #[test]
 fn a_command_passes_whatever_its_database(rt: HostRuntime) -> Result<(), Fail> {
-    assert_eq!(rt;
-        what_becomes(rt.alloc(), PEOPLE_SCHEMA, PING)?,
-        Outcome::Passed
-    );
+    assert!(rt; what_becomes(rt.alloc(), PEOPLE_SCHEMA, PING)? == Outcome::Passed);
     Ok(())
 }

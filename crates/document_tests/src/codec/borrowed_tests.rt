@@ -7,19 +7,19 @@ use std::test::Fail;
 #[test]
 fn the_elements_of_the_insert_command_stand_in_order(rt: HostRuntime) -> Result<(), Fail> {
     let document = check_bson(&INSERT)?;
-    assert_eq!(rt; document.bytes(), INSERT.as_slice());
+    assert!(rt; document.bytes() == INSERT.as_slice());
     let mut items = document.again().items();
     let insert = items.next().ok_or("no insert")?;
-    assert_eq!(rt; insert.tag(), 0x02);
-    assert_eq!(rt; insert.name(), b"insert".as_slice());
-    assert_eq!(rt; insert.text(), Some(b"people".as_slice()));
+    assert!(rt; insert.tag() == 0x02);
+    assert!(rt; insert.name() == b"insert".as_slice());
+    assert!(rt; insert.text() == Some(b"people".as_slice()));
     assert!(rt; insert.child().is_none());
     let documents = items.next().ok_or("no documents")?;
-    assert_eq!(rt; documents.tag(), 0x04);
-    assert_eq!(rt; documents.start(), 34);
+    assert!(rt; documents.tag() == 0x04);
+    assert!(rt; documents.start() == 34);
     assert!(rt; documents.text().is_none());
     let database = items.again().next().ok_or("no $db")?;
-    assert_eq!(rt; database.value(), b"\x03\x00\x00\x00hr\x00".as_slice());
+    assert!(rt; database.value() == b"\x03\x00\x00\x00hr\x00".as_slice());
     assert!(rt; items.next().is_some());
     assert!(rt; items.next().is_none());
     Ok(())
@@ -30,15 +30,15 @@ fn the_elements_of_the_insert_command_stand_in_order(rt: HostRuntime) -> Result<
 fn an_offset_leads_to_the_value_that_begins_there(rt: HostRuntime) -> Result<(), Fail> {
     let document = check_bson(&INSERT)?;
     let (number, documents) = document.child_holding(50).ok_or("not in the command")?;
-    assert_eq!(rt; number, 1);
+    assert!(rt; number == 1);
     let array = documents.child().ok_or("no array")?;
     let (number, person) = array.child_holding(50).ok_or("not in the array")?;
-    assert_eq!(rt; number, 0);
+    assert!(rt; number == 0);
     let person = person.child().ok_or("no document")?;
     let (number, ssn) = person.child_holding(50).ok_or("not in the document")?;
-    assert_eq!(rt; number, 0);
-    assert_eq!(rt; ssn.start(), 50);
-    assert_eq!(rt; ssn.text(), Some(b"123-45-6789".as_slice()));
+    assert!(rt; number == 0);
+    assert!(rt; ssn.start() == 50);
+    assert!(rt; ssn.text() == Some(b"123-45-6789".as_slice()));
     assert!(rt; document.child_holding(51).is_some());
     assert!(rt; document.child_holding(88).is_none());
     Ok(())
@@ -49,16 +49,16 @@ fn an_offset_leads_to_the_value_that_begins_there(rt: HostRuntime) -> Result<(),
 fn a_binary_has_a_subtype_and_contents(rt: HostRuntime) -> Result<(), Fail> {
     let bytes = b"\x0F\x00\x00\x00\x05x\x00\x02\x00\x00\x00\x00\xFF\xFF\x00\x07";
     let (document, rest) = first_doc(bytes)?;
-    assert_eq!(rt; rest, b"\x07".as_slice());
+    assert!(rt; rest == b"\x07".as_slice());
     let item = document.items().next().ok_or("no element")?;
     let (subtype, contents) = item.binary().ok_or("no binary")?;
-    assert_eq!(rt; subtype, 0);
-    assert_eq!(rt; contents, b"\xFF\xFF".as_slice());
+    assert!(rt; subtype == 0);
+    assert!(rt; contents == b"\xFF\xFF".as_slice());
     let fault = BsonFault {
         kind: BsonKind::Extra,
         offset: 15,
     };
-    assert_eq!(rt; check_bson(bytes).err(), Some(fault));
+    assert!(rt; check_bson(bytes).err() == Some(fault));
     Ok(())
 }
 
@@ -100,7 +100,7 @@ fn malformed_bytes_have_their_first_fault(rt: HostRuntime) {
             kind: *kind,
             offset: *offset,
         };
-        assert_eq!(rt; check_bson(bytes).err(), Some(fault));
+        assert!(rt; check_bson(bytes).err() == Some(fault));
     }
 }
 
@@ -110,7 +110,7 @@ fn a_scope_is_no_child(rt: HostRuntime) -> Result<(), Fail> {
     let bytes =
         b"\x16\x00\x00\x00\x0Fa\x00\x0E\x00\x00\x00\x01\x00\x00\x00\x00\x05\x00\x00\x00\x00\x00";
     let item = check_bson(bytes)?.items().next().ok_or("no element")?;
-    assert_eq!(rt; item.tag(), 0x0F);
+    assert!(rt; item.tag() == 0x0F);
     assert!(rt; item.child().is_none());
     Ok(())
 }
@@ -124,12 +124,12 @@ fn a_scope_has_a_text_and_a_document(rt: HostRuntime) -> Result<(), Fail> {
     let document = check_bson(bytes)?;
     let code = document.items().next().ok_or("no element")?;
     let (text, inner) = code.scope().ok_or("no scope")?;
-    assert_eq!(rt; text, b"a".as_slice());
-    assert_eq!(rt; inner.bytes(), scope.as_slice());
+    assert!(rt; text == b"a".as_slice());
+    assert!(rt; inner.bytes() == scope.as_slice());
     let flag = inner.items().next().ok_or("no flag")?;
     assert!(rt; flag.scope().is_none());
-    assert_eq!(rt; flag.start(), 24);
-    assert_eq!(rt; bytes[flag.start()], 1);
+    assert!(rt; flag.start() == 24);
+    assert!(rt; bytes[flag.start()] == 1);
     Ok(())
 }
 
@@ -141,9 +141,9 @@ fn a_document_is_written_in_pieces(rt: HostRuntime) -> Result<(), Fail> {
     put_name(&mut out, types::STRING, b"hello")?;
     append(&mut out, b"\x06\x00\x00\x00world\x00")?;
     close(&mut out, 5)?;
-    assert_eq!(rt;
-        out.as_slice(),
-        b"front\x16\x00\x00\x00\x02hello\x00\x06\x00\x00\x00world\x00\x00".as_slice()
+    assert!(rt;
+        out.as_slice()
+            == b"front\x16\x00\x00\x00\x02hello\x00\x06\x00\x00\x00world\x00\x00".as_slice()
     );
     Ok(())
 }

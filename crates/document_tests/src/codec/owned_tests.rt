@@ -32,10 +32,10 @@ fn the_insert_command_is_read_copied_and_written_again(rt: HostRuntime) -> Resul
     let copy = copy_doc(rt.alloc(), &document)?;
     let place = Place::from_slice(rt.alloc(), &[1, 0, 0])?;
     let number = raw_bytes(value_at(&copy, &place));
-    assert_eq!(rt; number, Some(b"\x0C\x00\x00\x00123-45-6789\x00".as_slice()));
+    assert!(rt; number == Some(b"\x0C\x00\x00\x00123-45-6789\x00".as_slice()));
     assert!(rt; well_formed(&copy));
     let again = encode(rt.alloc(), &copy)?;
-    assert_eq!(rt; again.as_slice(), INSERT.as_slice());
+    assert!(rt; again.as_slice() == INSERT.as_slice());
     Ok(())
 }
 
@@ -43,12 +43,9 @@ fn the_insert_command_is_read_copied_and_written_again(rt: HostRuntime) -> Resul
 fn the_front_document_is_read_whatever_follows(rt: HostRuntime) -> Result<(), Fail> {
     let bytes = b"\x0C\x00\x00\x00\x10n\x00\x01\x00\x00\x00\x00\x05\x00";
     let (document, width) = decode_front(rt.alloc(), bytes)?;
-    assert_eq!(rt; width, 12);
-    assert_eq!(rt; document.kids.len(), 1);
-    assert_eq!(rt;
-        raw_bytes(document.kids.value(0)),
-        Some(b"\x01\x00\x00\x00".as_slice())
-    );
+    assert!(rt; width == 12);
+    assert!(rt; document.kids.len() == 1);
+    assert!(rt; raw_bytes(document.kids.value(0)) == Some(b"\x01\x00\x00\x00".as_slice()));
     Ok(())
 }
 
@@ -56,7 +53,7 @@ fn the_front_document_is_read_whatever_follows(rt: HostRuntime) -> Result<(), Fa
 fn expect_fault(rt: &impl Abort, alloc: Global, bytes: &[u8], kind: BsonKind, offset: usize) {
     assert!(rt; bytes.len() < 100);
     let fault = BsonFault { kind, offset };
-    assert_eq!(rt; decode(alloc, bytes).err(), Some(CodecFault::Bson(fault)));
+    assert!(rt; decode(alloc, bytes).err() == Some(CodecFault::Bson(fault)));
 }
 
 #[test]
@@ -160,7 +157,7 @@ fn documents_of_each_type_are_read_and_written_again(rt: HostRuntime) -> Result<
         let document = decode(rt.alloc(), bytes)?;
         assert!(rt; well_formed(&document));
         let again = encode(rt.alloc(), &document)?;
-        assert_eq!(rt; again.as_slice(), *bytes);
+        assert!(rt; again.as_slice() == *bytes);
     }
     Ok(())
 }
@@ -184,21 +181,18 @@ fn nested(alloc: Global, levels: u32) -> Result<Vec<u8>, AllocError>
 #[test]
 fn a_hundred_levels_are_read_and_no_more(rt: HostRuntime) -> Result<(), Fail> {
     let bytes = nested(rt.alloc(), 100)?;
-    assert_eq!(rt; bytes.len(), 797);
+    assert!(rt; bytes.len() == 797);
     let document = decode(rt.alloc(), &bytes)?;
     assert!(rt; well_formed(&document));
     assert!(rt; check_bson(&bytes).is_ok());
     let bytes = nested(rt.alloc(), 101)?;
-    assert_eq!(rt; bytes.len(), 805);
+    assert!(rt; bytes.len() == 805);
     let deep = BsonFault {
         kind: BsonKind::Deep,
         offset: 700,
     };
-    assert_eq!(rt;
-        decode(rt.alloc(), &bytes).err(),
-        Some(CodecFault::Bson(deep))
-    );
-    assert_eq!(rt; check_bson(&bytes).err(), Some(deep));
+    assert!(rt; decode(rt.alloc(), &bytes).err() == Some(CodecFault::Bson(deep)));
+    assert!(rt; check_bson(&bytes).err() == Some(deep));
     Ok(())
 }
 
@@ -208,10 +202,10 @@ fn a_stated_length_is_at_least_five(rt: HostRuntime) {
         kind: BsonKind::Length,
         offset: 0,
     };
-    assert_eq!(rt; stated_length([0x05, 0, 0, 0]), Ok(5));
-    assert_eq!(rt; stated_length([0xff, 0xff, 0xff, 0x7f]), Ok(2_147_483_647));
-    assert_eq!(rt; stated_length([0x04, 0, 0, 0]), Err(length));
-    assert_eq!(rt; stated_length([0, 0, 0, 0x80]), Err(length));
+    assert!(rt; stated_length([0x05, 0, 0, 0]) == Ok(5));
+    assert!(rt; stated_length([0xff, 0xff, 0xff, 0x7f]) == Ok(2_147_483_647));
+    assert!(rt; stated_length([0x04, 0, 0, 0]) == Err(length));
+    assert!(rt; stated_length([0, 0, 0, 0x80]) == Err(length));
 }
 
 #[test]
@@ -237,7 +231,7 @@ fn kinds_are_numbered_from_one(rt: HostRuntime) {
     ];
     let mut number = 1;
     for kind in kinds {
-        assert_eq!(rt; kind.number(), number);
+        assert!(rt; kind.number() == number);
         number = kind.number().saturating_add(1);
     }
 }
@@ -247,6 +241,6 @@ fn a_value_is_appended(rt: HostRuntime) -> Result<(), Fail> {
     let body = Body::Raw(Bytes::from_slice(rt.alloc(), b"\x01\x00\x00\x00")?);
     let mut out = Vec::from_slice(rt.alloc(), b"n=")?;
     put_value(&mut out, &Value { tag: 0x10, body })?;
-    assert_eq!(rt; out.as_slice(), b"n=\x01\x00\x00\x00".as_slice());
+    assert!(rt; out.as_slice() == b"n=\x01\x00\x00\x00".as_slice());
     Ok(())
 }

@@ -9,12 +9,12 @@ use std::process::Abort;
 use std::test::Fail;
 
 fn expect_fault(rt: &impl Abort, alloc: Global, text: &[u8], fault: JsonFault) {
-    assert_eq!(rt; infos_from_json(alloc, text).err(), Some(fault));
+    assert!(rt; infos_from_json(alloc, text).err() == Some(fault));
 }
 
 fn expect_infos(rt: &impl Abort, alloc: Global, text: &[u8], bytes: &[u8]) -> Result<(), Fail> {
     let infos = infos_from_json(alloc, text)?;
-    assert_eq!(rt; infos.as_slice(), bytes);
+    assert!(rt; infos.as_slice() == bytes);
     Ok(())
 }
 
@@ -187,9 +187,9 @@ fn what_is_no_json_is_told(rt: HostRuntime) {
 
 #[test]
 fn faults_have_their_numbers(rt: HostRuntime) {
-    assert_eq!(rt; JsonFault::Syntax.code(), Some(33));
-    assert_eq!(rt; JsonFault::Form { document: 0 }.code(), Some(34));
-    assert_eq!(rt; JsonFault::Memory.code(), None);
+    assert!(rt; JsonFault::Syntax.code() == Some(33));
+    assert!(rt; JsonFault::Form { document: 0 }.code() == Some(34));
+    assert!(rt; JsonFault::Memory.code() == None);
 }
 
 // A text of arrays, each but the last with the next one inside, in a member.

@@ -13,14 +13,14 @@ use std::test::Fail;
 fn expect_text(rt: &impl Abort, alloc: Global, bytes: &[u8], text: &[u8]) -> Result<(), Fail> {
     assert!(rt; bytes.len() < 200);
     let document = check_bson(bytes)?;
-    assert_eq!(rt; first_bad_text(&document), None);
+    assert!(rt; first_bad_text(&document) == None);
     for step in [1usize, 7, 200] {
         let mut out = MemSink::new(alloc, 200, step, Vec::new(alloc))?;
         assert!(rt; write_text(&document, &mut out).is_ok());
-        assert_eq!(rt; out.written(), text);
+        assert!(rt; out.written() == text);
         let mut out = MemSink::new(alloc, 200, step, Vec::new(alloc))?;
-        assert_eq!(rt; show_text(&document, &mut out), Shown::Written);
-        assert_eq!(rt; out.written(), text);
+        assert!(rt; show_text(&document, &mut out) == Shown::Written);
+        assert!(rt; out.written() == text);
     }
     Ok(())
 }
@@ -227,12 +227,12 @@ fn the_first_place_that_is_not_utf8_is_told(rt: HostRuntime) -> Result<(), Fail>
     for (bytes, at) in cases {
         assert!(rt; bytes.len() < 100);
         let document = check_bson(bytes)?;
-        assert_eq!(rt; first_bad_text(&document), *at);
+        assert!(rt; first_bad_text(&document) == *at);
         let mut out = MemSink::new(rt.alloc(), 200, 200, Vec::new(rt.alloc()))?;
         let shown = show_text(&document, &mut out);
         match at {
-            Some(at) => assert_eq!(rt; shown, Shown::Bad(*at)),
-            None => assert_eq!(rt; shown, Shown::Written),
+            Some(at) => assert!(rt; shown == Shown::Bad(*at)),
+            None => assert!(rt; shown == Shown::Written),
         }
     }
     Ok(())
@@ -244,9 +244,9 @@ fn a_full_sink_holds_a_front_of_the_text(rt: HostRuntime) -> Result<(), Fail> {
     let document = check_bson(b"\x08\x00\x00\x00\x0Aa\x00\x00")?;
     let mut out = MemSink::new(alloc, 9, 4, Vec::new(alloc))?;
     assert!(rt; write_text(&document, &mut out).is_err());
-    assert_eq!(rt; out.written(), br#"{"a":null"#.as_slice());
+    assert!(rt; out.written() == br#"{"a":null"#.as_slice());
     let mut out = MemSink::new(alloc, 9, 4, Vec::new(alloc))?;
-    assert_eq!(rt; show_text(&document, &mut out), Shown::Failed);
-    assert_eq!(rt; out.written(), br#"{"a":null"#.as_slice());
+    assert!(rt; show_text(&document, &mut out) == Shown::Failed);
+    assert!(rt; out.written() == br#"{"a":null"#.as_slice());
     Ok(())
 }

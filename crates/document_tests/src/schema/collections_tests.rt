@@ -72,14 +72,14 @@ fn two_rules_of_one_collection(rt: HostRuntime) -> Result<(), Fail> {
     assert!(rt; infos.info_of(b"staff").is_none());
     let info = infos.info_of(b"people").ok_or("no people")?;
     assert!(rt; !info.is_view());
-    assert_eq!(rt; info.name(), b"people".as_slice());
+    assert!(rt; info.name() == b"people".as_slice());
     let rows = info.rows();
-    assert_eq!(rt; rows.len(), 2);
+    assert!(rt; rows.len() == 2);
     assert!(rt; is_policy(rows.policy(0), Algorithm::Deterministic, false));
     assert!(rt; is_policy(rows.policy(1), Algorithm::Random, true));
-    assert_eq!(rt; rows.class(rows.walk(b"ssn").at), Class::Protected(0));
-    assert_eq!(rt; rows.class(rows.walk(b"salary").at), Class::Protected(1));
-    assert_eq!(rt; rows.class(rows.walk(b"name").at), Class::Clear);
+    assert!(rt; rows.class(rows.walk(b"ssn").at) == Class::Protected(0));
+    assert!(rt; rows.class(rows.walk(b"salary").at) == Class::Protected(1));
+    assert!(rt; rows.class(rows.walk(b"name").at) == Class::Clear);
     Ok(())
 }
 
@@ -119,7 +119,7 @@ fn an_info_has_fields_of_one_form(rt: HostRuntime) -> Result<(), Fail> {
         } else {
             (1, Some(InfoKind::Shape))
         };
-        assert_eq!(rt; fault(rt.alloc(), &file)?, expected);
+        assert!(rt; fault(rt.alloc(), &file)? == expected);
     }
     Ok(())
 }
@@ -142,36 +142,24 @@ fn a_form_a_name_and_a_schema_are_judged_in_order(rt: HostRuntime) -> Result<(),
     let bad = with_bad_schema(alloc, b"")?;
     let bad_twice = with_bad_schema(alloc, NAME)?;
     let schema = Some(InfoKind::Schema(SchemaFault::Shape));
-    assert_eq!(rt; fault_of(alloc, &[&bad])?, (1, schema));
-    assert_eq!(rt;
-        fault_of(alloc, &[&good, &bad])?,
-        (2, Some(InfoKind::Twice))
-    );
-    assert_eq!(rt;
-        fault_of(alloc, &[&good, &bad_twice])?,
-        (2, Some(InfoKind::Shape))
-    );
-    assert_eq!(rt;
-        fault_of(alloc, &[&good, &good])?,
-        (2, Some(InfoKind::Twice))
-    );
-    assert_eq!(rt;
-        fault_of(alloc, &[&good, &shapeless, &bad])?,
-        (2, Some(InfoKind::Shape))
-    );
+    assert!(rt; fault_of(alloc, &[&bad])? == (1, schema));
+    assert!(rt; fault_of(alloc, &[&good, &bad])? == (2, Some(InfoKind::Twice)));
+    assert!(rt; fault_of(alloc, &[&good, &bad_twice])? == (2, Some(InfoKind::Shape)));
+    assert!(rt; fault_of(alloc, &[&good, &good])? == (2, Some(InfoKind::Twice)));
+    assert!(rt; fault_of(alloc, &[&good, &shapeless, &bad])? == (2, Some(InfoKind::Shape)));
     Ok(())
 }
 
 #[test]
 fn documents_are_judged_one_after_another(rt: HostRuntime) -> Result<(), Fail> {
     let alloc = rt.alloc();
-    assert_eq!(rt; fault(alloc, CUT)?, (1, Some(InfoKind::Bson)));
+    assert!(rt; fault(alloc, CUT)? == (1, Some(InfoKind::Bson)));
     let mut file = file_of(alloc, &[NAME])?;
     file.extend_from_slice(CUT)?;
-    assert_eq!(rt; fault(alloc, &file)?, (2, Some(InfoKind::Bson)));
+    assert!(rt; fault(alloc, &file)? == (2, Some(InfoKind::Bson)));
     let mut file = file_of(alloc, &[VIEW])?;
     file.extend_from_slice(CUT)?;
-    assert_eq!(rt; fault(alloc, &file)?, (1, Some(InfoKind::Shape)));
+    assert!(rt; fault(alloc, &file)? == (1, Some(InfoKind::Shape)));
     Ok(())
 }
 
@@ -185,6 +173,6 @@ fn the_schema_of_a_view_is_not_read(rt: HostRuntime) -> Result<(), Fail> {
     let infos = Infos::load(rt.alloc(), &file)?;
     let info = infos.info_of(b"c").ok_or("no view")?;
     assert!(rt; info.is_view());
-    assert_eq!(rt; info.rows().len(), 0);
+    assert!(rt; info.rows().len() == 0);
     Ok(())
 }

@@ -37,7 +37,7 @@ fn deterministic_rules_have_one_type(rt: HostRuntime) -> Result<(), Fail> {
         (&[KEY_1, RANDOM], None),
     ];
     for (parts, expected) in cases {
-        assert_eq!(rt; fault(rt.alloc(), &ENCRYPT_A, parts)?, *expected);
+        assert!(rt; fault(rt.alloc(), &ENCRYPT_A, parts)? == *expected);
     }
     Ok(())
 }
@@ -79,9 +79,9 @@ fn the_nearest_metadata_counts(rt: HostRuntime) -> Result<(), Fail> {
     let below = within(alloc, &[b"properties", b"b", b"encrypt"], &[INT])?;
     let a = within(alloc, &[b"properties", b"a"], &[&near, &below])?;
     let rows = rows_of(alloc, &[&far, &a])?;
-    assert_eq!(rt; rows.len(), 1);
-    assert_eq!(rt; class_of(&rows, b"a.b"), Class::Protected(0));
-    assert_eq!(rt; class_of(&rows, b"a"), Class::Above);
+    assert!(rt; rows.len() == 1);
+    assert!(rt; class_of(&rows, b"a.b") == Class::Protected(0));
+    assert!(rt; class_of(&rows, b"a") == Class::Above);
     assert!(rt; is_policy(rows.policy(0), Algorithm::Random, b'1', false));
     Ok(())
 }
@@ -96,8 +96,8 @@ fn a_field_of_a_field_is_protected(rt: HostRuntime) -> Result<(), Fail> {
     let below = within(alloc, &[b"properties", b"b", b"encrypt"], &[INT])?;
     let a = within(alloc, &[b"properties", b"a"], &[&object, &metadata, &below])?;
     let rows = rows_of(alloc, &[&a])?;
-    assert_eq!(rt; rows.len(), 1);
-    assert_eq!(rt; class_of(&rows, b"a.b"), Class::Protected(0));
+    assert!(rt; rows.len() == 1);
+    assert!(rt; class_of(&rows, b"a.b") == Class::Protected(0));
     assert!(rt; is_policy(rows.policy(0), Algorithm::Deterministic, b'1', false));
     Ok(())
 }
@@ -110,7 +110,7 @@ fn metadata_of_a_sibling_is_not_in_force(rt: HostRuntime) -> Result<(), Fail> {
     let a = within(alloc, &[b"a", b"encryptMetadata"], &[KEY_1, RANDOM])?;
     let b = within(alloc, &[b"b", b"encrypt"], &[])?;
     let found = fault(alloc, &[b"properties"], &[&a, &b])?;
-    assert_eq!(rt; found, Some(SchemaFault::NoKey));
+    assert!(rt; found == Some(SchemaFault::NoKey));
     Ok(())
 }
 
@@ -136,12 +136,12 @@ fn many_rules(alloc: Global, count: u32) -> Result<Result<Rows, SchemaFault>, Fa
 fn the_4097th_rule_is_one_too_many(rt: HostRuntime) -> Result<(), Fail> {
     match many_rules(rt.alloc(), 4096)? {
         Ok(rows) => {
-            assert_eq!(rt; rows.len(), 4096);
+            assert!(rt; rows.len() == 4096);
             assert!(rt; is_policy(rows.policy(4095), Algorithm::Random, b'1', true));
         }
         Err(_) => assert!(rt; false),
     }
     let found = many_rules(rt.alloc(), 4097)?.err();
-    assert_eq!(rt; found, Some(SchemaFault::TooMany));
+    assert!(rt; found == Some(SchemaFault::TooMany));
     Ok(())
 }
