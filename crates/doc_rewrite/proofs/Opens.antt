@@ -3,7 +3,7 @@ use Rattle.std.proofs.Common.{◌≡◌, ◌∙◌, ℕ, ◌+◌, ◌-◌, ◌*�
 use Rattle.std.proofs.Common.{take, drop, arith, sym, ap, append_assoc, append-nil, length-append, length-take-le}
 use Rattle.std.proofs.Common.{refl, take-add}
 use Rattle.std.proofs.lemmas.List.{length-drop, length-take}
-use Rattle.bson_tree.specs.Tree.{Tree, Items, leaf, node, item, no_items, tag_of}
+use Rattle.bson_tree.specs.Tree.{Tree, Items, node, item, no_items, tag_of}
 use Rattle.bson_tree.specs.Spelling.{framed, value_bytes, items_bytes, doc_bytes}
 use Rattle.bson_tree.specs.Filled.{fill_tree}
 use Rattle.bson_tree.proofs.Sizes.{element_size, framed_size}
@@ -12,12 +12,12 @@ use Rattle.bson_codec.specs.Elements.{TakesElement}
 use Rattle.bson_splice.proofs.Frames.{one_item}
 use Rattle.encrypt_schema.specs.Commands.Visits.{Refusal}
 use Rattle.doc_rewrite.specs.declared.unsealing.Spot.{Spot}
-use Rattle.doc_rewrite.specs.Founds.{founds, founds_in, is_sealed, opened_value, opened_items}
+use Rattle.doc_rewrite.specs.Founds.{founds, founds_in, opened_value, opened_items}
 use Rattle.doc_rewrite.specs.Opened.{Keyring, first_wrong, keyless, misshapen, spoilt, value_of}
 use Rattle.doc_rewrite.specs.Opening.{Fits, OpensAs, document_opened, element_opened, element_bytes, elements_opened}
 use Rattle.doc_rewrite.specs.Opening.{spared}
 use Rattle.doc_rewrite.proofs.Held.{held, held_in}
-use Rattle.doc_rewrite.proofs.Walks.{before_wrong, behind_right, founds_parts, neither_wrong, one_at_most}
+use Rattle.doc_rewrite.proofs.Walks.{before_wrong, behind_right, founds_parts, neither_wrong}
 
 -- some elements are opened, and these are left
 pub record Going (keys : Keyring) (levels : ℕ) (all here : At) (old new : List ℕ) (at end : ℕ) : Type 0 where
@@ -161,19 +161,6 @@ pub frame_fits : (levels at size : ℕ) (d : At) → first_wrong misshapen (foun
 frame_fits levels at size d shaped fits =
     omega (arith, fits, framed_size (items_bytes d.tree), held levels (d.start + 4) d.tree shaped)
 
--- and for the elements of a document
-pub items_fit : (levels at size : ℕ) (d : At)
-    → Fits at (length (doc_bytes d.tree)) (founds levels (d.start + 4) d.tree) size
-    → Fits (at + 4) (length (items_bytes d.tree)) (founds levels (d.start + 4) d.tree) size
-items_fit levels at size d fits = omega (arith, fits, framed_size (items_bytes d.tree))
-
--- a raw value takes no more than it has
-pub leaf_fits : (levels at size : ℕ) (e : Elem) (tag : ℕ) (bytes : List ℕ) → e.tree ≡ leaf tag bytes
-    → Fits at (length (element_bytes e)) (founds_in levels e.start e.tree) size
-    → at + length (element_bytes e) ≤ size
-leaf_fits levels at size e tag bytes is fits =
-    omega (arith, fits, one_at_most levels e.start e.tree tag bytes (is_sealed tag bytes) is refl)
-
 -- where the elements of a document end
 pub begun : (at end : ℕ) (old new made : List ℕ) → take end new ≡ take (at + 4) old ++ made → at + 4 ≤ length old
     → at + 4 ≤ end
@@ -213,19 +200,6 @@ module _ (keys : Keyring) (levels : ℕ) (e : Elem) (d : At) (lower : ℕ) (is :
       ap (λ (t : Tree). items_bytes (item e.name (fill_tree (opened_value v) e.start t) no_items)) is
       ∙ ap (λ (n : ℕ). items_bytes (item e.name (node (tag_of e.tree) (opened_items v (n + 4) d.tree)) no_items))
       (sym start) ∙ split
-
-  -- there is room for it behind its name
-  pub inside_fits : (at named size : ℕ) → named ≡ at + 2 + length e.name
-      → Fits at (length (element_bytes e)) (founds_in levels e.start e.tree) size
-      → Fits named (length (doc_bytes d.tree)) (founds lower (d.start + 4) d.tree) size
-  inside_fits at named size place fits = omega (
-    arith,
-    fits,
-    place,
-    element_size e.name e.tree no_items,
-    ap (λ (t : Tree). length (value_bytes t)) is,
-    ap length inside_founds,
-  )
 
   pub inside_opens : (at named : ℕ) (old mid new : List ℕ) (r : Result ℕ Spot) → named ≡ at + 2 + length e.name
       → take named mid ≡ take at old ++ (tag_of e.tree ∷ (e.name ++ 0 ∷ []))

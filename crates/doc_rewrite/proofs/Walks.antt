@@ -1,6 +1,6 @@
 -- The payloads of a document, element by element.
-use Rattle.std.proofs.Common.{◌≡◌, ◌∙◌, ℕ, ◌+◌, ◌≤◌, Bool, true, false, Option, Some, None, List, [], ◌∷◌, ◌++◌, length}
-use Rattle.std.proofs.Common.{refl, sym, ap, arith}
+use Rattle.std.proofs.Common.{◌≡◌, ◌∙◌, ℕ, ◌+◌, true, false, Option, Some, None, List, [], ◌∷◌, ◌++◌, length}
+use Rattle.std.proofs.Common.{refl, sym, ap}
 use Rattle.bson_tree.specs.Tree.{Tree, leaf}
 use Rattle.bson_tree.specs.Spelling.{value_bytes}
 use Rattle.bson_codec.specs.Borrowed.{At, Elem}
@@ -55,13 +55,6 @@ pub none_found : (levels at : ℕ) (t : Tree) (tag : ℕ) (bytes : List ℕ) →
 none_found levels at t tag bytes is off =
     let off' : is_sealed tag bytes ≡ false = sym (ap opens_here is) ∙ off in
     ap (founds_in levels at) is ∙ rw off' refl
-
-pub one_at_most : (levels at : ℕ) (t : Tree) (tag : ℕ) (bytes : List ℕ) (b : Bool) → t ≡ leaf tag bytes
-    → is_sealed tag bytes ≡ b → length (founds_in levels at t) ≤ 1
-one_at_most levels at t tag bytes true is on =
-    omega (arith, ap length (one_found levels at t tag bytes is (ap opens_here is ∙ on)))
-one_at_most levels at t tag bytes false is off =
-    omega (arith, ap length (none_found levels at t tag bytes is (ap opens_here is ∙ off)))
 
 -- ---- elements
 

@@ -20,7 +20,8 @@ spared = 72
 abbrev pub room_to_open : At → List FoundAt → ℕ
 room_to_open d fs = length (doc_bytes d.tree) - spared * (length fs - 1)
 
--- behind `at` there is room, of so many bytes in all, for what has `most` bytes and these payloads
+-- behind `at` there is room, of so many bytes in all, for what has `most` bytes less those that these payloads spare,
+-- and for 72 more, which the one that is being opened has spared only when it is open
 abbrev pub Fits : ℕ → ℕ → List Place → ℕ → Type 0
 Fits at most ps size = at + most + spared ≤ size + spared * length ps
 
