@@ -23,12 +23,12 @@ use Rattle.fle_runner.specs.Decrypt.{decrypt_task, decrypt_verdict}
 use Rattle.fle_runner.specs.Encrypt.{encrypt_verdict}
 use Rattle.fle_runner.specs.Headline.{AreByUuid, AreReadable, AreSealedUnder, SealsStream, Setup, verdict_of}
 use Rattle.fle_runner.specs.HeadlineFiles.{HoldKeys, HoldSetup, HoldsBytes, IsDecrypt, IsEncrypt}
-use Rattle.fle_runner.specs.Infos.{infos_read}
+use Rattle.fle_files.specs.Infos.{infos_read}
 use Rattle.fle_runner.specs.ReadBack.{outputs_back, read_whole, stream}
-use Rattle.fle_runner.specs.Setup.{infos_limit, infos_or, master_limit, master_or, vault_limit, vault_or}
-use Rattle.fle_runner.specs.Setup.{with_infos, with_master, with_vault}
+use Rattle.fle_files.specs.Setup.{infos_limit, infos_or, master_limit, master_or, vault_limit, vault_or}
+use Rattle.fle_files.specs.Setup.{with_infos, with_master, with_vault}
 use Rattle.fle_runner.specs.Verbs.{task, task_of}
-use Rattle.fle_runner.specs.Words.{Form}
+use Rattle.fle_words.specs.Words.{Form}
 use Rattle.fle_runner.proofs.Backs.{reads_back, writes_back}
 use Rattle.fle_runner.proofs.Headline.{seals_stream}
 use Rattle.fle_runner.proofs.HeadlineBack.{come_back}

@@ -9,7 +9,7 @@ use Rattle.encrypt_schema.specs.Commands.Visits.{Refusal}
 use Rattle.fle_stream.specs.Plan.{Verdict, writes}
 use Rattle.fle_stream.specs.Task.{Task, each}
 use Rattle.fle_runner.specs.Encrypt.{at_front}
-use Rattle.fle_runner.specs.Setup.{with_master, with_vault}
+use Rattle.fle_files.specs.Setup.{with_master, with_vault}
 use Rattle.fle_runner.specs.declared.decrypt.OpeningFiles.{OpeningFiles}
 use Rattle.fle_runner.specs.Verdicts.{plain_plan, refuses}
 

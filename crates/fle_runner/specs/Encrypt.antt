@@ -13,7 +13,7 @@ use Rattle.encrypt_schema.specs.Language.Collection.{Collection}
 use Rattle.encrypt_schema.specs.Language.Row.{Row}
 use Rattle.fle_stream.specs.Plan.{Plan, Verdict}
 use Rattle.fle_stream.specs.Task.{Task, each}
-use Rattle.fle_runner.specs.Setup.{with_infos, with_master, with_vault}
+use Rattle.fle_files.specs.Setup.{with_infos, with_master, with_vault}
 use Rattle.fle_runner.specs.declared.encrypt.SealingFiles.{SealingFiles}
 use Rattle.fle_runner.specs.Verdicts.{by_refusal, contents_with, into_with, sized_plan, verdict_with}
 

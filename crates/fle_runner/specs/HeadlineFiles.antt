@@ -15,10 +15,10 @@ use Rattle.fle_stream.specs.declared.status.Status.TheVariants as statuses
 use Rattle.key_vault.specs.Loading.{vault}
 use Rattle.local_kms.specs.Master.{master_in}
 use Rattle.fle_runner.specs.Headline.{AreReadable, AreSealedUnder, SealsStream, Setup}
-use Rattle.fle_runner.specs.Infos.{infos_read}
+use Rattle.fle_files.specs.Infos.{infos_read}
 use Rattle.fle_runner.specs.ReadBack.{stream}
-use Rattle.fle_runner.specs.Setup.{infos_limit, master_limit, vault_limit}
-use Rattle.fle_runner.specs.Words.{decrypt, encrypt, form_of}
+use Rattle.fle_files.specs.Setup.{infos_limit, master_limit, vault_limit}
+use Rattle.fle_words.specs.Words.{decrypt, encrypt, form_of}
 
 -- the file of this name is there, and has these bytes, at most so many
 pub record HoldsBytes (all : Files) (name : List ℕ) (limit : ℕ) (bytes : List ℕ) : Type 0 where

@@ -8,7 +8,7 @@ use Rattle.fle_outside.specs.Blocks.{Block}
 use Rattle.fle_outside.specs.Drawing.{Draws}
 use Rattle.fle_outside.specs.Seen.{EntropySeen}
 use Rattle.fle_stream.specs.Plan.{Plan}
-use Rattle.fle_runner.specs.Setup.{with_master}
+use Rattle.fle_files.specs.Setup.{with_master}
 use Rattle.fle_stream.specs.Task.{Task, makes}
 use Rattle.fle_stream.specs.declared.why.Why.{Why}
 use Rattle.fle_stream.specs.declared.why.Why.TheVariants as whys

@@ -4,7 +4,7 @@ use Rattle.uuid.specs.Text.{hyphenated_text, lower}
 use Rattle.data_key.specs.declared.key_doc.KeyDoc.{KeyDoc}
 use Rattle.data_key.specs.declared.key_doc.Provider.{Provider}
 use Rattle.data_key.specs.declared.key_doc.Provider.TheVariants as providers
-use Rattle.fle_runner.specs.Setup.{with_vault}
+use Rattle.fle_files.specs.Setup.{with_vault}
 use Rattle.fle_runner.specs.Verdicts.{plain_plan}
 use Rattle.fle_stream.specs.Task.{Task, makes}
 use Rattle.fle_stream.specs.declared.why.Why.{Why}

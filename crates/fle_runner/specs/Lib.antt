@@ -1,7 +1,3 @@
-pub mod Numbers
-pub mod Words
-pub mod Infos
-pub mod Setup
 pub mod Verdicts
 pub mod Mark
 pub mod Show
@@ -9,14 +5,10 @@ pub mod Keys
 pub mod Keygen
 pub mod Encrypt
 pub mod Decrypt
-pub mod Generator
-pub mod DemoCommands
 pub mod Demo
-pub mod DemoStates
 pub mod Verbs
 pub mod Statuses
 pub mod Text
-pub mod DemoTotals
 pub mod ReadBack
 pub mod Headline
 pub mod HeadlineFiles

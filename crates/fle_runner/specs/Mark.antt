@@ -6,7 +6,7 @@ use Rattle.encrypt_schema.specs.Language.Row.{Row}
 use Rattle.command_marker.specs.Reply.{reply_to}
 use Rattle.fle_stream.specs.Plan.{Verdict}
 use Rattle.fle_stream.specs.Task.{Task, each}
-use Rattle.fle_runner.specs.Setup.{with_infos}
+use Rattle.fle_files.specs.Setup.{with_infos}
 use Rattle.fle_runner.specs.Verdicts.{contents_with, into_with, plain_plan, sized_plan, verdict_with}
 
 -- a reply of at most 48,000,000 bytes is written

@@ -3,7 +3,7 @@ use Rattle.std.specs.Prelude.{◌≡◌, ◌⊎◌, Option, Some}
 use Rattle.fle_outside.specs.Counts.{Rose}
 use Rattle.fle_outside.specs.Seen.{EntropySeen, FolderSeen}
 use Rattle.fle_runner.specs.Keygen.{DrawsEight}
-use Rattle.fle_runner.specs.Words.{DrawsNoBlock, Form, keys, keygen, demo}
+use Rattle.fle_words.specs.Words.{DrawsNoBlock, Form, keys, keygen, demo}
 use Rattle.fle_stream.specs.declared.status.Status.{Status}
 use Rattle.fle_stream.specs.declared.status.Status.TheVariants as statuses
 

@@ -2,7 +2,7 @@
 use Rattle.std.specs.Prelude.{ℕ, Option, Some, None, List}
 use Rattle.fle_outside.specs.Files.{Files, file_of}
 use Rattle.fle_stream.specs.Task.{Task, fails}
-use Rattle.fle_runner.specs.Words.{Form, mark, show, keys, keygen, encrypt, decrypt, demo, form_of}
+use Rattle.fle_words.specs.Words.{Form, mark, show, keys, keygen, encrypt, decrypt, demo, form_of}
 use Rattle.fle_runner.specs.Mark.{mark_task}
 use Rattle.fle_runner.specs.Show.{show_task}
 use Rattle.fle_runner.specs.Keys.{keys_task}

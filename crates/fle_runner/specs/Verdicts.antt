@@ -16,7 +16,7 @@ use Rattle.encrypt_schema.specs.declared.command.reason.Reason.{Reason}
 use Rattle.encrypt_schema.specs.declared.command.reason.Reason.TheVariants as reasons
 use Rattle.fle_outside.specs.Blocks.{Block}
 use Rattle.fle_stream.specs.Plan.{Plan, Verdict, writes, refused, too_long}
-use Rattle.fle_runner.specs.Numbers.{reason_number}
+use Rattle.fle_files.specs.Numbers.{reason_number}
 
 -- an output that draws no blocks
 abbrev pub plain_plan : List ℕ → Plan

@@ -6,7 +6,7 @@ ghost use Rattle.fle_outside.specs.Files.{Files};
 ghost use Rattle.fle_runner.specs.Keygen.{DrawsEight};
 ghost use Rattle.fle_runner.specs.Statuses.{AsksDemo, AsksKey, MayEnd, ReadsNoInput};
 ghost use Rattle.fle_runner.specs.Verbs.{task};
-ghost use Rattle.fle_runner.specs.Words.{form_of, DrawsNoBlock};
+ghost use Rattle.fle_words.specs.Words.{form_of, DrawsNoBlock};
 ghost use Rattle.fle_stream.specs.Codes.{status_of};
 ghost use Rattle.fle_stream.specs.Did.{Did};
 ghost use Rattle.fle_stream.specs.Ended.{EndsAs, IsUnread};
@@ -21,10 +21,10 @@ use crate::keygen::keygen;
 use crate::keys::keys;
 use crate::mark::mark;
 use crate::show::show;
-use crate::words::{Asked, read_words};
 use crypto_hooks::Block256;
 use fle_outside::{Entropy, Folder, Sink, Source};
 use fle_stream::{Cut, End, Finish, Why};
+use fle_words::{Asked, read_words};
 use std::alloc::Global;
 
 /// Does what the words ask for. The time is that of `fle`, its 64 bits.

@@ -17,10 +17,10 @@ ghost use Rattle.fle_stream.specs.Task.{makes, outcome_of};
 ghost use Rattle.fle_stream.specs.Turn.{RunTook};
 ghost use Rattle.local_kms.specs.Made.{key_of_blocks};
 
-use crate::setup::load_master;
 use bson_tree::{Bytes, Names};
 use crypto_hooks::Block256;
 use data_key::{KeyDoc, Provider, write_key};
+use fle_files::load_master;
 use fle_outside::{Entropy, Folder, Memory, Sink};
 use fle_stream::{Cut, End, Finish, Why, write_made};
 use local_kms::{MasterKey, NewFault, new_key};

@@ -13,9 +13,9 @@ ghost use Rattle.fle_stream.specs.Plan.{size_of};
 ghost use Rattle.fle_stream.specs.Task.{makes, outcome_of};
 ghost use Rattle.fle_stream.specs.Turn.{RunTook};
 
-use crate::setup::load_vault;
 use bson_codec::writing::append;
 use data_key::{KeyDoc, Provider};
+use fle_files::load_vault;
 use fle_outside::{Folder, Memory, Sink};
 use fle_stream::{Cut, End, Finish, Why, write_made};
 use itoa::Buffer;

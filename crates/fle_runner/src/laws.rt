@@ -16,10 +16,10 @@ ghost use Rattle.fle_runner.specs.Encrypt.{encrypt_verdict};
 ghost use Rattle.fle_runner.specs.Headline.{AreByUuid, AreOpenable, AreReadable, AreSealedUnder, SealsStream, Setup};
 ghost use Rattle.fle_runner.specs.Headline.{accepted, verdict_of};
 ghost use Rattle.fle_runner.specs.HeadlineFiles.{IsEncrypt};
-ghost use Rattle.fle_runner.specs.Infos.{infos_read, is_json};
+ghost use Rattle.fle_files.specs.Infos.{infos_read, is_json};
 ghost use Rattle.fle_runner.specs.Mark.{mark_task, mark_verdict};
 ghost use Rattle.fle_runner.specs.ReadBack.{ComesTo, read_whole, stream};
-ghost use Rattle.fle_runner.specs.Setup.{infos_limit};
+ghost use Rattle.fle_files.specs.Setup.{infos_limit};
 ghost use Rattle.fle_runner.specs.TwoStreams.{EndAlike, HaveEqualSkeletons};
 ghost use Rattle.fle_runner.specs.Verbs.{task};
 ghost use Rattle.fle_stream.specs.Ended.{Whole};
@@ -29,7 +29,7 @@ ghost use Rattle.fle_stream.specs.Streams.{documents};
 ghost use Rattle.fle_stream.specs.Task.{each, outcome_of};
 ghost use Rattle.key_vault.specs.Loading.{vault};
 
-use crate::infos::InfosFault;
+use fle_files::InfosFault;
 use fle_stream::Finish;
 
 /// An empty input is done, whatever verb the words and files ask for that judges documents.

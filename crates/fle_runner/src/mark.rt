@@ -17,10 +17,10 @@ ghost use Rattle.fle_stream.specs.Task.{outcome_of};
 ghost use Rattle.fle_stream.specs.Turn.{RunTook};
 
 use crate::refusing::{judge_fault, refuse};
-use crate::setup::load_infos;
 use bson_codec::RawDoc;
 use command_marker::{ReplyFault, Target, mark_command, reply, reply_clear, target};
 use encrypt_schema::{Info, Infos, Reason, Rows};
+use fle_files::load_infos;
 use fle_outside::{Entropy, Folder, Sink, Source};
 use fle_stream::{Cut, End, Finish, Judge, Judged, Why, judge_stream};
 use std::alloc::Global;

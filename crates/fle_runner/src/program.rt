@@ -7,7 +7,7 @@ ghost use Rattle.fle_outside.specs.Files.{Files};
 ghost use Rattle.fle_runner.specs.HeadlineFiles.{OpensAll, SealsAll};
 ghost use Rattle.fle_runner.specs.Statuses.{EndsByVerb};
 ghost use Rattle.fle_runner.specs.Verbs.{task};
-ghost use Rattle.fle_runner.specs.Words.{form_of, DrawsNoBlock};
+ghost use Rattle.fle_words.specs.Words.{form_of, DrawsNoBlock};
 ghost use Rattle.fle_stream.specs.Ended.{Ended, IsSettled, Settles, WritesAll, WritesSurely, DrawsSurely, IsUnread};
 ghost use Rattle.fle_stream.specs.Ended.{world};
 

@@ -7,11 +7,11 @@ ghost use Rattle.fle_runner.specs.Verdicts.{StopsAs, Tells, refuses};
 ghost use Rattle.fle_stream.specs.Judge.{JudgeIs};
 ghost use Rattle.fle_stream.specs.Plan.{Verdict};
 
-use crate::numbers::number_of_reason;
 use crate::placing::place_at;
 use bson_codec::RawDoc;
 use context_machine::KeysStop;
 use encrypt_schema::{MarkFault, Reason};
+use fle_files::number_of_reason;
 use fle_outside::Memory;
 use fle_stream::Judged;
 use std::alloc::Global;

@@ -1,8 +1,8 @@
 -- The words have no form, or that of a verb.
 use Rattle.std.proofs.Common.{Option, sym, ap}
-use Rattle.fle_runner.specs.Words.{Form}
+use Rattle.fle_words.specs.Words.{Form}
 use Rattle.fle_runner.specs.Verbs.{task_of}
-use Rattle.fle_runner.specs.Demo.{demo_text}
+use Rattle.fle_demo.specs.Sums.{demo_text}
 use Rattle.fle_runner.specs.Show.{show_verdict}
 use Rattle.fle_runner.specs.Verdicts.{plain_plan}
 use Rattle.fle_stream.specs.declared.why.Finish.TheVariants as finishes

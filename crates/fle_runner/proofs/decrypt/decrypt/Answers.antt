@@ -6,7 +6,7 @@ use Rattle.fle_runner.specs.Decrypt.{decrypt_task, decrypt_verdict, with_opening
 use Rattle.fle_stream.specs.Task.{each}
 use Rattle.fle_stream.proofs.Programs.{did_memory, did_task}
 use Rattle.key_vault.specs.Cached.{Cached}
-use Rattle.fle_runner.proofs.Loaded.{did_stop}
+use Rattle.fle_files.proofs.Loaded.{did_stop}
 use Rattle.fle_runner.proofs.Unseals.{decrypt_draws}
 use Rattle.fle_runner.proofs.decrypt.decrypt.Goals as goal
 

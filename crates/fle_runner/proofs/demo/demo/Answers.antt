@@ -1,7 +1,7 @@
 -- The line is written, or there is no memory for it.
 use Rattle.std.proofs.Common.{◌∙◌, [], ℕ, List, ap, refl}
 use Rattle.fle_outside.proofs.Drawings.{draws_none}
-use Rattle.fle_runner.specs.Demo.{demo_text}
+use Rattle.fle_demo.specs.Sums.{demo_text}
 use Rattle.fle_runner.specs.Verdicts.{plain_plan}
 use Rattle.fle_stream.specs.Task.{makes}
 use Rattle.fle_stream.proofs.Programs.{did_memory}

@@ -7,7 +7,7 @@ use Rattle.fle_stream.specs.Plan.{draws_of}
 use Rattle.fle_stream.specs.Task.{Task, each, outcome_of}
 use Rattle.fle_stream.proofs.Programs.{did_memory, did_task}
 use Rattle.key_vault.specs.Cached.{Cached}
-use Rattle.fle_runner.proofs.Loaded.{did_stop}
+use Rattle.fle_files.proofs.Loaded.{did_stop}
 use Rattle.fle_runner.proofs.encrypt.encrypt.Goals as goal
 
 pub returns-in-Err-clause-did : goal.returns-in-Err-clause-did

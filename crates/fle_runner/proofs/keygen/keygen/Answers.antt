@@ -3,10 +3,10 @@ use Rattle.std.proofs.Common.{arith, map}
 use Rattle.std.specs.Prelude.{string_bytes}
 use Rattle.fle_outside.specs.Files.{file_of}
 use Rattle.fle_runner.specs.Keygen.{keygen_plan}
-use Rattle.fle_runner.specs.Setup.{with_master}
+use Rattle.fle_files.specs.Setup.{with_master}
 use Rattle.fle_stream.specs.Task.{makes}
 use Rattle.fle_stream.proofs.Programs.{did_task, ends_task}
-use Rattle.fle_runner.proofs.Loaded.{did_stop, ends_stop}
+use Rattle.fle_files.proofs.Loaded.{did_stop, ends_stop}
 use Rattle.fle_runner.proofs.NewKeys.{ends_key, key_draws, key_size}
 use Rattle.fle_runner.proofs.keygen.keygen.Goals as goal
 

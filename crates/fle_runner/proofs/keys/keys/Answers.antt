@@ -2,11 +2,11 @@
 use Rattle.std.proofs.Common.{arith}
 use Rattle.fle_outside.specs.Files.{file_of}
 use Rattle.fle_runner.specs.Keys.{key_lines}
-use Rattle.fle_runner.specs.Setup.{with_vault}
+use Rattle.fle_files.specs.Setup.{with_vault}
 use Rattle.fle_runner.specs.Verdicts.{plain_plan}
 use Rattle.fle_stream.specs.Task.{makes}
 use Rattle.fle_stream.proofs.Programs.{did_task, ends_task}
-use Rattle.fle_runner.proofs.Loaded.{did_stop, ends_stop}
+use Rattle.fle_files.proofs.Loaded.{did_stop, ends_stop}
 use Rattle.fle_runner.proofs.Vaults.{ends_text, lines_size}
 use Rattle.fle_runner.proofs.keys.keys.Goals as goal
 

@@ -1,5 +1,5 @@
 -- Both are read as the same infos.
-use Rattle.fle_runner.proofs.InfosRead.{json_marks}
+use Rattle.fle_runner.proofs.JsonMarks.{json_marks}
 use Rattle.fle_runner.proofs.laws.json_infos_are_their_bson.Goals as goal
 
 pub returns : goal.returns

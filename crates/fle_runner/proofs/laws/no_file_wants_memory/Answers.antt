@@ -1,5 +1,5 @@
 -- Neither a text nor documents come to it.
-use Rattle.fle_runner.proofs.InfosRead.{never_memory}
+use Rattle.fle_files.proofs.InfosRead.{never_memory}
 use Rattle.fle_runner.proofs.laws.no_file_wants_memory.Goals as goal
 
 pub returns : goal.returns

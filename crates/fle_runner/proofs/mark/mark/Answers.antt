@@ -1,10 +1,10 @@
 -- The file is loaded, and then the stream is judged.
 use Rattle.fle_outside.specs.Files.{file_of}
 use Rattle.fle_runner.specs.Mark.{mark_verdict}
-use Rattle.fle_runner.specs.Setup.{with_infos}
+use Rattle.fle_files.specs.Setup.{with_infos}
 use Rattle.fle_stream.specs.Task.{each}
 use Rattle.fle_stream.proofs.Programs.{did_task, ends_task, ends_each}
-use Rattle.fle_runner.proofs.Loaded.{did_stop, ends_stop}
+use Rattle.fle_files.proofs.Loaded.{did_stop, ends_stop}
 use Rattle.fle_runner.proofs.Marks.{mark_draws}
 use Rattle.fle_runner.proofs.mark.mark.Goals as goal
 

@@ -1,0 +1,11 @@
+pub mod Bytes
+pub mod Parts
+pub mod Steps
+pub mod Opened
+pub mod Keys
+pub mod Verdicts
+pub mod Laid
+pub mod Blocks
+pub mod Infos
+pub mod Sums
+pub mod Lines

@@ -1,0 +1,5 @@
+pub mod Generator
+pub mod Commands
+pub mod Sums
+pub mod States
+pub mod Totals

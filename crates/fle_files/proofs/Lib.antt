@@ -1,0 +1,2 @@
+pub mod InfosRead
+pub mod Loaded

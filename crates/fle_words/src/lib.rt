@@ -1,0 +1,11 @@
+//! The words of `fle`, and what they ask for.
+//!
+//! ```text
+//! match read_words(&words) {
+//!     Asked::Mark { db, schemas } => ..
+//! ```
+#![tactic(auto)]
+
+mod words;
+
+pub use words::{Asked, read_words};
