@@ -27,6 +27,14 @@ fn key_of(alloc: Global, byte: u8, damaged: bool) -> Result<KeyDoc, Fail> {
     })
 }
 
+/// Whether the data key of this byte was answered.
+fn is_key(answer: Result<DataKey, UnwrapFault>, byte: u8) -> bool {
+    match answer {
+        Ok(key) => *key.bytes() == [byte; 96],
+        Err(_) => false,
+    }
+}
+
 /// The next of Marsaglia's 64-bit xorshift numbers.
 fn next(x: u64) -> u64 {
     let x = x ^ (x << 13);
@@ -45,14 +53,19 @@ fn fronted(alloc: Global, byte: u8, list: &[u8]) -> Result<Vec<u8>, Fail> {
     Ok(fronted)
 }
 
-/// Whether the key of this byte is kept. A look doesn't make it the one used last.
-fn is_kept(alloc: Global, cache: &KeyCache, byte: u8) -> Result<bool, Fail> {
-    let key = key_of(alloc, byte, false)?;
-    match cache.shared_key(&key).map_err(|_| "no memory")? {
-        Some(kept) if *kept.key().bytes() == [byte; 96] => Ok(true),
-        Some(_) => Err("another key".into()),
-        None => Ok(false),
+/// Whether a key is kept with its material. A look doesn't make it the one used last.
+fn is_found(cache: &KeyCache, key: &KeyDoc, byte: u8) -> Result<bool, Fail> {
+    match cache.shared_key(key) {
+        Ok(Some(kept)) if *kept.key().bytes() == [byte; 96] => Ok(true),
+        Ok(Some(_)) => Err("another key".into()),
+        Ok(None) => Ok(false),
+        Err(_) => Err("no memory".into()),
     }
+}
+
+/// Whether the key of this byte is kept.
+fn is_kept(alloc: Global, cache: &KeyCache, byte: u8) -> Result<bool, Fail> {
+    is_found(cache, &key_of(alloc, byte, false)?, byte)
 }
 
 #[test]
@@ -85,20 +98,27 @@ fn a_kept_key_doesnt_answer_for_other_material(rt: HostRuntime) -> Result<(), Fa
     let alloc = rt.alloc();
     let mut cache = KeyCache::new(alloc, MasterKey::new([7; 96])).map_err(|_| "no memory")?;
     let key = key_of(alloc, 9, false)?;
-    assert!(rt;
-        cache
-            .data_key(&Tables, &key)
-            .is_ok_and(|k| *k.bytes() == [9; 96])
-    );
+    assert!(rt; is_key(cache.data_key(&Tables, &key), 9));
     let changed = cache.data_key(&Tables, &key_of(alloc, 9, true)?).err();
     assert!(rt; matches!(changed, Some(UnwrapFault::Tag { .. })));
-    assert!(rt;
-        cache
-            .data_key(&Tables, &key)
-            .is_ok_and(|k| *k.bytes() == [9; 96])
-    );
+    assert!(rt; is_key(cache.data_key(&Tables, &key), 9));
     assert!(rt; cache.len() == 1);
     Ok(())
+}
+
+/// Whether the data key of this byte is had. It's kept from then on.
+fn opens(alloc: Global, cache: &mut KeyCache, byte: u8) -> Result<bool, Fail> {
+    Ok(is_key(cache.data_key(&Tables, &key_of(alloc, byte, false)?), byte))
+}
+
+/// Whether of these bytes' keys those are kept that are said to be.
+fn are_kept(alloc: Global, cache: &KeyCache, bytes: &[(u8, bool)]) -> Result<bool, Fail> {
+    for (byte, kept) in bytes {
+        if is_kept(alloc, cache, *byte)? != *kept {
+            return Ok(false);
+        }
+    }
+    Ok(true)
 }
 
 #[test]
@@ -106,28 +126,19 @@ fn a_kept_key_is_used_again(rt: HostRuntime) -> Result<(), Fail> {
     let alloc = rt.alloc();
     let mut cache = KeyCache::new(alloc, MasterKey::new([7; 96])).map_err(|_| "no memory")?;
     for byte in 0..3 {
-        assert!(rt;
-            cache
-                .data_key(&Tables, &key_of(alloc, byte, false)?)
-                .is_ok()
-        );
+        assert!(rt; opens(alloc, &mut cache, byte)?);
     }
-    assert!(rt; is_kept(alloc, &cache, 0)?);
-    assert!(rt; !is_kept(alloc, &cache, 3)?);
+    assert!(rt; are_kept(alloc, &cache, &[(0, true), (3, false)])?);
     let damaged = key_of(alloc, 0, true)?;
-    assert!(rt; cache.shared_key(&damaged).is_ok_and(|k| k.is_none()));
-    cache.promote(&key_of(alloc, 0, false)?.id);
+    assert!(rt; !is_found(&cache, &damaged, 0)?);
+    cache.promote(&[0; 16]);
     cache.promote(&[3; 16]);
     // The key used least recently goes first: 1, then 2.
     for byte in 3..65 {
-        assert!(rt;
-            cache
-                .data_key(&Tables, &key_of(alloc, byte, false)?)
-                .is_ok()
-        );
+        assert!(rt; opens(alloc, &mut cache, byte)?);
     }
-    assert!(rt; !is_kept(alloc, &cache, 1)? && is_kept(alloc, &cache, 2)?);
-    assert!(rt; cache.data_key(&Tables, &key_of(alloc, 65, false)?).is_ok());
-    assert!(rt; !is_kept(alloc, &cache, 2)? && is_kept(alloc, &cache, 0)?);
+    assert!(rt; are_kept(alloc, &cache, &[(1, false), (2, true)])?);
+    assert!(rt; opens(alloc, &mut cache, 65)?);
+    assert!(rt; are_kept(alloc, &cache, &[(2, false), (0, true)])?);
     Ok(())
 }

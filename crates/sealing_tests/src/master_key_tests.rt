@@ -121,9 +121,9 @@ const BLOCKS: [[u8; 16]; 8] = [
 #[test]
 fn a_master_key_is_read_as_bytes_or_text(rt: HostRuntime) {
     let master = read_master(&MASTER);
-    assert!(rt; master.is_ok_and(|m| *m.bytes() == MASTER));
+    assert!(rt; matches!(&master, Ok(m) if *m.bytes() == MASTER));
     let master = read_master(TEXT);
-    assert!(rt; master.is_ok_and(|m| *m.bytes() == MASTER));
+    assert!(rt; matches!(&master, Ok(m) if *m.bytes() == MASTER));
 }
 
 #[test]
@@ -172,7 +172,7 @@ fn a_key_is_sealed_and_opened_as_elsewhere(rt: HostRuntime) {
     let key = DataKey::new(KEY);
     assert!(rt; wrap_key(&Tables, &master, BLOCKS[7], &key) == MATERIAL);
     let opened = unwrap_key(&Tables, &master, &MATERIAL);
-    assert!(rt; opened.is_ok_and(|k| *k.bytes() == KEY));
+    assert!(rt; matches!(&opened, Ok(k) if *k.bytes() == KEY));
 }
 
 #[test]
@@ -197,9 +197,9 @@ fn a_new_key_is_made_of_eight_blocks(rt: HostRuntime) -> Result<(), Fail> {
     let alloc = rt.alloc();
     let mut entropy = MemEntropy::new(Vec::from_slice(alloc, &BLOCKS)?, Vec::new(alloc));
     let master = MasterKey::new(MASTER);
-    let key = new_key(alloc, &mut entropy, &Tables, &master, Names::new(alloc)).map_err(
-        |_| "no key",
-    )?;
+    let Ok(key) = new_key(alloc, &mut entropy, &Tables, &master, Names::new(alloc)) else {
+        return Err("no key".into());
+    };
     assert!(rt; key.id == ID);
     assert!(rt; key.material.as_slice() == MATERIAL.as_slice());
     assert!(rt; key.provider == Provider::Local);

@@ -56,8 +56,8 @@ fn fault_of(alloc: Global, front: &[u8], back: &[u8]) -> Result<Option<(u32, Vau
 fn keys_are_found_by_id_and_by_name(rt: HostRuntime) -> Result<(), Fail> {
     let vault = Vault::load(rt.alloc(), TWO_KEYS)?;
     assert!(rt; vault.len() == 2);
-    assert!(rt; vault.by_id(ID).is_some_and(|k| k.names.len() == 1));
-    assert!(rt; vault.by_name(b"audit").is_some_and(|k| k.names.len() == 2));
+    assert!(rt; matches!(vault.by_id(ID), Some(k) if k.names.len() == 1));
+    assert!(rt; matches!(vault.by_name(b"audit"), Some(k) if k.names.len() == 2));
     assert!(rt; vault.by_name(b"hr").is_none());
     Ok(())
 }
@@ -89,7 +89,7 @@ fn a_key_is_opened_or_told_why_not(rt: HostRuntime) -> Result<(), Fail> {
     let vault = Vault::load(rt.alloc(), TWO_KEYS)?;
     let other = MasterKey::new([0; 96]);
     let key = open_key(&Tables, &master(), vault.by_id(ID));
-    assert!(rt; key.is_ok_and(|k| k.bytes()[0] == 0x80 && k.bytes()[95] == 0xdf));
+    assert!(rt; matches!(&key, Ok(k) if k.bytes()[0] == 0x80 && k.bytes()[95] == 0xdf));
     assert!(rt; open_key(&Tables, &other, vault.by_id(ID)).err() == Some(Keyless::Damaged));
     assert!(rt; open_key(&Tables, &other, None).err() == Some(Keyless::Missing));
     Ok(())

@@ -134,7 +134,7 @@ pub(crate) fn sealed(alloc: Global, waits: NeedKeys<'_>) -> Result<Vec<u8>, Fail
 fn the_collection_is_asked_for_by_its_name(rt: HostRuntime) -> Result<(), Fail> {
     let asks = asks(one_string())?;
     assert!(rt; asks.collection() == b"people".as_slice());
-    assert!(rt; asks.op(rt.alloc()).is_ok_and(|f| is_filter_of_people(&f)));
+    assert!(rt; matches!(&asks.op(rt.alloc()), Ok(f) if is_filter_of_people(f)));
     Ok(())
 }
 
@@ -142,7 +142,7 @@ fn the_collection_is_asked_for_by_its_name(rt: HostRuntime) -> Result<(), Fail> 
 fn the_keys_are_asked_for_by_their_ids(rt: HostRuntime) -> Result<(), Fail> {
     let held = no_key(rt.alloc(), ID)?;
     let waits = fed(rt.alloc(), &held, two_documents())?;
-    assert!(rt; waits.op(rt.alloc()).is_ok_and(|f| is_filter_of_one(&f)));
+    assert!(rt; matches!(&waits.op(rt.alloc()), Ok(f) if is_filter_of_one(f)));
     assert!(rt; waits.needed(0) == Some(ID) && waits.needed(1).is_none());
     for need in waits.needs() {
         assert!(rt; need.id == ID && need.at == 53);

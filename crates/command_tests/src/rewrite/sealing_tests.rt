@@ -118,15 +118,19 @@ fn copied(alloc: Global, bytes: &[u8]) -> Result<Vec<u8>, Fail> {
 
 #[test]
 fn commands_are_sealed_as_elsewhere(rt: HostRuntime) -> Result<(), Fail> {
-    let alloc = rt.alloc();
-    assert!(rt; is_sealed(alloc, &ONE_STRING)?);
-    assert!(rt; is_sealed(alloc, &ONE_INT)?);
-    assert!(rt; is_sealed(alloc, &TWO_DOCUMENTS)?);
-    assert!(rt; is_sealed(alloc, &EQUAL_NAMES)?);
-    assert!(rt; is_sealed(alloc, &IN_LIST)?);
-    assert!(rt; is_sealed(alloc, &DOTTED)?);
-    assert!(rt; is_sealed(alloc, &NESTED)?);
-    assert!(rt; is_sealed(alloc, &FROM_A_DRIVER)?);
+    let samples: &[&Sample] = &[
+        &ONE_STRING,
+        &ONE_INT,
+        &TWO_DOCUMENTS,
+        &EQUAL_NAMES,
+        &IN_LIST,
+        &DOTTED,
+        &NESTED,
+        &FROM_A_DRIVER,
+    ];
+    for sample in samples {
+        assert!(rt; is_sealed(rt.alloc(), sample)?);
+    }
     Ok(())
 }
 
@@ -141,20 +145,28 @@ fn documents_and_values_at_many_levels_are_sealed_as_elsewhere(
     Ok(())
 }
 
+/// Whether a sample isn't sealed where the draw of this number fails, and then, by the blocks that are left, to these
+/// parts.
+fn is_sealed_anew(
+    alloc: Global,
+    sample: &Sample,
+    failing: u64,
+    parts: &[&[u8]],
+) -> Result<bool, Fail> {
+    let blocks = Vec::from_slice(alloc, &[[1; 16], [2; 16], [3; 16]])?;
+    let mut entropy = MemEntropy::new(blocks, vec![in alloc; failing]?);
+    if sealed_by(alloc, sample, &mut entropy)?.is_some() {
+        return Ok(false);
+    }
+    let whole = joined(alloc, parts)?;
+    Ok(sealed_by(alloc, sample, &mut entropy)? == Some(whole))
+}
+
 #[test]
 fn sealing_after_a_failed_draw_draws_anew(rt: HostRuntime) -> Result<(), Fail> {
     let alloc = rt.alloc();
-    let blocks = [[1; 16], [2; 16], [3; 16]];
-    let first = vec![in alloc; 0u64]?;
-    let mut entropy = MemEntropy::new(Vec::from_slice(alloc, &blocks)?, first);
-    assert!(rt; sealed_by(alloc, &ONE_INT, &mut entropy)?.is_none());
-    let whole = joined(alloc, ONE_INT.sealed)?;
-    assert!(rt; sealed_by(alloc, &ONE_INT, &mut entropy)? == Some(whole));
-    let second = vec![in alloc; 1u64]?;
-    let mut entropy = MemEntropy::new(Vec::from_slice(alloc, &blocks)?, second);
-    assert!(rt; sealed_by(alloc, &TWO_DOCUMENTS, &mut entropy)?.is_none());
-    let whole = joined(alloc, TWO_DOCUMENTS_ANEW)?;
-    assert!(rt; sealed_by(alloc, &TWO_DOCUMENTS, &mut entropy)? == Some(whole));
+    assert!(rt; is_sealed_anew(alloc, &ONE_INT, 0, ONE_INT.sealed)?);
+    assert!(rt; is_sealed_anew(alloc, &TWO_DOCUMENTS, 1, TWO_DOCUMENTS_ANEW)?);
     Ok(())
 }
 
