@@ -5,6 +5,7 @@ pub mod Waits
 mod Tables
 pub mod Decrypting
 pub mod Readies
+mod Finishing
 pub mod Infos
 mod Blanked
 mod EqualNeeds

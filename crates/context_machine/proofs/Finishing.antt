@@ -1,0 +1,121 @@
+-- What is ready: what is known of a command once it is sealed, or a block couldn't be drawn, and of a document once it
+-- is opened, or isn't.
+use Rattle.std.proofs.Common.{◌≡◌, ◌∙◌, ◌++◌, ℕ, List, Result, Ok, Err, drop, length, take, Option}
+use Rattle.std.proofs.Common.{ap, arith, refl, subst, sym, take_at}
+use Rattle.bson_codec.specs.Borrowed.{At}
+use Rattle.data_key.specs.declared.key_doc.KeyDoc.{KeyDoc}
+use Rattle.encrypt_schema.specs.Language.Collection.{Collection}
+use Rattle.fle_outside.specs.Seen.{EntropySeen}
+use Rattle.doc_rewrite.specs.Keys.{key_in}
+use Rattle.doc_rewrite.specs.Opened.{Keyring, opened_whole, ring_of}
+use Rattle.doc_rewrite.specs.Opening.{OpensWhole}
+use Rattle.doc_rewrite.specs.Plans.{Planned}
+use Rattle.doc_rewrite.specs.Sealing.{FellShort, HasKeys, IsSealedWhole}
+use Rattle.doc_rewrite.specs.Sites.{draws_of}
+use Rattle.doc_rewrite.specs.declared.key_table.KeyEntry.{KeyEntry}
+use Rattle.doc_rewrite.specs.declared.site.Site.{Site}
+use Rattle.doc_rewrite.specs.declared.unsealing.Spot.{Spot}
+use Rattle.context_machine.specs.Decrypting.{OpensTo, StaysSealed}
+use Rattle.context_machine.specs.Ready.{IsReady, finished, sealed_size, values_of}
+use Rattle.context_machine.specs.States.{Finished, OpenedDone, Opens, OpensWith, Readied}
+
+-- what is sealed has all that was ready, and bytes
+pub finished_as : (command : At) (info : Option Collection) (kept : List KeyDoc) (table : List KeyEntry)
+    (bytes : List ℕ) (r : Readied) (d : Finished)
+    → record { command = command; info = info; kept = kept; table = table } ≡ r
+    → d ≡ record { command = command; info = info; kept = kept; table = table; bytes = bytes }
+    → d ≡ finished r d.bytes
+finished_as command info kept table bytes r d is made =
+    subst (λ (x : Readied). d ≡ finished x d.bytes) is
+    (subst (λ (y : Finished). y
+    ≡ record { command = command; info = info; kept = kept; table = table; bytes = y.bytes }) (sym made) refl)
+
+-- the bytes that were written fill those that were there
+pub filled : (out now : List ℕ) (len : ℕ) → length now ≡ length out → len ≡ length out
+    → take len (now ++ drop (length now) out) ≡ now
+filled out now len same whole = take_at now (drop (length now) out) len (omega (arith, same, whole))
+
+-- the sites of the plan are the command's values
+pub sealed_as : (command : At) (info : Option Collection) (kept : List KeyDoc) (table : List KeyEntry)
+    (plan : Planned) (out now bytes : List ℕ) (before after : EntropySeen) (r : Readied) (d : Finished)
+    → record { command = command; info = info; kept = kept; table = table } ≡ r
+    → d ≡ record { command = command; info = info; kept = kept; table = table; bytes = bytes }
+    → IsReady info command plan table out → bytes ≡ now
+    → IsSealedWhole (key_in table) plan.sites command before after now
+    → IsSealedWhole (key_in r.table) (values_of r.info r.command) r.command before after d.bytes
+sealed_as command info kept table plan out now bytes before after r d is made ready same whole =
+    subst (λ (x : Readied). IsSealedWhole (key_in x.table) (values_of x.info x.command) x.command before after d.bytes)
+    is (subst (λ (bs : List ℕ). IsSealedWhole (key_in table) (values_of info command) command before after bs)
+    (sym (ap (λ (y : Finished). y.bytes) made ∙ same))
+    (subst (λ (ss : List Site). IsSealedWhole (key_in table) ss command before after now) ready.planned.sites whole))
+
+-- so many bytes were there
+pub size_as : (command : At) (info : Option Collection) (kept : List KeyDoc) (table : List KeyEntry)
+    (plan : Planned) (out bytes : List ℕ) (r : Readied) (d : Finished)
+    → record { command = command; info = info; kept = kept; table = table } ≡ r
+    → d ≡ record { command = command; info = info; kept = kept; table = table; bytes = bytes }
+    → IsReady info command plan table out → length bytes ≡ length out
+    → length d.bytes ≡ sealed_size r.info r.command
+size_as command info kept table plan out bytes r d is made ready same =
+    subst (λ (x : Readied). length d.bytes ≡ sealed_size x.info x.command) is
+    (ap (λ (y : Finished). length y.bytes) made ∙ same ∙ ready.room ∙ ready.planned.size)
+
+-- the key of each site is there
+pub keyed_as : (command : At) (info : Option Collection) (table : List KeyEntry) (plan : Planned) (out : List ℕ)
+    → IsReady info command plan table out → HasKeys (key_in table) plan.sites
+keyed_as command info table plan out ready =
+    subst (λ (ss : List Site). HasKeys (key_in table) ss) (sym ready.planned.sites) ready.keyed
+
+-- it is ready still, whatever stands in those bytes
+pub ready_still : (command : At) (info : Option Collection) (table : List KeyEntry) (plan : Planned) (out now : List ℕ)
+    → IsReady info command plan table out → length now ≡ length out → IsReady info command plan table now
+ready_still command info table plan out now ready same =
+    record { planned = ready.planned; keyed = ready.keyed; room = same ∙ ready.room }
+
+-- fewer blocks were drawn than the command's values need
+pub fell_as : (command : At) (info : Option Collection) (kept : List KeyDoc) (table : List KeyEntry)
+    (plan : Planned) (out : List ℕ) (before after : EntropySeen) (r : Readied)
+    → record { command = command; info = info; kept = kept; table = table } ≡ r
+    → IsReady info command plan table out → FellShort before after (draws_of plan.sites)
+    → FellShort before after (draws_of (values_of r.info r.command))
+fell_as command info kept table plan out before after r is ready fell =
+    subst (λ (x : Readied). FellShort before after (draws_of (values_of x.info x.command))) is
+    (subst (λ (ss : List Site). FellShort before after (draws_of ss)) ready.planned.sites fell)
+
+-- the document is that of the state that asked for its keys
+pub opens_asked : (document : At) (kept : List KeyDoc) (asked : Opens) (keys : Keyring) (now : List ℕ)
+    (result : Result ℕ Spot) → record { document = document; kept = kept } ≡ asked
+    → OpensWhole keys document now result → OpensWhole keys asked.document now result
+opens_asked document kept asked keys now result is whole =
+    subst (λ (a : Opens). OpensWhole keys a.document now result) is whole
+
+-- what is opened has all that was ready, and bytes
+pub opened_as : (document : At) (kept : List KeyDoc) (table : List KeyEntry) (bytes : List ℕ) (r : OpensWith)
+    (d : OpenedDone) → record { document = document; kept = kept; table = table } ≡ r
+    → d ≡ record { document = document; kept = kept; table = table; bytes = bytes }
+    → d ≡ record { document = r.document; kept = r.kept; table = r.table; bytes = d.bytes }
+opened_as document kept table bytes r d is made =
+    subst (λ (x : OpensWith). d
+    ≡ record { document = x.document; kept = x.kept; table = x.table; bytes = d.bytes }) is
+    (subst (λ (y : OpenedDone). y ≡ record { document = document; kept = kept; table = table; bytes = y.bytes })
+    (sym made) refl)
+
+-- the front of the bytes that were written is the opened document
+pub opens_as : (document : At) (kept : List KeyDoc) (table : List KeyEntry) (now bytes : List ℕ) (n : ℕ)
+    (r : OpensWith) (d : OpenedDone) → record { document = document; kept = kept; table = table } ≡ r
+    → d ≡ record { document = document; kept = kept; table = table; bytes = bytes } → bytes ≡ take n now
+    → OpensWhole (ring_of (key_in table)) document now (Ok n) → OpensTo (ring_of (key_in r.table)) r.document d.bytes
+opens_as document kept table now bytes n r d is made same whole =
+    subst (λ (x : OpensWith). OpensTo (ring_of (key_in x.table)) x.document d.bytes) is (
+      opened_whole (ring_of (key_in table)) document,
+      whole.0,
+      ap (λ (y : OpenedDone). y.bytes) made ∙ same ∙ whole.2,
+    )
+
+-- it isn't opened
+pub stays_as : (document : At) (kept : List KeyDoc) (table : List KeyEntry) (now : List ℕ) (spot : Spot)
+    (r : OpensWith) → record { document = document; kept = kept; table = table } ≡ r
+    → OpensWhole (ring_of (key_in table)) document now (Err spot)
+    → StaysSealed (ring_of (key_in r.table)) r.document spot
+stays_as document kept table now spot r is whole =
+    subst (λ (x : OpensWith). StaysSealed (ring_of (key_in x.table)) x.document spot) is whole
