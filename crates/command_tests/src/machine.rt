@@ -2,6 +2,7 @@
 
 mod decrypting_samples;
 mod decrypting_tests;
+mod fed_keys;
 mod filters;
 mod refusal_tests;
 mod sealing_samples;

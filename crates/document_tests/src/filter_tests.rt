@@ -1,6 +1,6 @@
 //! The marks of filters, and where one is refused.
 
-use bson_codec::check_bson;
+use bson_codec::{RawDoc, check_bson};
 use encrypt_schema::{Mark, MarkFault, Marks, Reason, Role, Rows};
 use filter_rules::mark_filter;
 use sample_documents::{PEOPLE_SCHEMA, STAFF};
@@ -17,8 +17,17 @@ fn outcome(
         return Err("a test's document is too long".into());
     }
     let rows = Rows::read(alloc, &check_bson(schema)?)?;
+    outcome_under(alloc, &rows, &check_bson(filter)?)
+}
+
+/// The same under these rules.
+fn outcome_under(
+    alloc: Global,
+    rows: &Rows,
+    filter: &RawDoc<'_>,
+) -> Result<Result<Vec<u32>, (Reason, u32)>, Fail> {
     let mut marks = Marks::new(alloc);
-    match mark_filter(&mut marks, &rows, &check_bson(filter)?) {
+    match mark_filter(&mut marks, rows, filter) {
         Ok(()) => Ok(Ok(starts(alloc, &marks)?)),
         Err(MarkFault::Refused { reason, at }) => Ok(Err((reason, at))),
         Err(MarkFault::Memory) => Err("there is no memory".into()),

@@ -82,30 +82,37 @@ fn named_key(alloc: Global) -> Result<KeyDoc, Fail>
 #[test]
 fn a_key_is_written_as_elsewhere(rt: HostRuntime) -> Result<(), Fail> {
     let key = named_key(rt.alloc())?;
-    let bytes = write_key(rt.alloc(), &key, CREATED, CREATED, 0).map_err(|_| "no memory")?;
-    assert!(rt; bytes.as_slice() == NAMED.as_slice());
+    match write_key(rt.alloc(), &key, CREATED, CREATED, 0) {
+        Ok(bytes) => assert!(rt; bytes.as_slice() == NAMED.as_slice()),
+        Err(_) => return Err("no memory".into()),
+    }
     Ok(())
+}
+
+/// The key of a document, or its first fault.
+fn read(alloc: Global, bytes: &[u8]) -> Result<Result<KeyDoc, KeyFault>, Fail> {
+    if bytes.len() > 1000 {
+        return Err("a test's document is too long".into());
+    }
+    let document = check_bson(bytes)?;
+    Ok(read_key(alloc, &document))
 }
 
 #[test]
 fn a_key_is_read(rt: HostRuntime) -> Result<(), Fail> {
-    let document = check_bson(&NAMED).map_err(|_| "no document")?;
-    let key = read_key(rt.alloc(), &document).map_err(|_| "no key")?;
-    assert!(rt; key.id == ID);
+    let Ok(key) = read(rt.alloc(), &NAMED)? else {
+        return Err("no key".into());
+    };
+    assert!(rt; key.id == ID && key.provider == Provider::Local);
     assert!(rt; key.names.len() == 1);
     assert!(rt; key.names.as_slice()[0].as_slice() == b"hr-key".as_slice());
     assert!(rt; key.material.as_slice() == MATERIAL.as_slice());
-    assert!(rt; key.provider == Provider::Local);
     Ok(())
 }
 
 /// The first fault of a document.
 fn fault_of(alloc: Global, bytes: &[u8]) -> Result<Option<KeyFault>, Fail> {
-    if bytes.len() > 1000 {
-        return Err("a test's document is too long".into());
-    }
-    let document = check_bson(bytes).map_err(|_| "no document")?;
-    Ok(read_key(alloc, &document).err())
+    Ok(read(alloc, bytes)?.err())
 }
 
 #[test]
@@ -203,10 +210,10 @@ fn a_key_of_a_service_is_read(rt: HostRuntime) -> Result<(), Fail> {
         b"g\x00\x00\x00\x05_id\x00\x10\x00\x00\x00\x04\x00\x11\x223DUFw\x88\x99\xaa\xbb\xcc\xdd\xee\
          \xff\x04keyAltNames\x00\x05\x00\x00\x00\x00\x05keyMaterial\x00\x02\x00\x00\x00\x00\x01\x02\
          \x03masterKey\x00\x17\x00\x00\x00\x02provider\x00\x04\x00\x00\x00aws\x00\x00\x00";
-    let document = check_bson(bytes).map_err(|_| "no document")?;
-    let key = read_key(rt.alloc(), &document).map_err(|_| "no key")?;
-    assert!(rt; key.provider == Provider::Other);
-    assert!(rt; key.names.len() == 0);
+    let Ok(key) = read(rt.alloc(), bytes)? else {
+        return Err("no key".into());
+    };
+    assert!(rt; key.provider == Provider::Other && key.names.len() == 0);
     assert!(rt; key.material.as_slice() == b"\x01\x02".as_slice());
     Ok(())
 }

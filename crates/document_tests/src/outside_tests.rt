@@ -1,32 +1,51 @@
 //! What no clause says: that each call can succeed, and what the system's streams and files do.
 
 use fle_outside::*;
+use std::alloc::Global;
 use std::io::{BufRead, ErrorKind, Read};
 use std::test::Fail;
 use std::{fs, io};
 
+/// A source of five bytes, at most two a call, whose calls of these numbers fail.
+fn source_of_five(alloc: Global, failing: &[u64]) -> Result<MemSource, Fail> {
+    let bytes = vec![in alloc; 1u8, 2, 3, 4, 5]?;
+    Ok(MemSource::new(bytes, 2, Vec::from_slice(alloc, failing)?))
+}
+
 #[test]
 fn source_hands_out_its_bytes_in_steps(rt: HostRuntime) -> Result<(), Fail> {
-    let alloc = rt.alloc();
-    let bytes = vec![in alloc; 1u8, 2, 3, 4, 5]?;
-    let mut source = MemSource::new(bytes, 2, vec![in alloc; 1u64]?);
+    let mut source = source_of_five(rt.alloc(), &[1])?;
     let mut piece = [0u8; 4];
     assert!(rt; source.read(&mut piece) == ReadAnswer::Took(2));
     assert!(rt; piece == [1, 2, 0, 0]);
     assert!(rt; source.read(&mut piece) == ReadAnswer::Failed);
-    assert!(rt; fill_piece(&mut source, &mut piece) == Fill::Ended(3));
-    assert!(rt; piece == [3, 4, 5, 0]);
-    assert!(rt; source.read(&mut piece) == ReadAnswer::End);
+    assert!(rt; source.read(&mut piece) == ReadAnswer::Took(2));
     Ok(())
 }
 
 #[test]
-fn folder_reads_its_files_by_name(rt: HostRuntime) -> Result<(), Fail> {
-    let alloc = rt.alloc();
+fn a_piece_is_filled_up_to_the_end(rt: HostRuntime) -> Result<(), Fail> {
+    let mut source = source_of_five(rt.alloc(), &[])?;
+    let mut piece = [0u8; 3];
+    assert!(rt; fill_piece(&mut source, &mut piece) == Fill::Whole);
+    assert!(rt; piece == [1, 2, 3]);
+    assert!(rt; fill_piece(&mut source, &mut piece) == Fill::Ended(2));
+    assert!(rt; piece == [4, 5, 3]);
+    assert!(rt; source.read(&mut piece) == ReadAnswer::End);
+    Ok(())
+}
+
+/// A folder of one file of three bytes, whose call of number 3 fails.
+fn folder_of_keys(alloc: Global) -> Result<MemFolder, Fail> {
     let name = String::from_str(alloc, "keys")?;
     let bytes = vec![in alloc; 7u8, 8, 9]?;
     let files = vec![in alloc; (name, bytes)]?;
-    let mut folder = MemFolder::new(files, vec![in alloc; 3u64]?);
+    Ok(MemFolder::new(files, vec![in alloc; 3u64]?))
+}
+
+#[test]
+fn folder_reads_its_files_by_name(rt: HostRuntime) -> Result<(), Fail> {
+    let mut folder = folder_of_keys(rt.alloc())?;
     let mut piece = [0u8; 2];
     assert!(rt; folder.read_at("keys", 1, &mut piece) == FileAnswer::Took(2));
     assert!(rt; piece == [8, 9]);
@@ -36,15 +55,27 @@ fn folder_reads_its_files_by_name(rt: HostRuntime) -> Result<(), Fail> {
     Ok(())
 }
 
+/// A sink with room for six bytes, at most two a call, whose calls of these numbers fail.
+fn sink_of_six(alloc: Global, failing: &[u64]) -> Result<MemSink, Fail> {
+    match MemSink::new(alloc, 6, 2, Vec::from_slice(alloc, failing)?) {
+        Ok(sink) => Ok(sink),
+        Err(_) => Err("no memory".into()),
+    }
+}
+
 #[test]
-fn sink_takes_bytes_until_it_is_full(rt: HostRuntime) -> Result<(), Fail> {
-    let alloc = rt.alloc();
-    let mut sink = MemSink::new(alloc, 6, 2, vec![in alloc; 1u64]?)
-        .ok()
-        .ok_or("memory")?;
+fn sink_takes_bytes_in_steps(rt: HostRuntime) -> Result<(), Fail> {
+    let mut sink = sink_of_six(rt.alloc(), &[1])?;
     assert!(rt; sink.write(b"abc") == WriteAnswer::Took(2));
     assert!(rt; sink.write(b"c") == WriteAnswer::Failed);
-    assert!(rt; put_parts(&mut sink, &[b"c", b"de"]) == Ok(()));
+    assert!(rt; sink.written() == b"ab".as_slice());
+    Ok(())
+}
+
+#[test]
+fn sink_takes_bytes_until_it_is_full(rt: HostRuntime) -> Result<(), Fail> {
+    let mut sink = sink_of_six(rt.alloc(), &[])?;
+    assert!(rt; put_parts(&mut sink, &[b"abc", b"de"]) == Ok(()));
     assert!(rt; write_whole(&mut sink, b"fg") == Err(Failed));
     assert!(rt; sink.written() == b"abcdef".as_slice());
     Ok(())
@@ -81,19 +112,29 @@ fn files_are_opened_by_name(rt: HostRuntime) -> Result<(), Fail> {
     let front = folder.read_at(name, 0, &mut piece);
     let end = folder.read_at(name, 4, &mut piece);
     fs::remove_file(&rt, name)?;
-    assert!(rt; front == FileAnswer::Took(3));
+    assert!(rt; front == FileAnswer::Took(3) && end == FileAnswer::End);
     assert!(rt; piece == *b"abc");
-    assert!(rt; end == FileAnswer::End);
-    assert!(rt; folder.read_at(name, 0, &mut piece) == FileAnswer::Missing);
-    assert!(rt; folder.read_at(".", 0, &mut piece) == FileAnswer::Failed);
     Ok(())
 }
 
 #[test]
-fn entropy_hands_out_its_blocks(rt: HostRuntime) -> Result<(), Fail> {
-    let alloc = rt.alloc();
+fn what_is_no_file_is_missing_or_fails(rt: HostRuntime) {
+    let mut piece = [0u8; 3];
+    let mut folder = FileFolder::new(&rt);
+    let name = "fle_outside_no_file_has_this_name";
+    assert!(rt; folder.read_at(name, 0, &mut piece) == FileAnswer::Missing);
+    assert!(rt; folder.read_at(".", 0, &mut piece) == FileAnswer::Failed);
+}
+
+/// Two blocks, in the second of whose calls drawing fails.
+fn two_blocks(alloc: Global) -> Result<MemEntropy, Fail> {
     let blocks = vec![in alloc; [1u8; 16], [2u8; 16]]?;
-    let mut entropy = MemEntropy::new(blocks, vec![in alloc; 1u64]?);
+    Ok(MemEntropy::new(blocks, vec![in alloc; 1u64]?))
+}
+
+#[test]
+fn entropy_hands_out_its_blocks(rt: HostRuntime) -> Result<(), Fail> {
+    let mut entropy = two_blocks(rt.alloc())?;
     assert!(rt; entropy.block() == Ok([1u8; 16]));
     assert!(rt; entropy.block() == Err(Failed));
     assert!(rt; draw_block(&mut entropy) == Ok([2u8; 16]));

@@ -59,17 +59,30 @@ fn raw_bytes(value: Option<&Value>) -> Option<&[u8]> {
     }
 }
 
+// Whether the document has these bytes at this place; or, without bytes, no value.
+fn has_at(
+    alloc: Global,
+    document: &Doc,
+    steps: &[u32],
+    bytes: Option<&[u8]>,
+) -> Result<bool, Memory> {
+    let place = Place::from_slice(alloc, steps)?;
+    let value = value_at(document, &place);
+    Ok(place.as_slice() == steps && value.is_some() == bytes.is_some() && raw_bytes(value) == bytes)
+}
+
 #[test]
 fn a_copy_of_the_insert_command_is_read_at_its_places(rt: HostRuntime) -> Result<(), Fail> {
     let document = insert_command(rt.alloc())?;
     let copy = copy_doc(rt.alloc(), &document)?;
-    let place = Place::from_slice(rt.alloc(), &[1, 0, 0])?;
-    assert!(rt; place.as_slice() == [1u32, 0, 0].as_slice());
-    assert!(rt; raw_bytes(value_at(&copy, &place)) == Some(NUMBER.as_slice()));
-    let past = Place::from_slice(rt.alloc(), &[1, 0, 2])?;
-    assert!(rt; value_at(&copy, &past).is_none());
-    let whole = Place::from_slice(rt.alloc(), &[])?;
-    assert!(rt; value_at(&copy, &whole).is_none());
+    let cases: &[(&[u32], Option<&[u8]>)] = &[
+        (&[1, 0, 0], Some(&NUMBER)),
+        (&[1, 0, 2], None),
+        (&[], None),
+    ];
+    for (steps, bytes) in cases {
+        assert!(rt; has_at(rt.alloc(), &copy, steps, *bytes)?);
+    }
     Ok(())
 }
 

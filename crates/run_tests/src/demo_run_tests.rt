@@ -1,7 +1,7 @@
 //! Whole runs of the verb `demo`. What each line has to be is from a program in Python, over the AES of its package
 //! `cryptography` and its own HMAC.
 
-use crate::runs::{Run, expect, look, marking};
+use crate::runs::{Run, expect, marking};
 use fle_stream::Status;
 use std::test::Fail;
 
@@ -31,21 +31,20 @@ fn one_command_and_ten_come_back_equal(rt: HostRuntime) -> Result<(), Fail> {
         ),
     ];
     for (form, line) in cases {
-        let seen = look(rt.alloc(), words(form))?;
-        expect(&rt, &seen, Status::Done, line.as_bytes(), "");
+        let run = words(form);
+        expect(&rt, rt.alloc(), run, Status::Done, line.as_bytes(), "")?;
     }
     Ok(())
 }
 
 #[test]
 fn a_write_that_fails_ends_the_demo(rt: HostRuntime) -> Result<(), Fail> {
+    let alloc = rt.alloc();
     let run = Run {
         sink: &[0],
         ..words(&["demo", "hr", "1"])
     };
-    let seen = look(rt.alloc(), run)?;
-    expect(&rt, &seen, Status::WriteFault, b"", "fle: 6 0 0 -\n");
-    Ok(())
+    expect(&rt, alloc, run, Status::WriteFault, b"", "fle: 6 0 0 -\n")
 }
 
 #[test]
@@ -62,8 +61,9 @@ fn n_is_a_number_as_it_is_printed(rt: HostRuntime) -> Result<(), Fail> {
         "4294967297",
     ];
     for n in numbers {
-        let seen = look(rt.alloc(), words(&["demo", "hr", n]))?;
-        expect(&rt, &seen, Status::Words, b"", "fle: 2 0 0 -\n");
+        let form = ["demo", "hr", n];
+        let run = words(&form);
+        expect(&rt, rt.alloc(), run, Status::Words, b"", "fle: 2 0 0 -\n")?;
     }
     Ok(())
 }
@@ -76,8 +76,8 @@ fn two_words_stand_behind_demo(rt: HostRuntime) -> Result<(), Fail> {
         &["demo", "", "1"],
     ];
     for form in forms {
-        let seen = look(rt.alloc(), words(form))?;
-        expect(&rt, &seen, Status::Words, b"", "fle: 2 0 0 -\n");
+        let run = words(form);
+        expect(&rt, rt.alloc(), run, Status::Words, b"", "fle: 2 0 0 -\n")?;
     }
     Ok(())
 }
@@ -85,7 +85,7 @@ fn two_words_stand_behind_demo(rt: HostRuntime) -> Result<(), Fail> {
 #[test]
 fn the_database_has_at_most_63_bytes(rt: HostRuntime) -> Result<(), Fail> {
     let long = "0123456789abcdef0123456789abcdef0123456789abcdef0123456789abcdef";
-    let seen = look(rt.alloc(), words(&["demo", long, "1"]))?;
-    expect(&rt, &seen, Status::Words, b"", "fle: 2 0 0 -\n");
-    Ok(())
+    let form = ["demo", long, "1"];
+    let run = words(&form);
+    expect(&rt, rt.alloc(), run, Status::Words, b"", "fle: 2 0 0 -\n")
 }

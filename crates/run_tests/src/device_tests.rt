@@ -1,7 +1,7 @@
 //! Whole runs over two updates in which one call of an object outside fails: each read of the input, each read of a
 //! file, each write. What was written is whole outputs, or the front of them where the output failed.
 
-use crate::runs::{Run, expect, joined, look, marking, sealing};
+use crate::runs::{Run, expect, joined, marking, sealing};
 use crate::update_tests::{SEALED_SET, SEALED_SET_INSIDE, SET_INSIDE};
 use fle_stream::Status;
 use sample_documents::{NULL, SET};
@@ -25,7 +25,7 @@ fn a_read_that_fails_ends_the_run_there(rt: HostRuntime) -> Result<(), Fail> {
                 source: &[call],
                 ..sealing(&input)
             };
-            expect(&rt, &look(alloc, run)?, Status::ReadFault, out, line);
+            expect(&rt, alloc, run, Status::ReadFault, out, line)?;
         }
     }
     let run = Run {
@@ -33,27 +33,25 @@ fn a_read_that_fails_ends_the_run_there(rt: HostRuntime) -> Result<(), Fail> {
         source: &[193],
         ..sealing(&input)
     };
-    expect(&rt, &look(alloc, run)?, Status::Done, &sealed, "");
-    Ok(())
+    expect(&rt, alloc, run, Status::Done, &sealed, "")
 }
 
 #[test]
 fn a_file_that_fails_ends_the_run_before_any_input(rt: HostRuntime) -> Result<(), Fail> {
+    let alloc = rt.alloc();
     // Each of the three files is read in two calls, the second of which finds its end.
     for call in 0..6 {
         let run = Run {
             folder: &[call],
             ..sealing(SET)
         };
-        let seen = look(rt.alloc(), run)?;
-        expect(&rt, &seen, Status::ReadFault, b"", "fle: 5 0 0 -\n");
+        expect(&rt, alloc, run, Status::ReadFault, b"", "fle: 5 0 0 -\n")?;
     }
     let run = Run {
         folder: &[6],
         ..sealing(SET)
     };
-    expect(&rt, &look(rt.alloc(), run)?, Status::Done, SEALED_SET, "");
-    Ok(())
+    expect(&rt, alloc, run, Status::Done, SEALED_SET, "")
 }
 
 #[test]
@@ -71,8 +69,7 @@ fn an_output_that_is_full_has_the_front_of_what_was_to_come(rt: HostRuntime) -> 
             room,
             ..sealing(&input)
         };
-        let seen = look(alloc, run)?;
-        expect(&rt, &seen, Status::WriteFault, &sealed[..room], line);
+        expect(&rt, alloc, run, Status::WriteFault, &sealed[..room], line)?;
     }
     Ok(())
 }
@@ -94,16 +91,14 @@ fn a_write_that_fails_ends_the_run_there(rt: HostRuntime) -> Result<(), Fail> {
             sink: &[*call],
             ..sealing(&input)
         };
-        let seen = look(alloc, run)?;
         let front = &sealed[..(*written).min(sealed.len())];
-        expect(&rt, &seen, Status::WriteFault, front, line);
+        expect(&rt, alloc, run, Status::WriteFault, front, line)?;
     }
     let run = Run {
         sink: &[4],
         ..sealing(&input)
     };
-    expect(&rt, &look(alloc, run)?, Status::Done, &sealed, "");
-    Ok(())
+    expect(&rt, alloc, run, Status::Done, &sealed, "")
 }
 
 #[test]
@@ -112,7 +107,7 @@ fn a_line_that_fails_leaves_the_status(rt: HostRuntime) -> Result<(), Fail> {
         diag: &[0],
         ..sealing(NULL)
     };
-    expect(&rt, &look(rt.alloc(), run)?, Status::Refused, b"", "");
+    expect(&rt, rt.alloc(), run, Status::Refused, b"", "")?;
     let lines: &[(u64, &str)] = &[
         (1, "fle: "),
         (2, "fle: 1"),
@@ -126,7 +121,7 @@ fn a_line_that_fails_leaves_the_status(rt: HostRuntime) -> Result<(), Fail> {
             diag: &[*call],
             ..marking(NULL)
         };
-        expect(&rt, &look(rt.alloc(), run)?, Status::Refused, b"", line);
+        expect(&rt, rt.alloc(), run, Status::Refused, b"", line)?;
     }
     Ok(())
 }

@@ -2,7 +2,7 @@
 
 ghost use Rattle.std.specs.Prelude.{⊤};
 
-use crate::runs::{expect, joined, look_with, opening, sealing};
+use crate::runs::{expect_with, joined, opening, sealing};
 use aes_block::{Schedule, cipher, inv_cipher};
 use crypto_hooks::Block256;
 use fle_stream::Status;
@@ -55,12 +55,26 @@ fn a_key_is_opened_once_a_run(rt: HostRuntime) -> Result<(), Fail> {
     let sealed = joined(alloc, &[SEALED_INSERT, SEALED_INSERT])?;
     // The key has seven sealed blocks, each payload two.
     let hooks = Counted::new();
-    let seen = look_with(alloc, sealing(&input), &hooks)?;
-    expect(&rt, &seen, Status::Done, &sealed, "");
+    expect_with(
+        &rt,
+        alloc,
+        sealing(&input),
+        &hooks,
+        Status::Done,
+        &sealed,
+        "",
+    )?;
     expect_calls(&rt, &hooks, 4, 7);
     let hooks = Counted::new();
-    let seen = look_with(alloc, opening(&sealed), &hooks)?;
-    expect(&rt, &seen, Status::Done, &input, "");
+    expect_with(
+        &rt,
+        alloc,
+        opening(&sealed),
+        &hooks,
+        Status::Done,
+        &input,
+        "",
+    )?;
     expect_calls(&rt, &hooks, 0, 11);
     Ok(())
 }

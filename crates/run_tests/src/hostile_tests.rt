@@ -1,7 +1,7 @@
 //! Whole runs of `decrypt` over input that is cut, changed or nested too deep, and of `encrypt` over commands that
 //! differ in what is protected alone.
 
-use crate::runs::{document, expect, joined, look, opening, sealing};
+use crate::runs::{document, expect, joined, opening, output, sealing};
 use fle_stream::Status;
 use sample_documents::{INSERT, SEALED_INSERT};
 use std::alloc::Global;
@@ -97,8 +97,8 @@ fn what_spells_no_document_is_told_by_kind_and_offset(rt: HostRuntime) -> Result
         ),
     ];
     for (input, line) in cases {
-        let seen = look(rt.alloc(), opening(input))?;
-        expect(&rt, &seen, Status::Malformed, b"", line);
+        let run = opening(input);
+        expect(&rt, rt.alloc(), run, Status::Malformed, b"", line)?;
     }
     Ok(())
 }
@@ -108,8 +108,8 @@ fn a_front_of_a_document_ends_too_early(rt: HostRuntime) -> Result<(), Fail> {
     let alloc = rt.alloc();
     for n in 1..SEALED_INSERT.len() {
         let line = format!(in alloc; "fle: 3 1 1 {n}\n")?;
-        let seen = look(alloc, opening(&SEALED_INSERT[..n]))?;
-        expect(&rt, &seen, Status::Malformed, b"", &line);
+        let run = opening(&SEALED_INSERT[..n]);
+        expect(&rt, alloc, run, Status::Malformed, b"", &line)?;
     }
     Ok(())
 }
@@ -120,16 +120,16 @@ fn a_turned_bit_is_told_or_leaves_a_document(rt: HostRuntime) -> Result<(), Fail
     for at in 0..INSERT.len() {
         let mut turned = Vec::from_slice(alloc, INSERT)?;
         turned[at] ^= 1;
-        let seen = look(alloc, opening(&turned))?;
         let line = turned_line(at);
-        if at == 3 {
+        let (status, out, line): (Status, &[u8], &str) = if at == 3 {
             // The length is above 16,777,216 bytes.
-            expect(&rt, &seen, Status::Limit, b"", "fle: 9 1 1 -\n");
+            (Status::Limit, b"", "fle: 9 1 1 -\n")
         } else if line.is_empty() {
-            expect(&rt, &seen, Status::Done, &turned, "");
+            (Status::Done, &turned, "")
         } else {
-            expect(&rt, &seen, Status::Malformed, b"", line);
-        }
+            (Status::Malformed, b"", line)
+        };
+        expect(&rt, alloc, opening(&turned), status, out, line)?;
     }
     Ok(())
 }
@@ -149,11 +149,9 @@ fn a_document_has_at_most_100_levels(rt: HostRuntime) -> Result<(), Fail> {
     let deepest = nested(alloc, 100)?;
     let deeper = nested(alloc, 101)?;
     assert!(rt; deepest.len() == 797 && deeper.len() == 805, "lengths");
-    let seen = look(alloc, opening(&deepest))?;
-    expect(&rt, &seen, Status::Done, &deepest, "");
-    let seen = look(alloc, opening(&deeper))?;
-    expect(&rt, &seen, Status::Malformed, b"", "fle: 3 1 6 700\n");
-    Ok(())
+    expect(&rt, alloc, opening(&deepest), Status::Done, &deepest, "")?;
+    let run = opening(&deeper);
+    expect(&rt, alloc, run, Status::Malformed, b"", "fle: 3 1 6 700\n")
 }
 
 /// The bytes of a sealed `INSERT` outside the value at 1.0.0, which ends at `end`, and outside the lengths around it.
@@ -170,25 +168,32 @@ fn beside(alloc: Global, sealed: &[u8], end: usize) -> Result<Vec<u8>, Fail> {
     joined(alloc, &parts)
 }
 
+/// The same of a command that is sealed first.
+fn beside_sealed(alloc: Global, command: &[u8], end: usize) -> Result<Vec<u8>, Fail> {
+    let sealed = output(alloc, sealing(command))?;
+    beside(alloc, &sealed, end)
+}
+
 #[test]
 fn what_is_protected_shows_in_its_own_place_alone(rt: HostRuntime) -> Result<(), Fail> {
-    let alloc = rt.alloc();
-    let one = look(alloc, sealing(INSERT))?.out;
-    let other = look(alloc, sealing(OTHER))?.out;
-    let shorter = look(alloc, sealing(SHORTER))?.out;
+    let one = beside_sealed(rt.alloc(), INSERT, 153)?;
+    let other = beside_sealed(rt.alloc(), OTHER, 153)?;
+    let shorter = beside_sealed(rt.alloc(), SHORTER, 137)?;
+    assert!(rt; one == other && one == shorter);
+    Ok(())
+}
+
+#[test]
+fn a_shorter_value_is_sealed_to_fewer_bytes_and_an_equally_long_one_to_others(
+    rt: HostRuntime,
+) -> Result<(), Fail> {
+    let one = output(rt.alloc(), sealing(INSERT))?;
+    let other = output(rt.alloc(), sealing(OTHER))?;
+    assert!(rt; one.len() == 175 && other.len() == 175, "lengths");
+    assert!(rt; one != other, "values");
     assert!(rt;
-        one.len() == 175 && other.len() == 175 && shorter.len() == 159,
-        "lengths"
-    );
-    assert!(rt; one.as_slice() != other.as_slice(), "values");
-    let outside = beside(alloc, &one, 153)?;
-    assert!(rt;
-        outside.as_slice() == beside(alloc, &other, 153)?.as_slice(),
-        "outside"
-    );
-    assert!(rt;
-        outside.as_slice() == beside(alloc, &shorter, 137)?.as_slice(),
-        "outside"
+        output(rt.alloc(), sealing(SHORTER))?.len() == 159,
+        "length"
     );
     Ok(())
 }

@@ -1,6 +1,6 @@
 //! Whole runs under collection infos in JSON.
 
-use crate::runs::{Run, expect, look, marking, sealing, seals};
+use crate::runs::{Run, expect, marking, sealing, seals};
 use fle_stream::Status;
 use sample_documents::{INSERT, REPLY, SEALED_INSERT};
 use std::test::Fail;
@@ -29,7 +29,7 @@ fn a_command_is_sealed_under_rules_in_json(rt: HostRuntime) -> Result<(), Fail> 
             infos: &[*infos],
             ..marking(INSERT)
         };
-        expect(&rt, &look(rt.alloc(), run)?, Status::Done, reply, "");
+        expect(&rt, rt.alloc(), run, Status::Done, reply, "")?;
         let run = Run {
             infos: &[*infos],
             ..sealing(INSERT)
@@ -51,7 +51,7 @@ fn the_fault_of_a_json_text_is_told_with_its_member(rt: HostRuntime) -> Result<(
             infos: &[*infos],
             ..sealing(INSERT)
         };
-        expect(&rt, &look(rt.alloc(), run)?, Status::Setup, b"", line);
+        expect(&rt, rt.alloc(), run, Status::Setup, b"", line)?;
     }
     Ok(())
 }

@@ -1,7 +1,7 @@
 //! Whole runs over master keys and blocks in memory: the verb `keygen`.
 
 use crate::keys_tests::VAULT;
-use crate::runs::{Run, expect, look, marking};
+use crate::runs::{Run, expect, marking};
 use fle_stream::Status;
 use sample_documents::TWO_KEYS;
 use std::test::Fail;
@@ -53,14 +53,13 @@ fn eight_blocks_make_a_key(rt: HostRuntime) -> Result<(), Fail> {
     let first = first_blocks();
     let second = blocks(counted(0x10), 0x20, 0x80);
     let keys = TWO_KEYS.as_slice();
-    let seen = look(alloc, making(&["keygen", "master"], &first))?;
-    expect(&rt, &seen, Status::Done, VAULT, "");
-    let seen = look(alloc, making(&["keygen", "master", "hr-key"], &first))?;
-    expect(&rt, &seen, Status::Done, &keys[..FIRST], "");
+    let run = making(&["keygen", "master"], &first);
+    expect(&rt, alloc, run, Status::Done, VAULT, "")?;
+    let run = making(&["keygen", "master", "hr-key"], &first);
+    expect(&rt, alloc, run, Status::Done, &keys[..FIRST], "")?;
     let words = ["keygen", "master", "finance", "audit"];
-    let seen = look(alloc, making(&words, &second))?;
-    expect(&rt, &seen, Status::Done, &keys[FIRST..], "");
-    Ok(())
+    let run = making(&words, &second);
+    expect(&rt, alloc, run, Status::Done, &keys[FIRST..], "")
 }
 
 #[test]
@@ -72,27 +71,24 @@ fn a_master_key_has_96_bytes(rt: HostRuntime) -> Result<(), Fail> {
         master: &[0; 95],
         ..making(&words, &blocks)
     };
-    let seen = look(alloc, short)?;
-    expect(&rt, &seen, Status::Setup, b"", "fle: 4 1 10 0\n");
+    expect(&rt, alloc, short, Status::Setup, b"", "fle: 4 1 10 0\n")?;
     let text = Run {
         master: &[b'='; 128],
         ..making(&words, &blocks)
     };
-    let seen = look(alloc, text)?;
-    expect(&rt, &seen, Status::Setup, b"", "fle: 4 1 11 0\n");
-    Ok(())
+    expect(&rt, alloc, text, Status::Setup, b"", "fle: 4 1 11 0\n")
 }
 
 #[test]
 fn a_failing_draw_makes_no_key(rt: HostRuntime) -> Result<(), Fail> {
+    let alloc = rt.alloc();
     let blocks = first_blocks();
     for call in 0..8 {
         let run = Run {
             draws: &[call],
             ..making(&["keygen", "master"], &blocks)
         };
-        let seen = look(rt.alloc(), run)?;
-        expect(&rt, &seen, Status::EntropyFault, b"", "fle: 7 0 0 -\n");
+        expect(&rt, alloc, run, Status::EntropyFault, b"", "fle: 7 0 0 -\n")?;
     }
     Ok(())
 }

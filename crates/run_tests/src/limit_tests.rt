@@ -1,6 +1,6 @@
 //! Whole runs over documents at the limits of size.
 
-use crate::runs::{Run, expect, look, sealing};
+use crate::runs::{Run, expect, sealing};
 use crate::size_tests::insert_of;
 use fle_stream::Status;
 use std::test::Fail;
@@ -25,10 +25,9 @@ fn a_document_has_at_most_16_mebibytes(rt: HostRuntime) -> Result<(), Fail> {
         room: 16_777_216,
         ..sealing(&largest)
     };
-    expect(&rt, &look(alloc, run)?, Status::Done, &largest, "");
-    let seen = look(alloc, sealing(b"\x01\x00\x00\x01rest"))?;
-    expect(&rt, &seen, Status::Limit, b"", "fle: 9 1 1 -\n");
-    Ok(())
+    expect(&rt, alloc, run, Status::Done, &largest, "")?;
+    let run = sealing(b"\x01\x00\x00\x01rest");
+    expect(&rt, alloc, run, Status::Limit, b"", "fle: 9 1 1 -\n")
 }
 
 #[test]
@@ -44,12 +43,5 @@ fn a_sealed_command_has_at_most_48_million_bytes(rt: HostRuntime) -> Result<(), 
         step: 1_000_000,
         ..sealing(&command)
     };
-    expect(
-        &rt,
-        &look(alloc, run)?,
-        Status::Limit,
-        b"",
-        "fle: 9 1 2 -\n",
-    );
-    Ok(())
+    expect(&rt, alloc, run, Status::Limit, b"", "fle: 9 1 2 -\n")
 }

@@ -1,7 +1,7 @@
 //! Whole runs over sealed documents: what `decrypt` passes on as it is, and for which reason and at which place it
 //! refuses a payload.
 
-use crate::runs::{Run, expect, look, opening};
+use crate::runs::{Run, expect, opening};
 use crate::seal_tests::SEALED_RANDOM;
 use fle_stream::Status;
 use sample_documents::{REPLY, SEALED_INSERT};
@@ -52,8 +52,7 @@ const PADDING: &[u8] =
 fn what_is_no_payload_or_of_another_client_is_no_fault(rt: HostRuntime) -> Result<(), Fail> {
     let cases: &[(&[u8], &[u8])] = &[(REPLY, REPLY), (FOREIGN, FOREIGN_OPENED)];
     for (document, opened) in cases {
-        let seen = look(rt.alloc(), opening(document))?;
-        expect(&rt, &seen, Status::Done, opened, "");
+        expect(&rt, rt.alloc(), opening(document), Status::Done, opened, "")?;
     }
     Ok(())
 }
@@ -66,30 +65,29 @@ fn shapes_come_before_tags_and_tags_before_contents(rt: HostRuntime) -> Result<(
         (PADDING, "fle: 1 1 21 1.0.0\n"),
     ];
     for (document, line) in cases {
-        let seen = look(rt.alloc(), opening(document))?;
-        expect(&rt, &seen, Status::Refused, b"", line);
+        let run = opening(document);
+        expect(&rt, rt.alloc(), run, Status::Refused, b"", line)?;
     }
     Ok(())
 }
 
 #[test]
 fn a_key_under_another_master_key_is_damaged(rt: HostRuntime) -> Result<(), Fail> {
+    let alloc = rt.alloc();
     let run = Run {
         master: &[0x40; 96],
         ..opening(SEALED_INSERT)
     };
-    let seen = look(rt.alloc(), run)?;
-    expect(&rt, &seen, Status::Refused, b"", "fle: 1 1 18 1.0.0\n");
-    Ok(())
+    expect(&rt, alloc, run, Status::Refused, b"", "fle: 1 1 18 1.0.0\n")
 }
 
 #[test]
 fn the_type_of_a_payload_is_under_its_tag(rt: HostRuntime) -> Result<(), Fail> {
-    let mut changed = Vec::from_slice(rt.alloc(), SEALED_INSERT)?;
+    let alloc = rt.alloc();
+    let mut changed = Vec::from_slice(alloc, SEALED_INSERT)?;
     changed[72] = 0x0e;
-    let seen = look(rt.alloc(), opening(&changed))?;
-    expect(&rt, &seen, Status::Refused, b"", "fle: 1 1 20 1.0.0\n");
-    Ok(())
+    let run = opening(&changed);
+    expect(&rt, alloc, run, Status::Refused, b"", "fle: 1 1 20 1.0.0\n")
 }
 
 /// The payload of `SEALED_RANDOM` begins at byte 58: its kind, the key's id, the value's type, then what is sealed.
@@ -106,8 +104,7 @@ fn each_byte_of_a_payload_is_watched(rt: HostRuntime) -> Result<(), Fail> {
             if let Some(byte) = changed.get_mut(at) {
                 *byte ^= 1;
             }
-            let seen = look(alloc, opening(&changed))?;
-            expect(&rt, &seen, Status::Refused, b"", line);
+            expect(&rt, alloc, opening(&changed), Status::Refused, b"", line)?;
         }
     }
     Ok(())
@@ -118,12 +115,11 @@ fn a_payload_of_no_kind_that_is_sealed_here_passes(rt: HostRuntime) -> Result<()
     let alloc = rt.alloc();
     let mut changed = Vec::from_slice(alloc, SEALED_RANDOM)?;
     changed[58] = 1;
-    let seen = look(alloc, opening(&changed))?;
-    expect(&rt, &seen, Status::Refused, b"", "fle: 1 1 20 1.0.0\n");
+    let run = opening(&changed);
+    expect(&rt, alloc, run, Status::Refused, b"", "fle: 1 1 20 1.0.0\n")?;
     for kind in [0, 3] {
         changed[58] = kind;
-        let seen = look(alloc, opening(&changed))?;
-        expect(&rt, &seen, Status::Done, &changed, "");
+        expect(&rt, alloc, opening(&changed), Status::Done, &changed, "")?;
     }
     Ok(())
 }

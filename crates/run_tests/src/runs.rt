@@ -54,10 +54,10 @@ pub(crate) struct Run<'a> {
 
 /// What a run left.
 #[derive(Drop)]
-pub(crate) struct Seen {
-    pub(crate) status: Status,
-    pub(crate) out: Vec<u8>,
-    pub(crate) line: Vec<u8>,
+struct Seen {
+    status: Status,
+    out: Vec<u8>,
+    line: Vec<u8>,
 }
 
 /// A run of `mark` over this input, in which nothing fails.
@@ -151,23 +151,33 @@ pub(crate) fn sink_of(alloc: Global, room: usize, failing: &[u64]) -> Result<Mem
     }
 }
 
-/// Runs the program, at the time 1,700,000,000,000.
-pub(crate) fn look(alloc: Global, run: Run<'_>) -> Result<Seen, Fail> {
-    look_with(alloc, run, &Tables)
+/// The input of a run, and the blocks to come.
+fn sources_of(alloc: Global, run: Run<'_>) -> Result<(MemSource, MemEntropy), Fail> {
+    let bytes = Vec::from_slice(alloc, run.input)?;
+    let input = MemSource::new(bytes, run.step.max(1), Vec::from_slice(alloc, run.source)?);
+    let blocks = Vec::from_slice(alloc, run.blocks)?;
+    Ok((
+        input,
+        MemEntropy::new(blocks, Vec::from_slice(alloc, run.draws)?),
+    ))
+}
+
+/// What was left, with this status.
+fn left(alloc: Global, status: Status, out: &MemSink, diag: &MemSink) -> Result<Seen, Fail> {
+    let out = Vec::from_slice(alloc, out.written())?;
+    let line = Vec::from_slice(alloc, diag.written())?;
+    Ok(Seen { status, out, line })
 }
 
 /// Runs the program over this block cipher, at the time 1,700,000,000,000.
-pub(crate) fn look_with<B: Block256>(alloc: Global, run: Run<'_>, hooks: &B) -> Result<Seen, Fail>
+fn look<B: Block256>(alloc: Global, run: Run<'_>, hooks: &B) -> Result<Seen, Fail>
     requires hooks { B.answers hooks.now }
 {
     let words = words_of(alloc, run.words)?;
-    let bytes = Vec::from_slice(alloc, run.input)?;
-    let mut input = MemSource::new(bytes, run.step.max(1), Vec::from_slice(alloc, run.source)?);
     let mut files = folder_of(alloc, run)?;
+    let (mut input, mut entropy) = sources_of(alloc, run)?;
     let mut out = sink_of(alloc, run.room, run.sink)?;
     let mut diag = sink_of(alloc, 100, run.diag)?;
-    let blocks = Vec::from_slice(alloc, run.blocks)?;
-    let mut entropy = MemEntropy::new(blocks, Vec::from_slice(alloc, run.draws)?);
     let status = fle(
         alloc,
         &words,
@@ -179,18 +189,43 @@ pub(crate) fn look_with<B: Block256>(alloc: Global, run: Run<'_>, hooks: &B) -> 
         &mut entropy,
         hooks,
     );
-    Ok(Seen {
-        status,
-        out: Vec::from_slice(alloc, out.written())?,
-        line: Vec::from_slice(alloc, diag.written())?,
-    })
+    left(alloc, status, &out, &diag)
+}
+
+/// What a run writes.
+pub(crate) fn output(alloc: Global, run: Run<'_>) -> Result<Vec<u8>, Fail> {
+    Ok(look(alloc, run, &Tables)?.out)
 }
 
 /// The run must leave this status, this output and this line.
-pub(crate) fn expect(rt: &impl Abort, seen: &Seen, status: Status, out: &[u8], line: &str) {
+pub(crate) fn expect(
+    rt: &impl Abort,
+    alloc: Global,
+    run: Run<'_>,
+    status: Status,
+    out: &[u8],
+    line: &str,
+) -> Result<(), Fail> {
+    expect_with(rt, alloc, run, &Tables, status, out, line)
+}
+
+/// The same of a run over this block cipher.
+pub(crate) fn expect_with<B: Block256>(
+    rt: &impl Abort,
+    alloc: Global,
+    run: Run<'_>,
+    hooks: &B,
+    status: Status,
+    out: &[u8],
+    line: &str,
+) -> Result<(), Fail>
+    requires hooks { B.answers hooks.now }
+{
+    let seen = look(alloc, run, hooks)?;
     assert!(rt; seen.status == status, "status");
     assert!(rt; seen.out.as_slice() == out, "output");
     assert!(rt; seen.line.as_slice() == line.as_bytes(), "line");
+    Ok(())
 }
 
 /// The run writes the command of its input sealed so, and `decrypt` opens that again.
@@ -200,15 +235,8 @@ pub(crate) fn seals(
     run: Run<'_>,
     sealed: &[u8],
 ) -> Result<(), Fail> {
-    expect(rt, &look(alloc, run)?, Status::Done, sealed, "");
-    expect(
-        rt,
-        &look(alloc, opening(sealed))?,
-        Status::Done,
-        run.input,
-        "",
-    );
-    Ok(())
+    expect(rt, alloc, run, Status::Done, sealed, "")?;
+    expect(rt, alloc, opening(sealed), Status::Done, run.input, "")
 }
 
 /// `mark` gives a command this reply; `encrypt` seals it so without a block, and `decrypt` opens that again.
@@ -219,7 +247,7 @@ pub(crate) fn accepts(
     reply: &[u8],
     sealed: &[u8],
 ) -> Result<(), Fail> {
-    expect(rt, &look(alloc, marking(command))?, Status::Done, reply, "");
+    expect(rt, alloc, marking(command), Status::Done, reply, "")?;
     seals(rt, alloc, sealing(command), sealed)
 }
 
@@ -230,19 +258,6 @@ pub(crate) fn refuses(
     command: &[u8],
     line: &str,
 ) -> Result<(), Fail> {
-    expect(
-        rt,
-        &look(alloc, marking(command))?,
-        Status::Refused,
-        b"",
-        line,
-    );
-    expect(
-        rt,
-        &look(alloc, sealing(command))?,
-        Status::Refused,
-        b"",
-        line,
-    );
-    Ok(())
+    expect(rt, alloc, marking(command), Status::Refused, b"", line)?;
+    expect(rt, alloc, sealing(command), Status::Refused, b"", line)
 }

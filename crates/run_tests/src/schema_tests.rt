@@ -1,7 +1,7 @@
 //! Whole runs over files: vaults, collection infos and master keys that are read, or whose fault is told.
 
 use crate::keys_tests::VAULT;
-use crate::runs::{Run, expect, joined, look, marking, sealing, seals};
+use crate::runs::{Run, expect, joined, marking, sealing, seals};
 use fle_stream::Status;
 use sample_documents::{INSERT, PEOPLE, SEALED_INSERT};
 use std::test::Fail;
@@ -71,21 +71,20 @@ fn the_first_faulty_info_is_told_with_its_fault(rt: HostRuntime) -> Result<(), F
             infos,
             ..marking(INSERT)
         };
-        expect(&rt, &look(rt.alloc(), run)?, Status::Setup, b"", first);
+        expect(&rt, rt.alloc(), run, Status::Setup, b"", first)?;
         let run = Run {
             infos,
             ..sealing(INSERT)
         };
-        expect(&rt, &look(rt.alloc(), run)?, Status::Setup, b"", second);
+        expect(&rt, rt.alloc(), run, Status::Setup, b"", second)?;
     }
     Ok(())
 }
 
 #[test]
 fn the_reply_says_whether_the_collection_has_rules(rt: HostRuntime) -> Result<(), Fail> {
-    let seen = look(rt.alloc(), marking(BESIDE))?;
-    expect(&rt, &seen, Status::Done, BESIDE_REPLY, "");
-    Ok(())
+    let run = marking(BESIDE);
+    expect(&rt, rt.alloc(), run, Status::Done, BESIDE_REPLY, "")
 }
 
 #[test]
@@ -107,7 +106,7 @@ fn files_that_are_missing_are_told_in_the_order_of_the_words(rt: HostRuntime) ->
             words,
             ..marking(INSERT)
         };
-        expect(&rt, &look(rt.alloc(), run)?, Status::Setup, b"", line);
+        expect(&rt, rt.alloc(), run, Status::Setup, b"", line)?;
     }
     Ok(())
 }
@@ -121,36 +120,17 @@ fn files_at_fault_are_told_in_the_order_of_the_words(rt: HostRuntime) -> Result<
         master: &[0; 95],
         ..sealing(INSERT)
     };
-    expect(
-        &rt,
-        &look(alloc, run)?,
-        Status::Setup,
-        b"",
-        "fle: 4 1 25 2\n",
-    );
+    expect(&rt, alloc, run, Status::Setup, b"", "fle: 4 1 25 2\n")?;
     let run = Run {
         master: &[0; 95],
         ..sealing(INSERT)
     };
-    expect(
-        &rt,
-        &look(alloc, run)?,
-        Status::Setup,
-        b"",
-        "fle: 4 3 10 0\n",
-    );
+    expect(&rt, alloc, run, Status::Setup, b"", "fle: 4 3 10 0\n")?;
     let run = Run {
         master: &[b'='; 128],
         ..sealing(INSERT)
     };
-    expect(
-        &rt,
-        &look(alloc, run)?,
-        Status::Setup,
-        b"",
-        "fle: 4 3 11 0\n",
-    );
-    Ok(())
+    expect(&rt, alloc, run, Status::Setup, b"", "fle: 4 3 11 0\n")
 }
 
 #[test]

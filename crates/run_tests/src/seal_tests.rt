@@ -1,7 +1,7 @@
 //! Whole runs over inserts: what `encrypt` seals, `decrypt` opens again; the random blocks of a stream, and the keys.
 
 use crate::keys_tests::VAULT;
-use crate::runs::{Run, expect, joined, look, marking, opening, sealing, seals};
+use crate::runs::{Run, expect, joined, marking, opening, sealing, seals};
 use crate::verdict_tests::unmarked;
 use fle_stream::Status;
 use sample_documents::{BOTH, INSERT, NOTES, SEALED_BOTH, SEALED_INSERT};
@@ -114,11 +114,10 @@ fn a_binary_of_subtype_6_that_no_rule_concerns_is_no_value_to_seal(
 ) -> Result<(), Fail> {
     let alloc = rt.alloc();
     let reply = unmarked(alloc, b"\x00", SHORT)?;
-    expect(&rt, &look(alloc, marking(SHORT))?, Status::Done, &reply, "");
-    expect(&rt, &look(alloc, sealing(SHORT))?, Status::Done, SHORT, "");
-    let seen = look(alloc, opening(SHORT))?;
-    expect(&rt, &seen, Status::Refused, b"", "fle: 1 1 19 1.0.0\n");
-    Ok(())
+    expect(&rt, alloc, marking(SHORT), Status::Done, &reply, "")?;
+    expect(&rt, alloc, sealing(SHORT), Status::Done, SHORT, "")?;
+    let run = opening(SHORT);
+    expect(&rt, alloc, run, Status::Refused, b"", "fle: 1 1 19 1.0.0\n")
 }
 
 #[test]
@@ -138,16 +137,15 @@ fn a_draw_that_fails_writes_nothing_of_its_command(rt: HostRuntime) -> Result<()
     let alloc = rt.alloc();
     let input = joined(alloc, &[INSERT, RANDOM])?;
     let line = "fle: 7 2 0 -\n";
-    let seen = look(alloc, sealing(&input))?;
-    expect(&rt, &seen, Status::EntropyFault, SEALED_INSERT, line);
+    let run = sealing(&input);
+    expect(&rt, alloc, run, Status::EntropyFault, SEALED_INSERT, line)?;
     for call in [0, 1] {
         let run = Run {
             blocks: &BLOCKS,
             draws: &[call],
             ..sealing(BOTH)
         };
-        let seen = look(alloc, run)?;
-        expect(&rt, &seen, Status::EntropyFault, b"", "fle: 7 1 0 -\n");
+        expect(&rt, alloc, run, Status::EntropyFault, b"", "fle: 7 1 0 -\n")?;
     }
     Ok(())
 }
@@ -163,13 +161,12 @@ fn a_key_of_another_provider_is_told_at_its_value(rt: HostRuntime) -> Result<(),
         keys: &keys,
         ..sealing(INSERT)
     };
-    expect(&rt, &look(alloc, run)?, Status::Refused, b"", line);
+    expect(&rt, alloc, run, Status::Refused, b"", line)?;
     let run = Run {
         keys: &keys,
         ..opening(SEALED_INSERT)
     };
-    expect(&rt, &look(alloc, run)?, Status::Refused, b"", line);
-    Ok(())
+    expect(&rt, alloc, run, Status::Refused, b"", line)
 }
 
 #[test]
@@ -180,13 +177,17 @@ fn a_key_that_is_missing_is_told_at_its_value(rt: HostRuntime) -> Result<(), Fai
         keys: b"",
         ..sealing(&input)
     };
-    let seen = look(alloc, run)?;
-    expect(&rt, &seen, Status::Refused, NOTES, "fle: 1 2 16 1.0.0\n");
+    expect(
+        &rt,
+        alloc,
+        run,
+        Status::Refused,
+        NOTES,
+        "fle: 1 2 16 1.0.0\n",
+    )?;
     let run = Run {
         keys: b"",
         ..opening(SEALED_INSERT)
     };
-    let seen = look(alloc, run)?;
-    expect(&rt, &seen, Status::Refused, b"", "fle: 1 1 16 1.0.0\n");
-    Ok(())
+    expect(&rt, alloc, run, Status::Refused, b"", "fle: 1 1 16 1.0.0\n")
 }

@@ -1,6 +1,6 @@
 //! Whole runs that show documents.
 
-use crate::runs::{Run, document, expect, look, marking};
+use crate::runs::{Run, document, expect, marking};
 use fle_stream::Status;
 use std::alloc::Global;
 use std::test::Fail;
@@ -23,18 +23,22 @@ fn each_document_is_shown_in_a_line(rt: HostRuntime) -> Result<(), Fail> {
     let lines =
         b"{\"ping\":{\"$numberInt\":\"1\"},\"$db\":\"admin\"}\n{\"k\":{\"$binary\":{\"base64\":\"ABE\
          iM0RVRneImaq7zN3u/w==\",\"subType\":\"04\"}}}\n";
-    let seen = look(rt.alloc(), shown(input))?;
-    expect(&rt, &seen, Status::Done, lines, "");
-    Ok(())
+    expect(&rt, rt.alloc(), shown(input), Status::Done, lines, "")
 }
 
 #[test]
 fn the_first_text_that_is_not_utf8_is_told_at_its_place(rt: HostRuntime) -> Result<(), Fail> {
     // {s: the string of the byte FF}
     let input = b"\x0e\x00\x00\x00\x02s\x00\x02\x00\x00\x00\xff\x00\x00";
-    let seen = look(rt.alloc(), shown(input))?;
-    expect(&rt, &seen, Status::Refused, b"", "fle: 1 1 28 0\n");
-    Ok(())
+    let run = shown(input);
+    expect(
+        &rt,
+        rt.alloc(),
+        run,
+        Status::Refused,
+        b"",
+        "fle: 1 1 28 0\n",
+    )
 }
 
 /// The document {s: 70,000 times `x`, t: this byte}.
@@ -62,12 +66,12 @@ fn a_text_longer_than_a_piece_is_shown_whole_or_in_front(rt: HostRuntime) -> Res
     let mut line = Vec::from_slice(alloc, b"{\"s\":\"")?;
     line.resize(70_006, b'x')?;
     line.extend_from_slice(b"\",\"t\":\"y\"}\n")?;
-    let seen = look(alloc, long_shown(&input, 100_000))?;
-    expect(&rt, &seen, Status::Done, &line, "");
+    let run = long_shown(&input, 100_000);
+    expect(&rt, alloc, run, Status::Done, &line, "")?;
     for room in [5usize, 66_000, 70_012] {
-        let seen = look(alloc, long_shown(&input, room))?;
         let front = line.get(..room).unwrap_or(b"");
-        expect(&rt, &seen, Status::WriteFault, front, "fle: 6 1 0 -\n");
+        let run = long_shown(&input, room);
+        expect(&rt, alloc, run, Status::WriteFault, front, "fle: 6 1 0 -\n")?;
     }
     Ok(())
 }
@@ -75,7 +79,13 @@ fn a_text_longer_than_a_piece_is_shown_whole_or_in_front(rt: HostRuntime) -> Res
 #[test]
 fn nothing_is_shown_of_a_long_document_without_a_text(rt: HostRuntime) -> Result<(), Fail> {
     let input = long_document(rt.alloc(), 0xff)?;
-    let seen = look(rt.alloc(), long_shown(&input, 100_000))?;
-    expect(&rt, &seen, Status::Refused, b"", "fle: 1 1 28 1\n");
-    Ok(())
+    let run = long_shown(&input, 100_000);
+    expect(
+        &rt,
+        rt.alloc(),
+        run,
+        Status::Refused,
+        b"",
+        "fle: 1 1 28 1\n",
+    )
 }

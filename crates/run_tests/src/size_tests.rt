@@ -1,6 +1,6 @@
 //! Whole runs over many levels of names, and over more keys than are kept open.
 
-use crate::runs::{Run, document, expect, joined, look, marking, opening, sealing, seals};
+use crate::runs::{Run, document, expect, joined, marking, opening, output, sealing, seals};
 use fle_stream::Status;
 use std::alloc::Global;
 use std::test::Fail;
@@ -60,9 +60,7 @@ fn a_value_is_sealed_below_47_names(rt: HostRuntime) -> Result<(), Fail> {
         infos: &[&deeper],
         ..sealing(&command)
     };
-    let seen = look(alloc, run)?;
-    expect(&rt, &seen, Status::Setup, b"", "fle: 4 2 30 1\n");
-    Ok(())
+    expect(&rt, alloc, run, Status::Setup, b"", "fle: 4 2 30 1\n")
 }
 
 /// 65 keys: each of seven equal blocks, and a vector of bytes 09.
@@ -77,7 +75,7 @@ fn many_keys(alloc: Global) -> Result<Vec<u8>, Fail> {
             blocks: &blocks,
             ..marking(b"")
         };
-        vault.extend_from_slice(&look(alloc, run)?.out)?;
+        vault.extend_from_slice(&output(alloc, run)?)?;
     }
     Ok(vault)
 }
@@ -122,24 +120,29 @@ pub(crate) fn insert_of(alloc: Global, elements: &[u8]) -> Result<Vec<u8>, Fail>
     document(alloc, &[insert, b"\x04documents\x00", &documents, DB])
 }
 
-#[test]
-fn more_keys_than_are_kept_open_seal_alike(rt: HostRuntime) -> Result<(), Fail> {
-    let alloc = rt.alloc();
-    let keys = many_keys(alloc)?;
-    let rules = many_rules(alloc)?;
+/// An insert into `people` of an int under each of these names, twice.
+fn many_values(alloc: Global) -> Result<Vec<u8>, Fail> {
     let mut elements = Vec::new(alloc);
     for i in 0..65 {
         elements.extend_from_slice(&name_of(0x10, i))?;
         elements.extend_from_slice(&[i, 0, 0, 0])?;
     }
     let command = insert_of(alloc, &elements)?;
-    let input = joined(alloc, &[&command, &command])?;
+    joined(alloc, &[&command, &command])
+}
+
+#[test]
+fn more_keys_than_are_kept_open_seal_alike(rt: HostRuntime) -> Result<(), Fail> {
+    let alloc = rt.alloc();
+    let keys = many_keys(alloc)?;
+    let rules = many_rules(alloc)?;
+    let input = many_values(alloc)?;
     let run = Run {
         keys: &keys,
         infos: &[&rules],
         ..sealing(&input)
     };
-    let sealed = look(alloc, run)?.out;
+    let sealed = output(alloc, run)?;
     assert!(rt; input.len() == 1290 && sealed.len() == 12_080, "lengths");
     let (one, other) = sealed.split_at(sealed.len() / 2);
     assert!(rt; one == other, "outputs");
@@ -147,6 +150,5 @@ fn more_keys_than_are_kept_open_seal_alike(rt: HostRuntime) -> Result<(), Fail> 
         keys: &keys,
         ..opening(&sealed)
     };
-    expect(&rt, &look(alloc, run)?, Status::Done, &input, "");
-    Ok(())
+    expect(&rt, alloc, run, Status::Done, &input, "")
 }

@@ -1,6 +1,6 @@
 //! Whole runs of `mark` and of words without a form: the worked commands of an insert, each way to cut a stream.
 
-use crate::runs::{Run, expect, joined, look, marking, sink_of};
+use crate::runs::{Run, expect, joined, marking, sink_of};
 use fle_runner::{VERSION, tell};
 use fle_stream::Status;
 use sample_documents::{INSERT, NOTES, NOTES_REPLY, REPLY};
@@ -38,7 +38,7 @@ fn each_input_has_its_end(rt: HostRuntime) -> Result<(), Fail> {
         (b"\x01\x00\x00\x01", Status::Limit, b"", "fle: 9 1 1 -\n"),
     ];
     for (input, status, out, line) in cases {
-        expect(&rt, &look(rt.alloc(), marking(input))?, *status, out, line);
+        expect(&rt, rt.alloc(), marking(input), *status, out, line)?;
     }
     Ok(())
 }
@@ -53,13 +53,7 @@ fn a_stream_may_come_in_any_pieces(rt: HostRuntime) -> Result<(), Fail> {
             step,
             ..marking(&three)
         };
-        expect(
-            &rt,
-            &look(alloc, run)?,
-            Status::Refused,
-            &replies,
-            "fle: 1 3 1 0\n",
-        );
+        expect(&rt, alloc, run, Status::Refused, &replies, "fle: 1 3 1 0\n")?;
     }
     Ok(())
 }
@@ -86,13 +80,7 @@ fn words_of_no_known_form_are_told_before_any_input(rt: HostRuntime) -> Result<(
             words,
             ..marking(INSERT)
         };
-        expect(
-            &rt,
-            &look(rt.alloc(), run)?,
-            Status::Words,
-            b"",
-            "fle: 2 0 0 -\n",
-        );
+        expect(&rt, rt.alloc(), run, Status::Words, b"", "fle: 2 0 0 -\n")?;
     }
     Ok(())
 }

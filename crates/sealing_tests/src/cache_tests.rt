@@ -27,11 +27,19 @@ fn key_of(alloc: Global, byte: u8, damaged: bool) -> Result<KeyDoc, Fail> {
     })
 }
 
-/// Whether the data key of this byte was answered.
-fn is_key(answer: Result<DataKey, UnwrapFault>, byte: u8) -> bool {
+/// A cache without keys.
+fn no_keys(alloc: Global) -> Result<KeyCache, Fail> {
+    match KeyCache::new(alloc, MasterKey::new([7; 96])) {
+        Ok(cache) => Ok(cache),
+        Err(_) => Err("no memory".into()),
+    }
+}
+
+/// Whether the data key of this byte was answered; or no key, where its material is damaged.
+fn is_answer(answer: Result<DataKey, UnwrapFault>, byte: u8, damaged: bool) -> bool {
     match answer {
-        Ok(key) => *key.bytes() == [byte; 96],
-        Err(_) => false,
+        Ok(key) => !damaged && *key.bytes() == [byte; 96],
+        Err(_) => damaged,
     }
 }
 
@@ -68,47 +76,63 @@ fn is_kept(alloc: Global, cache: &KeyCache, byte: u8) -> Result<bool, Fail> {
     is_found(cache, &key_of(alloc, byte, false)?, byte)
 }
 
+/// Asks for the key of this byte, and puts it in front of the list beside the cache. Whether both kept the same.
+fn agree(
+    alloc: Global,
+    cache: &mut KeyCache,
+    list: &mut Vec<u8>,
+    byte: u8,
+    damaged: bool,
+) -> Result<bool, Fail> {
+    let was_kept = is_kept(alloc, cache, byte)? == list.contains(&byte);
+    let key = key_of(alloc, byte, damaged)?;
+    let answered = is_answer(cache.data_key(&Tables, &key), byte, damaged);
+    if !damaged {
+        *list = fronted(alloc, byte, list)?;
+    }
+    Ok(was_kept && answered && cache.len() == list.len())
+}
+
 #[test]
 fn a_cache_keeps_what_a_plain_list_keeps(rt: HostRuntime) -> Result<(), Fail> {
-    let alloc = rt.alloc();
-    let mut cache = KeyCache::new(alloc, MasterKey::new([7; 96])).map_err(|_| "no memory")?;
-    let mut list = Vec::new(alloc);
+    let mut cache = no_keys(rt.alloc())?;
+    let mut list = Vec::new(rt.alloc());
     let mut x = 88172645463325252;
     for _ in 0..10_000 {
         x = next(x);
         let byte = (x % 100) as u8;
-        let damaged = x % 11 == 0;
-        assert!(rt; is_kept(alloc, &cache, byte)? == list.contains(&byte));
-        let key = key_of(alloc, byte, damaged)?;
-        match cache.data_key(&Tables, &key) {
-            Ok(found) => {
-                assert!(rt; !damaged && *found.bytes() == [byte; 96]);
-                list = fronted(alloc, byte, &list)?;
-            }
-            Err(_) => assert!(rt; damaged),
-        }
-        assert!(rt; cache.len() == list.len());
+        assert!(rt; agree(rt.alloc(), &mut cache, &mut list, byte, x % 11 == 0)?);
     }
     assert!(rt; cache.len() == MOST);
     Ok(())
 }
 
+/// Whether the answer is that the tag is wrong.
+fn has_wrong_tag(answer: Result<DataKey, UnwrapFault>) -> bool {
+    matches!(answer, Err(UnwrapFault::Tag { .. }))
+}
+
 #[test]
 fn a_kept_key_doesnt_answer_for_other_material(rt: HostRuntime) -> Result<(), Fail> {
-    let alloc = rt.alloc();
-    let mut cache = KeyCache::new(alloc, MasterKey::new([7; 96])).map_err(|_| "no memory")?;
-    let key = key_of(alloc, 9, false)?;
-    assert!(rt; is_key(cache.data_key(&Tables, &key), 9));
-    let changed = cache.data_key(&Tables, &key_of(alloc, 9, true)?).err();
-    assert!(rt; matches!(changed, Some(UnwrapFault::Tag { .. })));
-    assert!(rt; is_key(cache.data_key(&Tables, &key), 9));
+    let key = key_of(rt.alloc(), 9, false)?;
+    let damaged = key_of(rt.alloc(), 9, true)?;
+    let mut cache = no_keys(rt.alloc())?;
+    assert!(rt; is_answer(cache.data_key(&Tables, &key), 9, false));
+    assert!(rt; has_wrong_tag(cache.data_key(&Tables, &damaged)));
+    assert!(rt; is_answer(cache.data_key(&Tables, &key), 9, false));
     assert!(rt; cache.len() == 1);
     Ok(())
 }
 
-/// Whether the data key of this byte is had. It's kept from then on.
-fn opens(alloc: Global, cache: &mut KeyCache, byte: u8) -> Result<bool, Fail> {
-    Ok(is_key(cache.data_key(&Tables, &key_of(alloc, byte, false)?), byte))
+/// Whether the data keys of the bytes from `from` up to `to` are had, one after another. They are kept from then on.
+fn open(alloc: Global, cache: &mut KeyCache, from: u8, to: u8) -> Result<bool, Fail> {
+    for byte in from..to {
+        let key = key_of(alloc, byte, false)?;
+        if !is_answer(cache.data_key(&Tables, &key), byte, false) {
+            return Ok(false);
+        }
+    }
+    Ok(true)
 }
 
 /// Whether of these bytes' keys those are kept that are said to be.
@@ -122,23 +146,25 @@ fn are_kept(alloc: Global, cache: &KeyCache, bytes: &[(u8, bool)]) -> Result<boo
 }
 
 #[test]
-fn a_kept_key_is_used_again(rt: HostRuntime) -> Result<(), Fail> {
-    let alloc = rt.alloc();
-    let mut cache = KeyCache::new(alloc, MasterKey::new([7; 96])).map_err(|_| "no memory")?;
-    for byte in 0..3 {
-        assert!(rt; opens(alloc, &mut cache, byte)?);
-    }
-    assert!(rt; are_kept(alloc, &cache, &[(0, true), (3, false)])?);
-    let damaged = key_of(alloc, 0, true)?;
+fn a_kept_key_is_found_with_its_own_material_alone(rt: HostRuntime) -> Result<(), Fail> {
+    let mut cache = no_keys(rt.alloc())?;
+    assert!(rt; open(rt.alloc(), &mut cache, 0, 3)?);
+    assert!(rt; are_kept(rt.alloc(), &cache, &[(0, true), (3, false)])?);
+    let damaged = key_of(rt.alloc(), 0, true)?;
     assert!(rt; !is_found(&cache, &damaged, 0)?);
+    Ok(())
+}
+
+#[test]
+fn the_key_used_least_recently_goes_first(rt: HostRuntime) -> Result<(), Fail> {
+    let mut cache = no_keys(rt.alloc())?;
+    assert!(rt; open(rt.alloc(), &mut cache, 0, 3)?);
     cache.promote(&[0; 16]);
+    // This one isn't kept yet.
     cache.promote(&[3; 16]);
-    // The key used least recently goes first: 1, then 2.
-    for byte in 3..65 {
-        assert!(rt; opens(alloc, &mut cache, byte)?);
-    }
-    assert!(rt; are_kept(alloc, &cache, &[(1, false), (2, true)])?);
-    assert!(rt; opens(alloc, &mut cache, 65)?);
-    assert!(rt; are_kept(alloc, &cache, &[(2, false), (0, true)])?);
+    assert!(rt; open(rt.alloc(), &mut cache, 3, 65)?);
+    assert!(rt; are_kept(rt.alloc(), &cache, &[(1, false), (2, true)])?);
+    assert!(rt; open(rt.alloc(), &mut cache, 65, 66)?);
+    assert!(rt; are_kept(rt.alloc(), &cache, &[(2, false), (0, true)])?);
     Ok(())
 }

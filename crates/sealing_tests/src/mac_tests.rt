@@ -19,14 +19,14 @@ const CASES: [HmacVector; 7] = [
 
 #[test]
 fn rfc_4231_cases_give_their_codes(rt: HostRuntime) {
-    for case in CASES {
+    for case in &CASES {
         assert!(rt; mac(case.key, case.data).starts_with(case.code));
     }
 }
 
 #[test]
 fn a_message_in_parts_gives_the_code_of_the_whole(rt: HostRuntime) {
-    for case in CASES {
+    for case in &CASES {
         let mut running = Mac::new(case.key);
         for part in case.data.chunks(3) {
             running.update(part);
@@ -37,7 +37,7 @@ fn a_message_in_parts_gives_the_code_of_the_whole(rt: HostRuntime) {
 
 #[test]
 fn a_kept_key_serves_a_second_message(rt: HostRuntime) {
-    for case in CASES {
+    for case in &CASES {
         let keyed = KeyedMac::new(case.key);
         for _ in 0..2 {
             let mut running = keyed.begin();

@@ -2,12 +2,13 @@
 
 use bson_tree::Names;
 use crypto_hooks::Tables;
-use data_key::Provider;
+use data_key::{KeyDoc, Provider};
 use fle_aead::DataKey;
 use fle_outside::MemEntropy;
 use local_kms::{
     MasterFault, MasterKey, NewFault, UnwrapFault, new_key, read_master, unwrap_key, wrap_key,
 };
+use std::alloc::Global;
 use std::test::Fail;
 
 /// A master key, the bytes 00 to 5F.
@@ -175,15 +176,23 @@ fn a_key_is_sealed_and_opened_as_elsewhere(rt: HostRuntime) {
     assert!(rt; matches!(&opened, Ok(k) if *k.bytes() == KEY));
 }
 
+/// Why material isn't opened.
+fn refusal(material: &[u8]) -> Option<UnwrapFault> {
+    unwrap_key(&Tables, &MasterKey::new(MASTER), material).err()
+}
+
 #[test]
 fn material_is_refused_in_order(rt: HostRuntime) {
-    let master = MasterKey::new(MASTER);
-    assert!(rt; unwrap_key(&Tables, &master, &[0; 159]).err() == Some(UnwrapFault::Length));
-    assert!(rt; unwrap_key(&Tables, &master, &WRONGLY_PADDED).err() == Some(UnwrapFault::Padding));
-    assert!(rt; unwrap_key(&Tables, &master, &OF_97_BYTES).err() == Some(UnwrapFault::Length));
+    assert!(rt; refusal(&[0; 159]) == Some(UnwrapFault::Length));
+    assert!(rt; refusal(&WRONGLY_PADDED) == Some(UnwrapFault::Padding));
+    assert!(rt; refusal(&OF_97_BYTES) == Some(UnwrapFault::Length));
+}
+
+#[test]
+fn a_wrong_tag_is_told_with_the_right_one(rt: HostRuntime) {
     let mut changed = MATERIAL;
     changed[159] ^= 1;
-    match unwrap_key(&Tables, &master, &changed).err() {
+    match refusal(&changed) {
         Some(UnwrapFault::Tag { computed, found }) => {
             assert!(rt; computed.as_slice() == &MATERIAL[128..]);
             assert!(rt; found.as_slice() == &changed[128..]);
@@ -192,27 +201,26 @@ fn material_is_refused_in_order(rt: HostRuntime) {
     }
 }
 
+/// A new key of these blocks, where the draws of these numbers fail.
+fn made(alloc: Global, failing: &[u64]) -> Result<Result<KeyDoc, NewFault>, Fail> {
+    let blocks = Vec::from_slice(alloc, &BLOCKS)?;
+    let mut entropy = MemEntropy::new(blocks, Vec::from_slice(alloc, failing)?);
+    let master = MasterKey::new(MASTER);
+    Ok(new_key(alloc, &mut entropy, &Tables, &master, Names::new(alloc)))
+}
+
 #[test]
 fn a_new_key_is_made_of_eight_blocks(rt: HostRuntime) -> Result<(), Fail> {
-    let alloc = rt.alloc();
-    let mut entropy = MemEntropy::new(Vec::from_slice(alloc, &BLOCKS)?, Vec::new(alloc));
-    let master = MasterKey::new(MASTER);
-    let Ok(key) = new_key(alloc, &mut entropy, &Tables, &master, Names::new(alloc)) else {
+    let Ok(key) = made(rt.alloc(), &[])? else {
         return Err("no key".into());
     };
-    assert!(rt; key.id == ID);
+    assert!(rt; key.id == ID && key.provider == Provider::Local);
     assert!(rt; key.material.as_slice() == MATERIAL.as_slice());
-    assert!(rt; key.provider == Provider::Local);
     Ok(())
 }
 
 #[test]
 fn a_failing_draw_makes_no_key(rt: HostRuntime) -> Result<(), Fail> {
-    let alloc = rt.alloc();
-    let failing = vec![in alloc; 3]?;
-    let mut entropy = MemEntropy::new(Vec::from_slice(alloc, &BLOCKS)?, failing);
-    let master = MasterKey::new(MASTER);
-    let answer = new_key(alloc, &mut entropy, &Tables, &master, Names::new(alloc));
-    assert!(rt; answer.err() == Some(NewFault::EntropyFailed));
+    assert!(rt; made(rt.alloc(), &[3])?.err() == Some(NewFault::EntropyFailed));
     Ok(())
 }

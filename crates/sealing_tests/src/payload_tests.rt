@@ -1,14 +1,15 @@
 //! Payloads that were made outside this repository, and what is refused; a marking byte for byte.
-use bson_codec::check_bson;
+use bson_codec::{RawDoc, check_bson};
+use bson_tree::Bytes;
 use crypto_hooks::Tables;
-use encrypt_schema::Infos;
+use encrypt_schema::{Info, Infos};
 use fle_aead::DataKey;
 use fle_vectors::DATA_KEY;
 use payload6::{
     DETERMINISTIC, PartsFault, PayloadFault, RANDOM, det_iv, marking, open_payload_into, parts,
     payload_len, seal_payload_into,
 };
-use sample_documents::INSERT;
+use std::alloc::Global;
 use std::test::Fail;
 
 /// The id of the data key, the UUID 00112233-4455-4677-8899-aabbccddeeff.
@@ -48,18 +49,20 @@ fn payloads_have_their_lengths(rt: HostRuntime) {
 }
 
 #[test]
-fn bytes_are_taken_apart_or_refused(rt: HostRuntime) {
+fn bytes_of_no_payload_are_refused(rt: HostRuntime) {
     assert!(rt; parts(b"").err() == Some(PartsFault::Kind));
     assert!(rt; parts(&[0]).err() == Some(PartsFault::Kind));
     assert!(rt; parts(&[1, 2, 3]).err() == Some(PartsFault::Short));
     assert!(rt; parts(&[1; 66]).err() == Some(PartsFault::Short));
+}
+
+#[test]
+fn a_payload_is_taken_apart(rt: HostRuntime) {
     match parts(&[2; 82]) {
         Ok(payload) => {
-            assert!(rt; payload.kind == RANDOM);
+            assert!(rt; payload.kind == RANDOM && payload.tag == 2);
             assert!(rt; payload.key_id == [2; 16]);
-            assert!(rt; payload.tag == 2);
-            assert!(rt; payload.head.len() == 18);
-            assert!(rt; payload.sealed.len() == 64);
+            assert!(rt; payload.head.len() == 18 && payload.sealed.len() == 64);
         }
         Err(_) => assert!(rt; false),
     }
@@ -145,21 +148,24 @@ const MARKING: &[u8] =
     b"\x008\x00\x00\x00\x02v\x00\x0c\x00\x00\x00123-45-6789\x00\x10a\x00\x01\x00\x00\x00\x05ki\x00\
      \x10\x00\x00\x00\x04\x00\x11\x223DUFw\x88\x99\xaa\xbb\xcc\xdd\xee\xff\x00";
 
+/// `{ssn: "123-45-6789"}`.
+const PERSON: &[u8] = b"\x1a\x00\x00\x00\x02ssn\x00\x0c\x00\x00\x00123-45-6789\x00\x00";
+
+/// The marking of the only value of a document, under the first rule of a collection.
+fn marked(alloc: Global, info: &Info, document: &RawDoc<'_>) -> Result<Bytes, Fail> {
+    let policy = info.rows().policy(0).ok_or("no policy")?;
+    let item = document.items().next().ok_or("no element")?;
+    if item.value().len() >= 100 {
+        return Err("a test's value is too long".into());
+    }
+    Ok(marking(alloc, &item, policy)?)
+}
+
 #[test]
 fn a_string_is_marked(rt: HostRuntime) -> Result<(), Fail> {
     let infos = Infos::load(rt.alloc(), PEOPLE)?;
     let info = infos.info_of(b"people").ok_or("no info")?;
-    let policy = info.rows().policy(0).ok_or("no policy")?;
-    let command = check_bson(INSERT)?;
-    let (_, documents) = command.child_holding(50).ok_or("no documents")?;
-    let array = documents.child().ok_or("no array")?;
-    let (_, person) = array.child_holding(50).ok_or("no document")?;
-    let fields = person.child().ok_or("no fields")?;
-    let (_, item) = fields.child_holding(50).ok_or("no element")?;
-    if item.value().len() >= 100 {
-        return Err("a test's value is too long".into());
-    }
-    let bytes = marking(rt.alloc(), &item, policy)?;
+    let bytes = marked(rt.alloc(), info, &check_bson(PERSON)?)?;
     assert!(rt; bytes.as_slice() == MARKING);
     Ok(())
 }

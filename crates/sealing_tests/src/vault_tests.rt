@@ -64,32 +64,44 @@ fn keys_are_found_by_id_and_by_name(rt: HostRuntime) -> Result<(), Fail> {
 
 #[test]
 fn documents_are_judged_in_order(rt: HostRuntime) -> Result<(), Fail> {
-    let alloc = rt.alloc();
-    let empty: &[u8] = b"\x05\x00\x00\x00\x00";
-    assert!(rt; fault_of(alloc, TWO_KEYS, b"")? == None);
-    assert!(rt; fault_of(alloc, TWO_KEYS, TWO_KEYS)? == Some((3, VaultKind::IdTwice)));
-    assert!(rt; fault_of(alloc, empty, b"\x05")? == Some((1, VaultKind::Id)));
-    assert!(rt; fault_of(alloc, TWO_KEYS, b"\x05")? == Some((3, VaultKind::Bson)));
+    let cases: &[(&[u8], &[u8], Option<(u32, VaultKind)>)] = &[
+        (TWO_KEYS, b"", None),
+        (TWO_KEYS, TWO_KEYS, Some((3, VaultKind::IdTwice))),
+        (b"\x05\x00\x00\x00\x00", b"\x05", Some((1, VaultKind::Id))),
+        (TWO_KEYS, b"\x05", Some((3, VaultKind::Bson))),
+    ];
+    for (front, back, fault) in cases {
+        assert!(rt; fault_of(rt.alloc(), front, back)? == *fault);
+    }
     Ok(())
 }
 
 #[test]
 fn a_name_stands_once(rt: HostRuntime) -> Result<(), Fail> {
-    let alloc = rt.alloc();
-    let ab = named(1, b'a', b'b');
-    let twice = Some((2, VaultKind::NameTwice));
-    assert!(rt; fault_of(alloc, &ab, &named(2, b'c', b'd'))? == None);
-    assert!(rt; fault_of(alloc, &ab, &named(2, b'c', b'b'))? == twice);
-    assert!(rt; fault_of(alloc, &ab, &named(2, b'c', b'c'))? == twice);
+    let cases: &[(u8, Option<(u32, VaultKind)>)] = &[
+        (b'd', None),
+        (b'b', Some((2, VaultKind::NameTwice))),
+        (b'c', Some((2, VaultKind::NameTwice))),
+    ];
+    for (name, fault) in cases {
+        let keys = (named(1, b'a', b'b'), named(2, b'c', *name));
+        assert!(rt; fault_of(rt.alloc(), &keys.0, &keys.1)? == *fault);
+    }
     Ok(())
 }
 
 #[test]
-fn a_key_is_opened_or_told_why_not(rt: HostRuntime) -> Result<(), Fail> {
+fn a_key_is_opened(rt: HostRuntime) -> Result<(), Fail> {
     let vault = Vault::load(rt.alloc(), TWO_KEYS)?;
-    let other = MasterKey::new([0; 96]);
     let key = open_key(&Tables, &master(), vault.by_id(ID));
     assert!(rt; matches!(&key, Ok(k) if k.bytes()[0] == 0x80 && k.bytes()[95] == 0xdf));
+    Ok(())
+}
+
+#[test]
+fn a_key_that_isnt_opened_is_told_why(rt: HostRuntime) -> Result<(), Fail> {
+    let vault = Vault::load(rt.alloc(), TWO_KEYS)?;
+    let other = MasterKey::new([0; 96]);
     assert!(rt; open_key(&Tables, &other, vault.by_id(ID)).err() == Some(Keyless::Damaged));
     assert!(rt; open_key(&Tables, &other, None).err() == Some(Keyless::Missing));
     Ok(())

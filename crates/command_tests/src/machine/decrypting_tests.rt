@@ -1,60 +1,24 @@
 //! Documents opened state by state: which keys are asked for, which are kept, and what is refused.
 
 use crate::machine::decrypting_samples::{
-    ID, OTHER_ID, is_filter_of_two, is_opened, is_three_opened, master, material, other_material,
-    sealed, three_sealed,
+    ID, OTHER_ID, is_filter_of_two, is_opened, is_three_opened, master, sealed, three_sealed,
 };
+use crate::machine::fed_keys::{Fed, keys};
 use crate::machine::filters::is_filter_of_one;
 use bson_codec::check_bson;
-use bson_tree::{Bytes, Names};
 use context_machine::{DecryptNeedKeys, DecryptReady, KeysStop};
 use crypto_hooks::Tables;
-use data_key::{KeyDoc, Provider};
+use data_key::KeyDoc;
 use encrypt_schema::{MarkFault, Reason};
 use key_vault::KeyCache;
 use std::alloc::Global;
 use std::test::Fail;
 
-/// A key of this id with this material.
-pub(crate) fn key_of(alloc: Global, id: [u8; 16], material: &[u8]) -> Result<KeyDoc, Fail> {
-    let material = Bytes::from_vec(Vec::from_slice(alloc, material)?);
-    Ok(KeyDoc {
-        id,
-        names: Names::new(alloc),
-        material,
-        provider: Provider::Local,
-    })
-}
-
-/// The key of `ID`.
-pub(crate) fn right_key(alloc: Global) -> Result<KeyDoc, Fail> {
-    key_of(alloc, ID, &material())
-}
-
-/// The key of `OTHER_ID`.
-fn other_key(alloc: Global) -> Result<KeyDoc, Fail> {
-    key_of(alloc, OTHER_ID, &other_material())
-}
-
-/// The key of `ID`, the last byte of its tag another.
-pub(crate) fn damaged_key(alloc: Global) -> Result<KeyDoc, Fail> {
-    let mut material = material();
-    material[159] ^= 1;
-    key_of(alloc, ID, &material)
-}
-
-/// The key of `ID`, but a key service holds its master key.
-pub(crate) fn foreign_key(alloc: Global) -> Result<KeyDoc, Fail> {
-    let mut key = right_key(alloc)?;
-    key.provider = Provider::Other;
-    Ok(key)
-}
-
 /// The state in which a document asks for its keys, with these fed.
 fn fed<'a>(
     alloc: Global,
     bytes: &'a [u8],
-    keys: &[&'a KeyDoc],
+    keys: &'a [KeyDoc],
 ) -> Result<DecryptNeedKeys<'a>, Fail> {
     if bytes.len() > 1000 {
         return Err("too long".into());
@@ -63,7 +27,7 @@ fn fed<'a>(
         return Err("not begun".into());
     };
     for key in keys {
-        asking.feed(*key);
+        asking.feed(key);
     }
     Ok(asking)
 }
@@ -96,28 +60,48 @@ fn opened(alloc: Global, asking: DecryptNeedKeys<'_>) -> Result<Vec<u8>, Fail> {
 }
 
 /// The bytes of a document that is opened under these keys.
-fn opened_by<'a>(alloc: Global, bytes: &'a [u8], keys: &[&'a KeyDoc]) -> Result<Vec<u8>, Fail> {
-    opened(alloc, fed(alloc, bytes, keys)?)
+fn opened_by(alloc: Global, bytes: &[u8], fed_keys: &[Fed]) -> Result<Vec<u8>, Fail> {
+    let keys = keys(alloc, fed_keys)?;
+    opened(alloc, fed(alloc, bytes, &keys)?)
 }
 
 /// Whether these keys don't do for a document, for this reason at this offset.
-fn stops<'a>(
+fn stops(
     alloc: Global,
-    bytes: &'a [u8],
-    keys: &[&'a KeyDoc],
+    bytes: &[u8],
+    fed_keys: &[Fed],
     reason: Reason,
     at: u32,
 ) -> Result<bool, Fail> {
-    let (_, stop) = stopped(alloc, fed(alloc, bytes, keys)?)?;
+    let keys = keys(alloc, fed_keys)?;
+    let (_, stop) = stopped(alloc, fed(alloc, bytes, &keys)?)?;
     Ok(stop == KeysStop::Refused { reason, at })
+}
+
+/// Whether the keys of these ids are asked for, in this order, and no others.
+fn needs(asking: &DecryptNeedKeys<'_>, ids: &[[u8; 16]]) -> bool {
+    for i in 0..ids.len() {
+        if asking.needed(i) != Some(ids[i]) {
+            return false;
+        }
+    }
+    asking.needed(ids.len()).is_none()
+}
+
+/// The filter for these keys.
+fn filter(alloc: Global, asking: &DecryptNeedKeys<'_>) -> Result<Vec<u8>, Fail> {
+    match asking.op(alloc) {
+        Ok(filter) => Ok(filter),
+        Err(_) => Err("no memory".into()),
+    }
 }
 
 #[test]
 fn a_document_asks_for_its_key(rt: HostRuntime) -> Result<(), Fail> {
     let bytes = sealed();
     let asking = fed(rt.alloc(), &bytes, &[])?;
-    assert!(rt; asking.needed(0) == Some(ID) && asking.needed(1).is_none());
-    assert!(rt; matches!(&asking.op(rt.alloc()), Ok(f) if is_filter_of_one(f)));
+    assert!(rt; needs(&asking, &[ID]));
+    assert!(rt; is_filter_of_one(&filter(rt.alloc(), &asking)?));
     Ok(())
 }
 
@@ -125,17 +109,29 @@ fn a_document_asks_for_its_key(rt: HostRuntime) -> Result<(), Fail> {
 fn a_document_asks_once_for_each_key_in_order_of_first_use(rt: HostRuntime) -> Result<(), Fail> {
     let bytes = three_sealed();
     let asking = fed(rt.alloc(), &bytes, &[])?;
-    assert!(rt; asking.needed(0) == Some(OTHER_ID) && asking.needed(1) == Some(ID));
-    assert!(rt; asking.needed(2).is_none());
-    assert!(rt; matches!(&asking.op(rt.alloc()), Ok(f) if is_filter_of_two(f)));
+    assert!(rt; needs(&asking, &[OTHER_ID, ID]));
+    assert!(rt; is_filter_of_two(&filter(rt.alloc(), &asking)?));
     Ok(())
+}
+
+/// Why the keys that were kept don't do, and what the document opens to once these are fed, too.
+fn fed_again<'a>(
+    alloc: Global,
+    asking: DecryptNeedKeys<'a>,
+    keys: &'a [KeyDoc],
+) -> Result<(KeysStop, Vec<u8>), Fail> {
+    let (mut again, stop) = stopped(alloc, asking)?;
+    for key in keys {
+        again.feed(key);
+    }
+    Ok((stop, opened(alloc, again)?))
 }
 
 #[test]
 fn after_a_missing_key_the_same_state_is_fed_and_opens(rt: HostRuntime) -> Result<(), Fail> {
     let bytes = sealed();
-    let key = right_key(rt.alloc())?;
-    let (mut asking, stop) = stopped(rt.alloc(), fed(rt.alloc(), &bytes, &[])?)?;
+    let right = keys(rt.alloc(), &[Fed::Right])?;
+    let (stop, out) = fed_again(rt.alloc(), fed(rt.alloc(), &bytes, &[])?, &right)?;
     assert!(rt;
         matches!(
             stop,
@@ -145,31 +141,18 @@ fn after_a_missing_key_the_same_state_is_fed_and_opens(rt: HostRuntime) -> Resul
             }
         )
     );
-    asking.feed(&key);
-    assert!(rt; is_opened(&opened(rt.alloc(), asking)?));
+    assert!(rt; is_opened(&out));
     Ok(())
 }
 
 #[test]
 fn a_key_of_another_provider_is_told(rt: HostRuntime) -> Result<(), Fail> {
-    let bytes = sealed();
-    let key = foreign_key(rt.alloc())?;
-    assert!(rt; stops(rt.alloc(), &bytes, &[&key], Reason::KeyNotLocal, 50)?);
-    Ok(())
-}
-
-#[test]
-fn the_first_key_of_an_id_stays(rt: HostRuntime) -> Result<(), Fail> {
-    let bytes = sealed();
-    let right = right_key(rt.alloc())?;
-    let damaged = damaged_key(rt.alloc())?;
-    assert!(rt; is_opened(&opened_by(rt.alloc(), &bytes, &[&right, &damaged])?));
     assert!(rt;
         stops(
             rt.alloc(),
-            &bytes,
-            &[&damaged, &right],
-            Reason::KeyDamaged,
+            &sealed(),
+            &[Fed::Foreign],
+            Reason::KeyNotLocal,
             50
         )?
     );
@@ -177,45 +160,46 @@ fn the_first_key_of_an_id_stays(rt: HostRuntime) -> Result<(), Fail> {
 }
 
 #[test]
+fn the_first_key_of_an_id_stays(rt: HostRuntime) -> Result<(), Fail> {
+    let right_first = opened_by(rt.alloc(), &sealed(), &[Fed::Right, Fed::Damaged])?;
+    assert!(rt; is_opened(&right_first));
+    let damaged_first = &[Fed::Damaged, Fed::Right];
+    assert!(rt; stops(rt.alloc(), &sealed(), damaged_first, Reason::KeyDamaged, 50)?);
+    Ok(())
+}
+
+#[test]
 fn keys_are_fed_in_any_order(rt: HostRuntime) -> Result<(), Fail> {
-    let bytes = three_sealed();
-    let key = right_key(rt.alloc())?;
-    let other = other_key(rt.alloc())?;
-    let unneeded = key_of(rt.alloc(), [9; 16], &material())?;
-    assert!(rt; is_three_opened(&opened_by(rt.alloc(), &bytes, &[&unneeded, &key, &other])?));
+    let fed_keys = &[Fed::Unneeded, Fed::Right, Fed::Other];
+    assert!(rt; is_three_opened(&opened_by(rt.alloc(), &three_sealed(), fed_keys)?));
     Ok(())
 }
 
 #[test]
 fn the_first_payload_without_a_key_is_told(rt: HostRuntime) -> Result<(), Fail> {
-    let bytes = three_sealed();
-    let key = right_key(rt.alloc())?;
-    let other = other_key(rt.alloc())?;
-    assert!(rt; stops(rt.alloc(), &bytes, &[&key], Reason::KeyMissing, 7)?);
-    assert!(rt; stops(rt.alloc(), &bytes, &[&other], Reason::KeyMissing, 97)?);
+    for (key, at) in [(Fed::Right, 7u32), (Fed::Other, 97)] {
+        assert!(rt; stops(rt.alloc(), &three_sealed(), &[key], Reason::KeyMissing, at)?);
+    }
     Ok(())
 }
 
-/// Whether this key does for a document, by a cache.
-fn does<'a>(
-    alloc: Global,
-    cache: &mut KeyCache,
-    bytes: &'a [u8],
-    key: &'a KeyDoc,
-) -> Result<bool, Fail> {
-    let asking = fed(alloc, bytes, &[key])?;
-    Ok(asking.done_cached(alloc, cache, &Tables).is_ok())
+/// Whether a state is ready by a cache.
+fn is_ready(alloc: Global, cache: &mut KeyCache, asking: DecryptNeedKeys<'_>) -> bool {
+    asking.done_cached(alloc, cache, &Tables).is_ok()
+}
+
+/// Whether this key does for the document of one payload, by a cache.
+fn does(alloc: Global, cache: &mut KeyCache, key: Fed) -> Result<bool, Fail> {
+    let keys = keys(alloc, &[key])?;
+    Ok(is_ready(alloc, cache, fed(alloc, &sealed(), &keys)?))
 }
 
 #[test]
 fn a_cache_answers_for_the_material_that_is_fed(rt: HostRuntime) -> Result<(), Fail> {
-    let bytes = sealed();
-    let right = right_key(rt.alloc())?;
-    let damaged = damaged_key(rt.alloc())?;
     let mut cache = KeyCache::new(rt.alloc(), master()).map_err(|_| "no memory")?;
-    assert!(rt; does(rt.alloc(), &mut cache, &bytes, &right)?);
+    assert!(rt; does(rt.alloc(), &mut cache, Fed::Right)?);
     assert!(rt; cache.len() == 1);
-    assert!(rt; !does(rt.alloc(), &mut cache, &bytes, &damaged)?);
+    assert!(rt; !does(rt.alloc(), &mut cache, Fed::Damaged)?);
     Ok(())
 }
 
@@ -239,9 +223,9 @@ fn a_payload_too_short_is_told_before_any_key(rt: HostRuntime) -> Result<(), Fai
 fn a_changed_byte_is_told_by_the_tag(rt: HostRuntime) -> Result<(), Fail> {
     let mut bytes = sealed();
     bytes[100] ^= 1;
-    let key = right_key(rt.alloc())?;
-    let asking = fed(rt.alloc(), &bytes, &[&key])?;
-    let spot = ready(rt.alloc(), asking)?.finalize(&Tables).err();
+    let right = keys(rt.alloc(), &[Fed::Right])?;
+    let ready = ready(rt.alloc(), fed(rt.alloc(), &bytes, &right)?)?;
+    let spot = ready.finalize(&Tables).err();
     assert!(rt; matches!(spot, Some(s) if s.reason == Reason::TagMismatch && s.at == 50));
     Ok(())
 }

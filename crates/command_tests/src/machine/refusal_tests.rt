@@ -1,12 +1,12 @@
 //! Commands that are refused, each at its place, and the states that come back and go on.
 
-use crate::machine::decrypting_samples::{ID, master, material};
-use crate::machine::decrypting_tests::{damaged_key, foreign_key, key_of, right_key};
+use crate::machine::decrypting_samples::{ID, master};
+use crate::machine::fed_keys::{Fed, keys};
 use crate::machine::sealing_samples::{
     SECOND_ID, infos, into_a_view, is_two_documents_sealed, is_two_keys_sealed, null_stored,
     one_string, two_documents, wrong_db,
 };
-use crate::machine::sealing_tests::{fed, held_key, held_keys, marks, sealed, told};
+use crate::machine::sealing_tests::{fed, having, marks, sealed, sealed_with, told};
 use bson_codec::check_bson;
 use context_machine::{EncryptStart, KeysStop, NeedKeys};
 use crypto_hooks::Tables;
@@ -37,9 +37,9 @@ fn refused(reason: Reason, at: u32) -> KeysStop {
     KeysStop::Refused { reason, at }
 }
 
-/// Whether the command of two documents is refused with this key alone, for this reason at its first value.
-fn stops(alloc: Global, key: KeyDoc, reason: Reason) -> Result<bool, Fail> {
-    let held = held_key(alloc, ID, key)?;
+/// Whether the command of two documents is refused with these keys, for this reason at its first value.
+fn stops(alloc: Global, keys: &[Fed], reason: Reason) -> Result<bool, Fail> {
+    let held = having(alloc, ID, keys)?;
     let (_, stop) = stopped(alloc, fed(alloc, &held, two_documents())?)?;
     Ok(stop == refused(reason, 53))
 }
@@ -83,62 +83,78 @@ fn a_value_that_isnt_allowed_is_refused_where_it_stands(rt: HostRuntime) -> Resu
 
 #[test]
 fn a_key_that_isnt_to_be_had_is_told_at_the_first_value(rt: HostRuntime) -> Result<(), Fail> {
-    let alloc = rt.alloc();
-    let other = key_of(alloc, SECOND_ID, &material())?;
-    assert!(rt; stops(alloc, other, Reason::KeyMissing)?);
-    assert!(rt; stops(alloc, foreign_key(alloc)?, Reason::KeyNotLocal)?);
-    assert!(rt; stops(alloc, damaged_key(alloc)?, Reason::KeyDamaged)?);
+    let cases: &[(Fed, Reason)] = &[
+        (Fed::Second, Reason::KeyMissing),
+        (Fed::Foreign, Reason::KeyNotLocal),
+        (Fed::Damaged, Reason::KeyDamaged),
+    ];
+    for (key, reason) in cases {
+        assert!(rt; stops(rt.alloc(), &[*key], *reason)?);
+    }
     Ok(())
 }
 
 #[test]
 fn the_first_key_of_an_id_seals(rt: HostRuntime) -> Result<(), Fail> {
-    let alloc = rt.alloc();
-    let held = held_keys(alloc, ID, right_key(alloc)?, damaged_key(alloc)?)?;
-    let waits = fed(alloc, &held, two_documents())?;
-    assert!(rt; is_two_documents_sealed(&sealed(alloc, waits)?));
+    let bytes = sealed_with(rt.alloc(), ID, &[Fed::Right, Fed::Damaged], two_documents())?;
+    assert!(rt; is_two_documents_sealed(&bytes));
     Ok(())
 }
 
 #[test]
 fn a_damaged_key_isnt_replaced_by_a_later_one(rt: HostRuntime) -> Result<(), Fail> {
-    let alloc = rt.alloc();
-    let held = held_keys(alloc, ID, damaged_key(alloc)?, right_key(alloc)?)?;
-    let (_, stop) = stopped(alloc, fed(alloc, &held, two_documents())?)?;
-    assert!(rt; stop == refused(Reason::KeyDamaged, 53));
+    assert!(rt; stops(rt.alloc(), &[Fed::Damaged, Fed::Right], Reason::KeyDamaged)?);
     Ok(())
+}
+
+/// Why a state isn't ready, and what it seals once these keys are fed, too.
+fn fed_again<'a>(
+    alloc: Global,
+    waits: NeedKeys<'a>,
+    keys: &'a [KeyDoc],
+) -> Result<(KeysStop, Vec<u8>), Fail> {
+    let (mut again, stop) = stopped(alloc, waits)?;
+    for key in keys {
+        again.feed(key);
+    }
+    Ok((stop, sealed(alloc, again)?))
 }
 
 #[test]
 fn a_refused_state_keeps_its_keys_and_goes_on(rt: HostRuntime) -> Result<(), Fail> {
-    let alloc = rt.alloc();
-    let key = right_key(alloc)?;
-    let held = held_key(alloc, SECOND_ID, key_of(alloc, SECOND_ID, &material())?)?;
-    let (mut again, stop) = stopped(alloc, fed(alloc, &held, two_documents())?)?;
+    let held = having(rt.alloc(), SECOND_ID, &[Fed::Second])?;
+    let right = keys(rt.alloc(), &[Fed::Right])?;
+    let waits = fed(rt.alloc(), &held, two_documents())?;
+    let (stop, bytes) = fed_again(rt.alloc(), waits, &right)?;
     assert!(rt; stop == refused(Reason::KeyMissing, 70));
-    again.feed(&key);
-    assert!(rt; is_two_keys_sealed(&sealed(alloc, again)?));
+    assert!(rt; is_two_keys_sealed(&bytes));
     Ok(())
 }
 
-/// Why the command of one value isn't ready with this key alone, by a cache.
-fn cached_stop(alloc: Global, cache: &mut KeyCache, key: KeyDoc) -> Result<Option<KeysStop>, Fail> {
-    let held = held_key(alloc, ID, key)?;
-    let waits = fed(alloc, &held, one_string())?;
+/// Why a state isn't ready by a cache, if it isn't.
+fn cached_stop(alloc: Global, cache: &mut KeyCache, waits: NeedKeys<'_>) -> Option<KeysStop> {
     match waits.done_cached(alloc, cache, &Tables) {
-        Ok(_) => Ok(None),
-        Err((_, stop)) => Ok(Some(stop)),
+        Ok(_) => None,
+        Err((_, stop)) => Some(stop),
     }
+}
+
+/// The same of the command of one value with this key alone.
+fn cached(alloc: Global, cache: &mut KeyCache, key: Fed) -> Result<Option<KeysStop>, Fail> {
+    let held = having(alloc, ID, &[key])?;
+    Ok(cached_stop(alloc, cache, fed(alloc, &held, one_string())?))
 }
 
 #[test]
 fn a_cache_refuses_what_it_didnt_open(rt: HostRuntime) -> Result<(), Fail> {
-    let alloc = rt.alloc();
-    let mut cache = KeyCache::new(alloc, master()).map_err(|_| "no memory")?;
-    assert!(rt; cached_stop(alloc, &mut cache, right_key(alloc)?)?.is_none());
-    let damaged = cached_stop(alloc, &mut cache, damaged_key(alloc)?)?;
-    assert!(rt; damaged == Some(refused(Reason::KeyDamaged, 50)));
-    let foreign = cached_stop(alloc, &mut cache, foreign_key(alloc)?)?;
-    assert!(rt; foreign == Some(refused(Reason::KeyNotLocal, 50)));
+    let mut cache = KeyCache::new(rt.alloc(), master()).map_err(|_| "no memory")?;
+    let cases: &[(Fed, Option<KeysStop>)] = &[
+        (Fed::Right, None),
+        (Fed::Damaged, Some(refused(Reason::KeyDamaged, 50))),
+        (Fed::Foreign, Some(refused(Reason::KeyNotLocal, 50))),
+    ];
+    for (key, stop) in cases {
+        assert!(rt; cached(rt.alloc(), &mut cache, *key)? == *stop);
+    }
     Ok(())
 }

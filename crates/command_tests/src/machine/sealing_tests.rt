@@ -1,7 +1,7 @@
 //! Commands sealed state by state, as elsewhere.
 
-use crate::machine::decrypting_samples::{ID, master, material};
-use crate::machine::decrypting_tests::{key_of, right_key};
+use crate::machine::decrypting_samples::{ID, master};
+use crate::machine::fed_keys::{Fed, keys};
 use crate::machine::filters::{is_filter_of_one, is_filter_of_people};
 use crate::machine::sealing_samples::{
     SECOND_ID, infos, is_one_string_sealed, is_two_documents_sealed, is_two_keys_sealed,
@@ -55,42 +55,20 @@ pub(crate) fn marks<'a>(infos: &'a Infos, command: &'a [u8]) -> Result<NeedMarki
     }
 }
 
-/// What a caller has: infos, where the key of `salary` has the id of the first key, and keys.
+/// What a caller has: infos and keys.
 #[derive(Drop)]
 pub(crate) struct Held {
     infos: Infos,
-    pub(crate) keys: Vec<KeyDoc>,
+    keys: Vec<KeyDoc>,
 }
 
-/// Infos, where the key of `salary` has this id, and no keys.
-pub(crate) fn no_key(alloc: Global, id: [u8; 16]) -> Result<Held, Fail> {
+/// Infos, where the key of `salary` has this id, and these keys.
+pub(crate) fn having(alloc: Global, id: [u8; 16], fed: &[Fed]) -> Result<Held, Fail> {
+    let infos = infos(alloc, id)?;
     Ok(Held {
-        infos: infos(alloc, id)?,
-        keys: Vec::new(alloc),
+        infos,
+        keys: keys(alloc, fed)?,
     })
-}
-
-/// The same, and one key.
-pub(crate) fn held_key(alloc: Global, id: [u8; 16], key: KeyDoc) -> Result<Held, Fail> {
-    let mut held = no_key(alloc, id)?;
-    if held.keys.push(key).is_err() {
-        return Err("no memory".into());
-    }
-    Ok(held)
-}
-
-/// The same, and two keys.
-pub(crate) fn held_keys(
-    alloc: Global,
-    id: [u8; 16],
-    first: KeyDoc,
-    second: KeyDoc,
-) -> Result<Held, Fail> {
-    let mut held = held_key(alloc, id, first)?;
-    if held.keys.push(second).is_err() {
-        return Err("no memory".into());
-    }
-    Ok(held)
 }
 
 /// The state in which the keys of a command are asked for, with all that a caller has fed.
@@ -116,10 +94,15 @@ fn ready<'a>(alloc: Global, waits: NeedKeys<'a>) -> Result<Ready<'a>, Fail> {
     }
 }
 
-/// The sealed command, with these blocks.
-fn finished(alloc: Global, ready: Ready<'_>, blocks: &[[u8; 16]]) -> Result<Vec<u8>, Fail> {
-    let mut entropy = MemEntropy::new(Vec::from_slice(alloc, blocks)?, Vec::new(alloc));
-    match ready.finalize(&Tables, &mut entropy) {
+/// A source of these blocks.
+fn entropy_of(alloc: Global, blocks: &[[u8; 16]]) -> Result<MemEntropy, Fail> {
+    let blocks = Vec::from_slice(alloc, blocks)?;
+    Ok(MemEntropy::new(blocks, Vec::new(alloc)))
+}
+
+/// The sealed command, with blocks from this source.
+fn finished(ready: Ready<'_>, entropy: &mut MemEntropy) -> Result<Vec<u8>, Fail> {
+    match ready.finalize(&Tables, entropy) {
         Ok(done) => Ok(done.into_bytes()),
         Err(_) => Err("no blocks".into()),
     }
@@ -127,7 +110,19 @@ fn finished(alloc: Global, ready: Ready<'_>, blocks: &[[u8; 16]]) -> Result<Vec<
 
 /// The sealed command, once its keys are there, with the blocks of 01 and of 02.
 pub(crate) fn sealed(alloc: Global, waits: NeedKeys<'_>) -> Result<Vec<u8>, Fail> {
-    finished(alloc, ready(alloc, waits)?, &[[1; 16], [2; 16]])
+    let mut entropy = entropy_of(alloc, &[[1; 16], [2; 16]])?;
+    finished(ready(alloc, waits)?, &mut entropy)
+}
+
+/// The sealed command where the key of `salary` has this id and these keys are fed.
+pub(crate) fn sealed_with(
+    alloc: Global,
+    id: [u8; 16],
+    keys: &[Fed],
+    command: &[u8],
+) -> Result<Vec<u8>, Fail> {
+    let held = having(alloc, id, keys)?;
+    sealed(alloc, fed(alloc, &held, command)?)
 }
 
 #[test]
@@ -138,41 +133,52 @@ fn the_collection_is_asked_for_by_its_name(rt: HostRuntime) -> Result<(), Fail> 
     Ok(())
 }
 
+/// Whether the key of this id alone is asked for, first at this offset.
+fn needs_alone(waits: &NeedKeys<'_>, id: [u8; 16], at: u32) -> bool {
+    for need in waits.needs() {
+        if need.id != id || need.at != at {
+            return false;
+        }
+    }
+    waits.needed(0) == Some(id) && waits.needed(1).is_none()
+}
+
 #[test]
 fn the_keys_are_asked_for_by_their_ids(rt: HostRuntime) -> Result<(), Fail> {
-    let held = no_key(rt.alloc(), ID)?;
+    let held = having(rt.alloc(), ID, &[])?;
     let waits = fed(rt.alloc(), &held, two_documents())?;
     assert!(rt; matches!(&waits.op(rt.alloc()), Ok(f) if is_filter_of_one(f)));
-    assert!(rt; waits.needed(0) == Some(ID) && waits.needed(1).is_none());
-    for need in waits.needs() {
-        assert!(rt; need.id == ID && need.at == 53);
-    }
+    assert!(rt; needs_alone(&waits, ID, 53));
     Ok(())
 }
 
 #[test]
 fn one_value_is_sealed_as_elsewhere(rt: HostRuntime) -> Result<(), Fail> {
-    let held = held_key(rt.alloc(), ID, right_key(rt.alloc())?)?;
-    let waits = fed(rt.alloc(), &held, one_string())?;
-    assert!(rt; is_one_string_sealed(&sealed(rt.alloc(), waits)?));
+    let bytes = sealed_with(rt.alloc(), ID, &[Fed::Right], one_string())?;
+    assert!(rt; is_one_string_sealed(&bytes));
     Ok(())
 }
 
 #[test]
 fn random_values_are_sealed_with_a_block_each(rt: HostRuntime) -> Result<(), Fail> {
-    let held = held_key(rt.alloc(), ID, right_key(rt.alloc())?)?;
-    let waits = fed(rt.alloc(), &held, two_documents())?;
-    assert!(rt; is_two_documents_sealed(&sealed(rt.alloc(), waits)?));
+    let bytes = sealed_with(rt.alloc(), ID, &[Fed::Right], two_documents())?;
+    assert!(rt; is_two_documents_sealed(&bytes));
     Ok(())
+}
+
+/// The sealed command of a state, by a cache, without blocks.
+fn finished_by(alloc: Global, cache: &mut KeyCache, waits: NeedKeys<'_>) -> Result<Vec<u8>, Fail> {
+    let mut none = entropy_of(alloc, &[])?;
+    match waits.done_cached(alloc, cache, &Tables) {
+        Ok(ready) => finished(ready, &mut none),
+        Err(_) => Err("not ready".into()),
+    }
 }
 
 /// The command of one value, sealed by a cache.
 fn sealed_by(alloc: Global, cache: &mut KeyCache) -> Result<Vec<u8>, Fail> {
-    let held = held_key(alloc, ID, right_key(alloc)?)?;
-    let Ok(ready) = fed(alloc, &held, one_string())?.done_cached(alloc, cache, &Tables) else {
-        return Err("not ready".into());
-    };
-    finished(alloc, ready, &[])
+    let held = having(alloc, ID, &[Fed::Right])?;
+    finished_by(alloc, cache, fed(alloc, &held, one_string())?)
 }
 
 #[test]
@@ -186,7 +192,7 @@ fn keys_that_a_cache_opened_seal_the_same(rt: HostRuntime) -> Result<(), Fail> {
 
 #[test]
 fn a_command_without_protected_values_needs_no_key(rt: HostRuntime) -> Result<(), Fail> {
-    let held = no_key(rt.alloc(), ID)?;
+    let held = having(rt.alloc(), ID, &[])?;
     let waits = fed(rt.alloc(), &held, unknown())?;
     assert!(rt; waits.needed(0).is_none());
     assert!(rt; sealed(rt.alloc(), waits)?.as_slice() == unknown().as_slice());
@@ -204,32 +210,33 @@ fn other_commands_pass(rt: HostRuntime) -> Result<(), Fail> {
 
 #[test]
 fn keys_are_fed_in_any_order_and_number(rt: HostRuntime) -> Result<(), Fail> {
-    let alloc = rt.alloc();
-    let second = key_of(alloc, SECOND_ID, &material())?;
-    let mut held = held_keys(
-        alloc,
-        SECOND_ID,
-        key_of(alloc, [7; 16], &material())?,
-        right_key(alloc)?,
-    )?;
-    assert!(rt; held.keys.push(second).is_ok());
-    assert!(rt; held.keys.push(right_key(alloc)?).is_ok());
-    let waits = fed(alloc, &held, two_documents())?;
+    let fed_keys = &[Fed::Unneeded, Fed::Right, Fed::Second, Fed::Right];
+    let held = having(rt.alloc(), SECOND_ID, fed_keys)?;
+    let waits = fed(rt.alloc(), &held, two_documents())?;
     assert!(rt; waits.needed(0) == Some(SECOND_ID) && waits.needed(1) == Some(ID));
-    assert!(rt; is_two_keys_sealed(&sealed(alloc, waits)?));
+    assert!(rt; is_two_keys_sealed(&sealed(rt.alloc(), waits)?));
     Ok(())
+}
+
+/// The state that comes back where this source has too few blocks.
+fn failed<'a>(ready: Ready<'a>, entropy: &mut MemEntropy) -> Result<Ready<'a>, Fail> {
+    match ready.finalize(&Tables, entropy) {
+        Ok(_) => Err("a block came from nowhere".into()),
+        Err((again, _)) => Ok(again),
+    }
+}
+
+/// The sealed command with the blocks of 01 and of 02, after one block wasn't enough.
+fn sealed_anew(alloc: Global, ready: Ready<'_>) -> Result<Vec<u8>, Fail> {
+    let mut one = entropy_of(alloc, &[[9; 16]])?;
+    let mut two = entropy_of(alloc, &[[1; 16], [2; 16]])?;
+    finished(failed(ready, &mut one)?, &mut two)
 }
 
 #[test]
 fn after_a_failed_draw_all_blocks_are_drawn_anew(rt: HostRuntime) -> Result<(), Fail> {
-    let alloc = rt.alloc();
-    let held = held_key(alloc, ID, right_key(alloc)?)?;
-    let ready = ready(alloc, fed(alloc, &held, two_documents())?)?;
-    let mut one = MemEntropy::new(Vec::from_slice(alloc, &[[9; 16]])?, Vec::new(alloc));
-    let Err((ready, _)) = ready.finalize(&Tables, &mut one) else {
-        return Err("a block came from nowhere".into());
-    };
-    let bytes = finished(alloc, ready, &[[1; 16], [2; 16]])?;
-    assert!(rt; is_two_documents_sealed(&bytes));
+    let held = having(rt.alloc(), ID, &[Fed::Right])?;
+    let ready = ready(rt.alloc(), fed(rt.alloc(), &held, two_documents())?)?;
+    assert!(rt; is_two_documents_sealed(&sealed_anew(rt.alloc(), ready)?));
     Ok(())
 }

@@ -1,47 +1,84 @@
 use crate::codec::owned_tests::INSERT;
 use bson_codec::writing::{append, close, open, put_name};
-use bson_codec::{BsonFault, BsonKind, check_bson, check_value, first_doc};
+use bson_codec::{BsonFault, BsonKind, RawDoc, RawItem, check_bson, check_value, first_doc};
 use bson_tree::types;
 use std::test::Fail;
 
+/// Whether an element has this tag, this name and this text.
+fn is_element(item: &RawItem<'_>, tag: u8, name: &[u8], text: Option<&[u8]>) -> bool {
+    item.tag() == tag && item.name() == name && item.text() == text
+}
+
 #[test]
 fn the_elements_of_the_insert_command_stand_in_order(rt: HostRuntime) -> Result<(), Fail> {
-    let document = check_bson(&INSERT)?;
-    assert!(rt; document.bytes() == INSERT.as_slice());
-    let mut items = document.again().items();
-    let insert = items.next().ok_or("no insert")?;
-    assert!(rt; insert.tag() == 0x02);
-    assert!(rt; insert.name() == b"insert".as_slice());
-    assert!(rt; insert.text() == Some(b"people".as_slice()));
-    assert!(rt; insert.child().is_none());
-    let documents = items.next().ok_or("no documents")?;
-    assert!(rt; documents.tag() == 0x04);
-    assert!(rt; documents.start() == 34);
-    assert!(rt; documents.text().is_none());
-    let database = items.again().next().ok_or("no $db")?;
-    assert!(rt; database.value() == b"\x03\x00\x00\x00hr\x00".as_slice());
-    assert!(rt; items.next().is_some());
+    let cases: &[(u8, &[u8], Option<&[u8]>)] = &[
+        (0x02, b"insert", Some(b"people")),
+        (0x04, b"documents", None),
+        (0x02, b"$db", Some(b"hr")),
+    ];
+    let mut items = check_bson(&INSERT)?.items();
+    for (tag, name, text) in cases {
+        let item = items.next().ok_or("too few elements")?;
+        assert!(rt; is_element(&item, *tag, name, *text));
+    }
     assert!(rt; items.next().is_none());
     Ok(())
+}
+
+#[test]
+fn an_element_has_a_place_and_a_value(rt: HostRuntime) -> Result<(), Fail> {
+    let mut items = check_bson(&INSERT)?.items();
+    assert!(rt; matches!(items.next(), Some(insert) if insert.child().is_none()));
+    assert!(rt; matches!(items.next(), Some(documents) if documents.start() == 34));
+    let database = items.next().ok_or("no $db")?;
+    assert!(rt; database.value() == b"\x03\x00\x00\x00hr\x00".as_slice());
+    Ok(())
+}
+
+#[test]
+fn what_is_taken_again_stands_where_it_stood(rt: HostRuntime) -> Result<(), Fail> {
+    let document = check_bson(&INSERT)?;
+    assert!(rt; document.again().bytes() == INSERT.as_slice());
+    let mut items = document.items();
+    let _insert = items.next();
+    assert!(rt; matches!(items.again().next(), Some(item) if item.start() == 34));
+    assert!(rt; matches!(items.next(), Some(item) if item.start() == 34));
+    Ok(())
+}
+
+/// The document in the element that holds this offset, where that one has this number.
+fn child_at<'a>(document: &RawDoc<'a>, offset: usize, number: u32) -> Option<RawDoc<'a>> {
+    match document.child_holding(offset) {
+        Some((n, item)) => if n == number { item.child() } else { None },
+        None => None,
+    }
 }
 
 // The value of `ssn` begins at offset 50, in element 0 of element 0 of element 1.
 #[test]
 fn an_offset_leads_to_the_value_that_begins_there(rt: HostRuntime) -> Result<(), Fail> {
     let document = check_bson(&INSERT)?;
-    let (number, documents) = document.child_holding(50).ok_or("not in the command")?;
-    assert!(rt; number == 1);
-    let array = documents.child().ok_or("no array")?;
-    let (number, person) = array.child_holding(50).ok_or("not in the array")?;
-    assert!(rt; number == 0);
-    let person = person.child().ok_or("no document")?;
+    let array = child_at(&document, 50, 1).ok_or("no array")?;
+    let person = child_at(&array, 50, 0).ok_or("no document")?;
     let (number, ssn) = person.child_holding(50).ok_or("not in the document")?;
-    assert!(rt; number == 0);
-    assert!(rt; ssn.start() == 50);
+    assert!(rt; number == 0 && ssn.start() == 50);
     assert!(rt; ssn.text() == Some(b"123-45-6789".as_slice()));
+    Ok(())
+}
+
+#[test]
+fn an_offset_inside_a_value_leads_to_it_and_one_behind_all_to_none(
+    rt: HostRuntime,
+) -> Result<(), Fail> {
+    let document = check_bson(&INSERT)?;
     assert!(rt; document.child_holding(51).is_some());
     assert!(rt; document.child_holding(88).is_none());
     Ok(())
+}
+
+/// The subtype and the contents of the binary that a document begins with.
+fn first_binary<'a>(document: &RawDoc<'a>) -> Option<(u8, &'a [u8])> {
+    document.items().next()?.binary()
 }
 
 // The BSON corpus of the MongoDB specifications, binary, subtype 0x00.
@@ -50,10 +87,7 @@ fn a_binary_has_a_subtype_and_contents(rt: HostRuntime) -> Result<(), Fail> {
     let bytes = b"\x0F\x00\x00\x00\x05x\x00\x02\x00\x00\x00\x00\xFF\xFF\x00\x07";
     let (document, rest) = first_doc(bytes)?;
     assert!(rt; rest == b"\x07".as_slice());
-    let item = document.items().next().ok_or("no element")?;
-    let (subtype, contents) = item.binary().ok_or("no binary")?;
-    assert!(rt; subtype == 0);
-    assert!(rt; contents == b"\xFF\xFF".as_slice());
+    assert!(rt; first_binary(&document) == Some((0, b"\xFF\xFF".as_slice())));
     let fault = BsonFault {
         kind: BsonKind::Extra,
         offset: 15,
@@ -115,21 +149,21 @@ fn a_scope_is_no_child(rt: HostRuntime) -> Result<(), Fail> {
     Ok(())
 }
 
+/// The text and the document of the scope that a document begins with.
+fn first_scope<'a>(document: &RawDoc<'a>) -> Option<(&'a [u8], RawDoc<'a>)> {
+    document.items().next()?.scope()
+}
+
 // BSON 1.1, "code_w_s": code `a` with the scope {x: true}, under the name `c`.
 #[test]
 fn a_scope_has_a_text_and_a_document(rt: HostRuntime) -> Result<(), Fail> {
     let scope = b"\x09\x00\x00\x00\x08x\x00\x01\x00";
     let bytes =
         b"\x1B\x00\x00\x00\x0Fc\x00\x13\x00\x00\x00\x02\x00\x00\x00a\x00\x09\x00\x00\x00\x08x\x00\x01\x00\x00";
-    let document = check_bson(bytes)?;
-    let code = document.items().next().ok_or("no element")?;
-    let (text, inner) = code.scope().ok_or("no scope")?;
-    assert!(rt; text == b"a".as_slice());
-    assert!(rt; inner.bytes() == scope.as_slice());
+    let (text, inner) = first_scope(&check_bson(bytes)?).ok_or("no scope")?;
+    assert!(rt; text == b"a".as_slice() && inner.bytes() == scope.as_slice());
     let flag = inner.items().next().ok_or("no flag")?;
-    assert!(rt; flag.scope().is_none());
-    assert!(rt; flag.start() == 24);
-    assert!(rt; bytes[flag.start()] == 1);
+    assert!(rt; flag.scope().is_none() && flag.start() == 24);
     Ok(())
 }
 

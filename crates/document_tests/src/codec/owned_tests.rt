@@ -27,12 +27,26 @@ fn raw_bytes(value: Option<&Value>) -> Option<&[u8]> {
 }
 
 #[test]
-fn the_insert_command_is_read_copied_and_written_again(rt: HostRuntime) -> Result<(), Fail> {
+fn a_value_of_the_insert_command_is_read_at_its_place(rt: HostRuntime) -> Result<(), Fail> {
     let document = decode(rt.alloc(), &INSERT)?;
-    let copy = copy_doc(rt.alloc(), &document)?;
     let place = Place::from_slice(rt.alloc(), &[1, 0, 0])?;
-    let number = raw_bytes(value_at(&copy, &place));
+    let number = raw_bytes(value_at(&document, &place));
     assert!(rt; number == Some(b"\x0C\x00\x00\x00123-45-6789\x00".as_slice()));
+    Ok(())
+}
+
+/// A copy of the document of these bytes.
+fn copied(alloc: Global, bytes: &[u8]) -> Result<Doc, Fail> {
+    if bytes.len() > 1000 {
+        return Err("a test's document is too long".into());
+    }
+    let document = decode(alloc, bytes)?;
+    Ok(copy_doc(alloc, &document)?)
+}
+
+#[test]
+fn the_insert_command_is_read_copied_and_written_again(rt: HostRuntime) -> Result<(), Fail> {
+    let copy = copied(rt.alloc(), &INSERT)?;
     assert!(rt; well_formed(&copy));
     let again = encode(rt.alloc(), &copy)?;
     assert!(rt; again.as_slice() == INSERT.as_slice());
@@ -179,12 +193,17 @@ fn nested(alloc: Global, levels: u32) -> Result<Vec<u8>, AllocError>
 }
 
 #[test]
-fn a_hundred_levels_are_read_and_no_more(rt: HostRuntime) -> Result<(), Fail> {
+fn a_hundred_levels_are_read(rt: HostRuntime) -> Result<(), Fail> {
     let bytes = nested(rt.alloc(), 100)?;
     assert!(rt; bytes.len() == 797);
     let document = decode(rt.alloc(), &bytes)?;
     assert!(rt; well_formed(&document));
     assert!(rt; check_bson(&bytes).is_ok());
+    Ok(())
+}
+
+#[test]
+fn a_hundred_and_one_levels_are_too_many(rt: HostRuntime) -> Result<(), Fail> {
     let bytes = nested(rt.alloc(), 101)?;
     assert!(rt; bytes.len() == 805);
     let deep = BsonFault {
@@ -208,13 +227,21 @@ fn a_stated_length_is_at_least_five(rt: HostRuntime) {
     assert!(rt; stated_length([0, 0, 0, 0x80]) == Err(length));
 }
 
+/// The document of one string of these bytes, under the name `s`.
+fn one_string(alloc: Global, bytes: &[u8]) -> Result<Doc, Fail> {
+    let name = Bytes::from_slice(alloc, b"s")?;
+    let body = Body::Raw(Bytes::from_slice(alloc, bytes)?);
+    let mut kids = Kids::new(alloc);
+    match kids.push(name, Value { tag: 0x02, body }) {
+        Ok(()) => Ok(Doc { kids }),
+        Err(_) => Err("no memory".into()),
+    }
+}
+
 #[test]
 fn a_string_without_its_00_is_not_well_formed(rt: HostRuntime) -> Result<(), Fail> {
-    let mut kids = Kids::new(rt.alloc());
-    let body = Body::Raw(Bytes::from_slice(rt.alloc(), b"\x01\x00\x00\x00a")?);
-    let name = Bytes::from_slice(rt.alloc(), b"s")?;
-    assert!(rt; kids.push(name, Value { tag: 0x02, body }).is_ok());
-    assert!(rt; !well_formed(&Doc { kids }));
+    assert!(rt; well_formed(&one_string(rt.alloc(), b"\x01\x00\x00\x00\x00")?));
+    assert!(rt; !well_formed(&one_string(rt.alloc(), b"\x01\x00\x00\x00a")?));
     Ok(())
 }
 

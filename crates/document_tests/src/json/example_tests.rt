@@ -1,7 +1,7 @@
 //! The schemas of the folder `examples`, in JSON and in BSON: both give the same infos. A name stands in JSON's BSON in
 //! the order of bytes, so the two are compared by the text of what the BSON holds.
 
-use bson_codec::first_doc;
+use bson_codec::{RawDoc, first_doc};
 use ext_json::{infos_from_json, write_text};
 use fle_outside::MemSink;
 use std::alloc::Global;
@@ -130,6 +130,16 @@ const STAFF_BSON: [u8; 356] = [
     0x00, 0x00, 0x00, 0x00,
 ];
 
+// Puts the text of a document behind the bytes.
+fn put_text(alloc: Global, document: &RawDoc<'_>, text: &mut Vec<u8>) -> Result<(), Fail> {
+    let mut out = MemSink::new(alloc, 1000, 1000, Vec::new(alloc))?;
+    if write_text(document, &mut out).is_err() {
+        return Err("a test's text is too long".into());
+    }
+    text.extend_from_slice(out.written())?;
+    Ok(())
+}
+
 // The text of the array of so many documents, which stand one after another in the bytes.
 fn text_of(
     rt: &impl Abort,
@@ -142,12 +152,10 @@ fn text_of(
     for number in 0..documents {
         assert!(rt; left.len() < 1000);
         let (document, rest) = first_doc(left)?;
-        let mut out = MemSink::new(alloc, 1000, 1000, Vec::new(alloc))?;
-        assert!(rt; write_text(&document, &mut out).is_ok());
         if number > 0 {
             text.push(b',')?;
         }
-        text.extend_from_slice(out.written())?;
+        put_text(alloc, &document, &mut text)?;
         left = rest;
     }
     assert!(rt; left.is_empty());

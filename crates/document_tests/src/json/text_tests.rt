@@ -1,7 +1,7 @@
 //! Each type of BSON 1.1 as text. The expected texts are written by hand in Extended JSON, and are those that Python's
 //! `json.dumps` gives without spaces.
 
-use bson_codec::check_bson;
+use bson_codec::{RawDoc, check_bson};
 use ext_json::{Shown, first_bad_text, show_text, write_text};
 use fle_outside::MemSink;
 use sample_documents::PING;
@@ -9,18 +9,31 @@ use std::alloc::Global;
 use std::process::Abort;
 use std::test::Fail;
 
+// Whether this text is written where the sink takes so many bytes a call.
+fn is_written(
+    alloc: Global,
+    document: &RawDoc<'_>,
+    step: usize,
+    text: &[u8],
+) -> Result<bool, Fail> {
+    let mut out = MemSink::new(alloc, 200, step.max(1), Vec::new(alloc))?;
+    Ok(write_text(document, &mut out).is_ok() && out.written() == text)
+}
+
+// Whether it is shown.
+fn is_shown(alloc: Global, document: &RawDoc<'_>, step: usize, text: &[u8]) -> Result<bool, Fail> {
+    let mut out = MemSink::new(alloc, 200, step.max(1), Vec::new(alloc))?;
+    Ok(show_text(document, &mut out) == Shown::Written && out.written() == text)
+}
+
 // The document has this text, however the sink cuts it.
 fn expect_text(rt: &impl Abort, alloc: Global, bytes: &[u8], text: &[u8]) -> Result<(), Fail> {
     assert!(rt; bytes.len() < 200);
     let document = check_bson(bytes)?;
     assert!(rt; first_bad_text(&document) == None);
     for step in [1usize, 7, 200] {
-        let mut out = MemSink::new(alloc, 200, step, Vec::new(alloc))?;
-        assert!(rt; write_text(&document, &mut out).is_ok());
-        assert!(rt; out.written() == text);
-        let mut out = MemSink::new(alloc, 200, step, Vec::new(alloc))?;
-        assert!(rt; show_text(&document, &mut out) == Shown::Written);
-        assert!(rt; out.written() == text);
+        assert!(rt; is_written(alloc, &document, step, text)?);
+        assert!(rt; is_shown(alloc, &document, step, text)?);
     }
     Ok(())
 }
@@ -240,12 +253,17 @@ fn the_first_place_that_is_not_utf8_is_told(rt: HostRuntime) -> Result<(), Fail>
 
 #[test]
 fn a_full_sink_holds_a_front_of_the_text(rt: HostRuntime) -> Result<(), Fail> {
-    let alloc = rt.alloc();
     let document = check_bson(b"\x08\x00\x00\x00\x0Aa\x00\x00")?;
-    let mut out = MemSink::new(alloc, 9, 4, Vec::new(alloc))?;
+    let mut out = MemSink::new(rt.alloc(), 9, 4, Vec::new(rt.alloc()))?;
     assert!(rt; write_text(&document, &mut out).is_err());
     assert!(rt; out.written() == br#"{"a":null"#.as_slice());
-    let mut out = MemSink::new(alloc, 9, 4, Vec::new(alloc))?;
+    Ok(())
+}
+
+#[test]
+fn a_full_sink_holds_a_front_of_what_is_shown(rt: HostRuntime) -> Result<(), Fail> {
+    let document = check_bson(b"\x08\x00\x00\x00\x0Aa\x00\x00")?;
+    let mut out = MemSink::new(rt.alloc(), 9, 4, Vec::new(rt.alloc()))?;
     assert!(rt; show_text(&document, &mut out) == Shown::Failed);
     assert!(rt; out.written() == br#"{"a":null"#.as_slice());
     Ok(())

@@ -1,7 +1,9 @@
 //! Files of collection infos, as MongoDB's `listCollections` answers them.
 
-use crate::schema::test_documents::{NO_PROPERTIES, joined, put_document, within};
-use encrypt_schema::{Algorithm, Class, InfoFault, InfoKind, Infos, KeyRef, Policy, SchemaFault};
+use crate::schema::test_documents::{joined, put_document};
+use encrypt_schema::{
+    Algorithm, Class, InfoFault, InfoKind, Infos, KeyRef, Policy, Rows, SchemaFault,
+};
 use sample_documents::PEOPLE;
 use std::alloc::Global;
 use std::test::Fail;
@@ -26,11 +28,16 @@ const CUT: &[u8] = b"\x05\x00\x00";
 /// The longest file that a test makes.
 const LONGEST: usize = 100_000;
 
-/// A file of infos with these elements.
-fn file_of(alloc: Global, infos: &[&[u8]]) -> Result<Vec<u8>, Fail> {
+/// `options` with the schema `{properties: true}`, whose form is wrong.
+const BAD_SCHEMA: &[u8] =
+    b"\x03options\x00\x34\x00\x00\x00\x03validator\x00\x24\x00\x00\x00\x03$jsonSchema\x00\x12\x00\x00\x00\
+      \x08properties\x00\x01\x00\x00\x00";
+
+/// A file of infos, each with the elements of these parts.
+fn file_of(alloc: Global, infos: &[&[&[u8]]]) -> Result<Vec<u8>, Fail> {
     let mut file = Vec::new(alloc);
-    for elements in infos {
-        put_document(&mut file, elements)?;
+    for parts in infos {
+        put_document(&mut file, &joined(alloc, parts)?)?;
     }
     Ok(file)
 }
@@ -47,8 +54,8 @@ fn fault(alloc: Global, file: &[u8]) -> Result<(u32, Option<InfoKind>), Fail> {
     }
 }
 
-/// The same of a file of infos with these elements.
-fn fault_of(alloc: Global, infos: &[&[u8]]) -> Result<(u32, Option<InfoKind>), Fail> {
+/// The same of a file of infos, each with the elements of these parts.
+fn fault_of(alloc: Global, infos: &[&[&[u8]]]) -> Result<(u32, Option<InfoKind>), Fail> {
     let file = file_of(alloc, infos)?;
     fault(alloc, &file)
 }
@@ -67,19 +74,34 @@ fn is_policy(policy: Option<&Policy>, algorithm: Algorithm, int: bool) -> bool {
 }
 
 #[test]
-fn two_rules_of_one_collection(rt: HostRuntime) -> Result<(), Fail> {
+fn a_collection_is_found_by_its_name(rt: HostRuntime) -> Result<(), Fail> {
     let infos = Infos::load(rt.alloc(), PEOPLE)?;
     assert!(rt; infos.info_of(b"staff").is_none());
     let info = infos.info_of(b"people").ok_or("no people")?;
-    assert!(rt; !info.is_view());
-    assert!(rt; info.name() == b"people".as_slice());
-    let rows = info.rows();
+    assert!(rt; !info.is_view() && info.name() == b"people".as_slice());
+    Ok(())
+}
+
+/// The class of a name.
+fn class_of(rows: &Rows, name: &[u8]) -> Class {
+    rows.class(rows.walk(name).at)
+}
+
+#[test]
+fn two_rules_of_one_collection(rt: HostRuntime) -> Result<(), Fail> {
+    let infos = Infos::load(rt.alloc(), PEOPLE)?;
+    let rows = infos.info_of(b"people").ok_or("no people")?.rows();
     assert!(rt; rows.len() == 2);
     assert!(rt; is_policy(rows.policy(0), Algorithm::Deterministic, false));
     assert!(rt; is_policy(rows.policy(1), Algorithm::Random, true));
-    assert!(rt; rows.class(rows.walk(b"ssn").at) == Class::Protected(0));
-    assert!(rt; rows.class(rows.walk(b"salary").at) == Class::Protected(1));
-    assert!(rt; rows.class(rows.walk(b"name").at) == Class::Clear);
+    let classes: &[(&[u8], Class)] = &[
+        (b"ssn", Class::Protected(0)),
+        (b"salary", Class::Protected(1)),
+        (b"name", Class::Clear),
+    ];
+    for (name, class) in classes {
+        assert!(rt; class_of(rows, name) == *class);
+    }
     Ok(())
 }
 
@@ -112,67 +134,68 @@ fn an_info_has_fields_of_one_form(rt: HostRuntime) -> Result<(), Fail> {
         (&[NAME, b"\x08info\x00\x01"], true),
     ];
     for (parts, good) in cases {
-        let elements = joined(rt.alloc(), parts)?;
-        let file = file_of(rt.alloc(), &[&elements])?;
         let expected = if *good {
             (0, None)
         } else {
             (1, Some(InfoKind::Shape))
         };
-        assert!(rt; fault(rt.alloc(), &file)? == expected);
+        assert!(rt; fault_of(rt.alloc(), &[*parts])? == expected);
     }
     Ok(())
-}
-
-/// The elements of an info of the name `c`, with these other elements and the schema `{properties: true}`,
-/// whose form is wrong.
-fn with_bad_schema(alloc: Global, other: &[u8]) -> Result<Vec<u8>, Fail> {
-    let path: &[&[u8]] = &[b"options", b"validator", b"$jsonSchema"];
-    let mut elements = joined(alloc, &[NAME])?;
-    elements.extend_from_slice(other)?;
-    elements.extend_from_slice(&within(alloc, path, &[NO_PROPERTIES])?)?;
-    Ok(elements)
 }
 
 #[test]
 fn a_form_a_name_and_a_schema_are_judged_in_order(rt: HostRuntime) -> Result<(), Fail> {
-    let alloc = rt.alloc();
-    let good = joined(alloc, &[NAME])?;
-    let shapeless = joined(alloc, &[VIEW])?;
-    let bad = with_bad_schema(alloc, b"")?;
-    let bad_twice = with_bad_schema(alloc, NAME)?;
-    let schema = Some(InfoKind::Schema(SchemaFault::Shape));
-    assert!(rt; fault_of(alloc, &[&bad])? == (1, schema));
-    assert!(rt; fault_of(alloc, &[&good, &bad])? == (2, Some(InfoKind::Twice)));
-    assert!(rt; fault_of(alloc, &[&good, &bad_twice])? == (2, Some(InfoKind::Shape)));
-    assert!(rt; fault_of(alloc, &[&good, &good])? == (2, Some(InfoKind::Twice)));
-    assert!(rt; fault_of(alloc, &[&good, &shapeless, &bad])? == (2, Some(InfoKind::Shape)));
+    let cases: &[(&[&[&[u8]]], u32, InfoKind)] = &[
+        (
+            &[&[NAME, BAD_SCHEMA]],
+            1,
+            InfoKind::Schema(SchemaFault::Shape),
+        ),
+        (&[&[NAME], &[NAME, BAD_SCHEMA]], 2, InfoKind::Twice),
+        (&[&[NAME], &[NAME, NAME, BAD_SCHEMA]], 2, InfoKind::Shape),
+        (&[&[NAME], &[NAME]], 2, InfoKind::Twice),
+        (&[&[NAME], &[VIEW], &[NAME, BAD_SCHEMA]], 2, InfoKind::Shape),
+    ];
+    for (infos, document, kind) in cases {
+        assert!(rt; fault_of(rt.alloc(), infos)? == (*document, Some(*kind)));
+    }
     Ok(())
+}
+
+/// The same of such a file, at whose end a document ends too soon.
+fn fault_before_cut(alloc: Global, infos: &[&[&[u8]]]) -> Result<(u32, Option<InfoKind>), Fail> {
+    let mut file = file_of(alloc, infos)?;
+    file.extend_from_slice(CUT)?;
+    fault(alloc, &file)
 }
 
 #[test]
 fn documents_are_judged_one_after_another(rt: HostRuntime) -> Result<(), Fail> {
-    let alloc = rt.alloc();
-    assert!(rt; fault(alloc, CUT)? == (1, Some(InfoKind::Bson)));
-    let mut file = file_of(alloc, &[NAME])?;
-    file.extend_from_slice(CUT)?;
-    assert!(rt; fault(alloc, &file)? == (2, Some(InfoKind::Bson)));
-    let mut file = file_of(alloc, &[VIEW])?;
-    file.extend_from_slice(CUT)?;
-    assert!(rt; fault(alloc, &file)? == (1, Some(InfoKind::Shape)));
+    let cases: &[(&[&[&[u8]]], u32, InfoKind)] = &[
+        (&[], 1, InfoKind::Bson),
+        (&[&[NAME]], 2, InfoKind::Bson),
+        (&[&[VIEW]], 1, InfoKind::Shape),
+    ];
+    for (infos, document, kind) in cases {
+        assert!(rt; fault_before_cut(rt.alloc(), infos)? == (*document, Some(*kind)));
+    }
     Ok(())
+}
+
+/// The infos of a view whose schema has a wrong form.
+fn bad_view(alloc: Global) -> Result<Infos, Fail> {
+    let file = file_of(alloc, &[&[NAME, VIEW, BAD_SCHEMA]])?;
+    if file.len() > LONGEST {
+        return Err("a test's file is too long".into());
+    }
+    Ok(Infos::load(alloc, &file)?)
 }
 
 #[test]
 fn the_schema_of_a_view_is_not_read(rt: HostRuntime) -> Result<(), Fail> {
-    let elements = with_bad_schema(rt.alloc(), VIEW)?;
-    let file = file_of(rt.alloc(), &[&elements])?;
-    if file.len() > LONGEST {
-        return Err("a test's file is too long".into());
-    }
-    let infos = Infos::load(rt.alloc(), &file)?;
+    let infos = bad_view(rt.alloc())?;
     let info = infos.info_of(b"c").ok_or("no view")?;
-    assert!(rt; info.is_view());
-    assert!(rt; info.rows().len() == 0);
+    assert!(rt; info.is_view() && info.rows().len() == 0);
     Ok(())
 }

@@ -5,18 +5,26 @@ use encrypt_schema::{Class, KeyRef, Policy, Rows, Walk, is_dollar, is_position};
 use std::alloc::Global;
 use std::test::Fail;
 
-/// The rules of [ssn], [a, b] and [a, c, d], in this order, with the keys 1, 2 and 1.
-fn three_rules(alloc: Global) -> Result<Rows, Fail> {
-    let ssn = within(alloc, &[b"ssn", b"encrypt"], &[KEY_1, RANDOM])?;
+/// The field `a` with the fields `b`, under key 2, and `c`, whose `d` is under key 1.
+fn field_a(alloc: Global) -> Result<Vec<u8>, Fail> {
     let b = within(alloc, &[b"b", b"encrypt"], &[KEY_2, RANDOM])?;
     let c = within(
         alloc,
         &[b"c", b"properties", b"d", b"encrypt"],
         &[KEY_1, RANDOM],
     )?;
-    let a = within(alloc, &[b"a", b"properties"], &[&b, &c])?;
+    within(alloc, &[b"a", b"properties"], &[&b, &c])
+}
+
+/// The rules of [ssn], [a, b] and [a, c, d], in this order, with the keys 1, 2 and 1.
+fn three_rules(alloc: Global) -> Result<Rows, Fail> {
+    let ssn = within(alloc, &[b"ssn", b"encrypt"], &[KEY_1, RANDOM])?;
+    let a = field_a(alloc)?;
     let schema = within(alloc, &[b"properties"], &[&ssn, &a])?;
-    Ok(rules(alloc, &schema)?.ok().ok_or("a schema is refused")?)
+    match rules(alloc, &schema)? {
+        Ok(rows) => Ok(rows),
+        Err(_) => Err("a schema is refused".into()),
+    }
 }
 
 fn has_key(policy: Option<&Policy>, key: u8) -> bool {
@@ -43,11 +51,17 @@ fn rules_in_order(rt: HostRuntime) -> Result<(), Fail> {
 }
 
 #[test]
-fn classes_of_paths(rt: HostRuntime) -> Result<(), Fail> {
+fn a_name_is_a_step_from_the_root(rt: HostRuntime) -> Result<(), Fail> {
     let rows = three_rules(rt.alloc())?;
     let root = rows.root();
     assert!(rt; rows.class(root) == Class::Above);
     assert!(rt; rows.class(rows.step(root, b"ssn")) == Class::Protected(0));
+    Ok(())
+}
+
+#[test]
+fn classes_of_paths(rt: HostRuntime) -> Result<(), Fail> {
+    let rows = three_rules(rt.alloc())?;
     let cases: &[(&[u8], Class)] = &[
         (b"ssn.x", Class::Below),
         (b"a", Class::Above),
@@ -78,9 +92,11 @@ fn positions_on_the_way(rt: HostRuntime) -> Result<(), Fail> {
     for (dotted, class, positional) in cases {
         assert!(rt; seen(&rows, dotted) == (*class, *positional));
     }
-    assert!(rt; is_position(b"0"));
-    assert!(rt; !is_position(b"0x"));
-    assert!(rt; !is_position(b""));
-    assert!(rt; is_dollar(b"$set"));
     Ok(())
+}
+
+#[test]
+fn positions_are_of_digits(rt: HostRuntime) {
+    assert!(rt; is_position(b"0") && !is_position(b"0x") && !is_position(b""));
+    assert!(rt; is_dollar(b"$set"));
 }

@@ -20,6 +20,9 @@ const LIST_OF_INT: &[u8] = b"\x04bsonType\x00\x10\x00\x00\x00\x020\x00\x04\x00\x
 /// `bsonType: "double"`.
 const DOUBLE: &[u8] = b"\x02bsonType\x00\x07\x00\x00\x00double\x00";
 
+/// `bsonType: "object"`.
+const OBJECT: &[u8] = b"\x02bsonType\x00\x07\x00\x00\x00object\x00";
+
 /// `bsonType: "bool"`.
 const BOOL: &[u8] = b"\x02bsonType\x00\x05\x00\x00\x00bool\x00";
 
@@ -69,20 +72,29 @@ fn class_of(rows: &Rows, dotted: &[u8]) -> Class {
     rows.class(rows.walk(dotted).at)
 }
 
+/// Whether the only rule is of K1 and this algorithm, and allows an int.
+fn is_only_policy(rows: &Rows, algorithm: Algorithm) -> bool {
+    rows.len() == 1 && is_policy(rows.policy(0), algorithm, b'1', false)
+}
+
+/// `properties: {a: {..., encryptMetadata: {...}, properties: {b: {encrypt: {bsonType: "int"}}}}}` with these elements
+/// in front and this metadata.
+fn field_a(alloc: Global, front: &[u8], metadata: &[&[u8]]) -> Result<Vec<u8>, Fail> {
+    let metadata = within(alloc, &[b"encryptMetadata"], metadata)?;
+    let below = within(alloc, &[b"properties", b"b", b"encrypt"], &[INT])?;
+    within(alloc, &[b"properties", b"a"], &[front, &metadata, &below])
+}
+
 /// `{encryptMetadata: {keyId: [K2], algorithm: RAND}, properties: {a: {encryptMetadata: {keyId: [K1]},
 /// properties: {b: {encrypt: {bsonType: "int"}}}}}}`.
 #[test]
 fn the_nearest_metadata_counts(rt: HostRuntime) -> Result<(), Fail> {
-    let alloc = rt.alloc();
-    let near = within(alloc, &[b"encryptMetadata"], &[KEY_1])?;
-    let far = within(alloc, &[b"encryptMetadata"], &[KEY_2, RANDOM])?;
-    let below = within(alloc, &[b"properties", b"b", b"encrypt"], &[INT])?;
-    let a = within(alloc, &[b"properties", b"a"], &[&near, &below])?;
-    let rows = rows_of(alloc, &[&far, &a])?;
-    assert!(rt; rows.len() == 1);
+    let far = within(rt.alloc(), &[b"encryptMetadata"], &[KEY_2, RANDOM])?;
+    let a = field_a(rt.alloc(), b"", &[KEY_1])?;
+    let rows = rows_of(rt.alloc(), &[&far, &a])?;
+    assert!(rt; is_only_policy(&rows, Algorithm::Random));
     assert!(rt; class_of(&rows, b"a.b") == Class::Protected(0));
     assert!(rt; class_of(&rows, b"a") == Class::Above);
-    assert!(rt; is_policy(rows.policy(0), Algorithm::Random, b'1', false));
     Ok(())
 }
 
@@ -90,15 +102,10 @@ fn the_nearest_metadata_counts(rt: HostRuntime) -> Result<(), Fail> {
 /// {encrypt: {bsonType: "int"}}}}}}`.
 #[test]
 fn a_field_of_a_field_is_protected(rt: HostRuntime) -> Result<(), Fail> {
-    let alloc = rt.alloc();
-    let object = joined(alloc, &[b"\x02bsonType\x00\x07\x00\x00\x00object\x00"])?;
-    let metadata = within(alloc, &[b"encryptMetadata"], &[KEY_1, DETERMINISTIC])?;
-    let below = within(alloc, &[b"properties", b"b", b"encrypt"], &[INT])?;
-    let a = within(alloc, &[b"properties", b"a"], &[&object, &metadata, &below])?;
-    let rows = rows_of(alloc, &[&a])?;
-    assert!(rt; rows.len() == 1);
+    let a = field_a(rt.alloc(), OBJECT, &[KEY_1, DETERMINISTIC])?;
+    let rows = rows_of(rt.alloc(), &[&a])?;
+    assert!(rt; is_only_policy(&rows, Algorithm::Deterministic));
     assert!(rt; class_of(&rows, b"a.b") == Class::Protected(0));
-    assert!(rt; is_policy(rows.policy(0), Algorithm::Deterministic, b'1', false));
     Ok(())
 }
 
@@ -114,9 +121,8 @@ fn metadata_of_a_sibling_is_not_in_force(rt: HostRuntime) -> Result<(), Fail> {
     Ok(())
 }
 
-/// `{encryptMetadata: {keyId: [K1], algorithm: RAND}, properties: {..}}` with so many fields that are protected,
-/// of names of two bytes.
-fn many_rules(alloc: Global, count: u32) -> Result<Result<Rows, SchemaFault>, Fail> {
+/// So many protected fields, of names of two bytes.
+fn many_fields(alloc: Global, count: u32) -> Result<Vec<u8>, Fail> {
     let mut fields = Vec::new(alloc);
     for i in 0..count {
         let name = [
@@ -126,6 +132,12 @@ fn many_rules(alloc: Global, count: u32) -> Result<Result<Rows, SchemaFault>, Fa
         let field = within(alloc, &[&name, b"encrypt"], &[])?;
         fields.extend_from_slice(&field)?;
     }
+    Ok(fields)
+}
+
+/// The rules of `{encryptMetadata: {keyId: [K1], algorithm: RAND}, properties: {..}}` with so many such fields.
+fn many_rules(alloc: Global, count: u32) -> Result<Result<Rows, SchemaFault>, Fail> {
+    let fields = many_fields(alloc, count)?;
     let metadata = within(alloc, &[b"encryptMetadata"], &[KEY_1, RANDOM])?;
     let properties = within(alloc, &[b"properties"], &[&fields])?;
     let elements = joined(alloc, &[&metadata, &properties])?;
@@ -133,15 +145,17 @@ fn many_rules(alloc: Global, count: u32) -> Result<Result<Rows, SchemaFault>, Fa
 }
 
 #[test]
+fn there_may_be_4096_rules(rt: HostRuntime) -> Result<(), Fail> {
+    let Ok(rows) = many_rules(rt.alloc(), 4096)? else {
+        return Err("the schema is refused".into());
+    };
+    assert!(rt; rows.len() == 4096);
+    assert!(rt; is_policy(rows.policy(4095), Algorithm::Random, b'1', true));
+    Ok(())
+}
+
+#[test]
 fn the_4097th_rule_is_one_too_many(rt: HostRuntime) -> Result<(), Fail> {
-    match many_rules(rt.alloc(), 4096)? {
-        Ok(rows) => {
-            assert!(rt; rows.len() == 4096);
-            assert!(rt; is_policy(rows.policy(4095), Algorithm::Random, b'1', true));
-        }
-        Err(_) => assert!(rt; false),
-    }
-    let found = many_rules(rt.alloc(), 4097)?.err();
-    assert!(rt; found == Some(SchemaFault::TooMany));
+    assert!(rt; many_rules(rt.alloc(), 4097)?.err() == Some(SchemaFault::TooMany));
     Ok(())
 }

@@ -2,7 +2,7 @@
 
 use crate::schema::test_documents::{INT, KEY_1, RANDOM, rules, within};
 use bson_codec::check_bson;
-use encrypt_schema::{Reason, type_allowed};
+use encrypt_schema::{Policy, Reason, type_allowed};
 use std::alloc::Global;
 use std::test::Fail;
 
@@ -42,14 +42,24 @@ fn refused(alloc: Global, types: &[u8], document: &[u8]) -> Result<Option<Reason
         &[b"properties", b"a", b"encrypt"],
         &[KEY_1, RANDOM, types],
     )?;
-    let rows = rules(alloc, &elements)?.ok().ok_or("a schema is refused")?;
-    let policy = rows.policy(0).ok_or("no rule")?;
+    let Ok(rows) = rules(alloc, &elements)? else {
+        return Err("a schema is refused".into());
+    };
+    match rows.policy(0) {
+        Some(policy) => judged(policy, document),
+        None => Err("no rule".into()),
+    }
+}
+
+/// The same under this rule.
+fn judged(policy: &Policy, document: &[u8]) -> Result<Option<Reason>, Fail> {
     if document.len() > 100 {
         return Err("a test's document is too long".into());
     }
-    let document = check_bson(document)?;
-    let item = document.items().next().ok_or("no element")?;
-    Ok(type_allowed(policy, &item))
+    match check_bson(document)?.items().next() {
+        Some(item) => Ok(type_allowed(policy, &item)),
+        None => Err("no element".into()),
+    }
 }
 
 #[test]

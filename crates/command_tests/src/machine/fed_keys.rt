@@ -1,0 +1,79 @@
+//! The keys that the tests feed.
+
+use crate::machine::decrypting_samples::{ID, OTHER_ID, material, other_material};
+use crate::machine::sealing_samples::SECOND_ID;
+use bson_tree::{Bytes, Names};
+use data_key::{KeyDoc, Provider};
+use std::alloc::{AllocError, Global};
+use std::test::Fail;
+
+/// Which key is fed.
+#[derive(Clone, Copy)]
+pub(crate) enum Fed {
+    /// The key of `ID`.
+    Right,
+    /// The same, the last byte of its tag another.
+    Damaged,
+    /// The same, but a key service holds its master key.
+    Foreign,
+    /// A key of `SECOND_ID`, with the same material.
+    Second,
+    /// The key of `OTHER_ID`.
+    Other,
+    /// A key of an id that nothing names.
+    Unneeded,
+}
+
+impl Fed {
+    /// Its id.
+    fn id(&self) -> [u8; 16] {
+        match self {
+            Fed::Second => SECOND_ID,
+            Fed::Other => OTHER_ID,
+            Fed::Unneeded => [9; 16],
+            _ => ID,
+        }
+    }
+
+    /// Its data key, sealed.
+    fn material(&self) -> [u8; 160] {
+        let mut material = match self {
+            Fed::Other => other_material(),
+            _ => material(),
+        };
+        if matches!(self, Fed::Damaged) {
+            material[159] ^= 1;
+        }
+        material
+    }
+
+    /// Who holds its master key.
+    fn provider(&self) -> Provider {
+        match self {
+            Fed::Foreign => Provider::Other,
+            _ => Provider::Local,
+        }
+    }
+
+    /// The key that a vault has of it.
+    fn key(&self, alloc: Global) -> Result<KeyDoc, AllocError> {
+        let material = Vec::from_slice(alloc, &self.material())?;
+        Ok(KeyDoc {
+            id: self.id(),
+            names: Names::new(alloc),
+            material: Bytes::from_vec(material),
+            provider: self.provider(),
+        })
+    }
+}
+
+/// These keys.
+pub(crate) fn keys(alloc: Global, fed: &[Fed]) -> Result<Vec<KeyDoc>, Fail> {
+    let mut keys = Vec::new(alloc);
+    for each in fed {
+        if keys.push(each.key(alloc)?).is_err() {
+            return Err("no memory".into());
+        }
+    }
+    Ok(keys)
+}
