@@ -10,6 +10,9 @@
 //! the same line.
 #![tactic(auto)]
 
+ghost use Rattle.std.specs.Prelude.{◌≡◌, ◌≤◌, length, IfOk};
+ghost use Rattle.fle_bench.specs.declared.job.TheConstants.{MOST_BYTES};
+
 mod aead;
 mod bson;
 mod cbc;
@@ -23,8 +26,9 @@ mod payload;
 mod rules;
 mod sealing;
 
-use crate::job::{Direction, MOST_BYTES, Subject, subject_of};
+use crate::job::{Direction, KeySetup, MOST_BYTES, Subject, subject_of};
 use fle_outside::StdinSource;
+use std::alloc::Global;
 use std::env;
 use std::io::Input;
 
@@ -40,41 +44,64 @@ fn main(rt: HostRuntime) -> anyhow::Result<()> {
     };
     let size = bytes.parse::<usize>()?;
     let turns = times.parse::<u32>()?;
+    let checksum = run(&rt, subject, size, turns)?;
+    println!(rt; "{word} {size} {turns} {checksum:08x}")?;
+    Ok(())
+}
+
+/// The checksum of a subject that is run so many times over a message of this many bytes.
+fn run(rt: &HostRuntime, subject: Subject, size: usize, turns: u32) -> anyhow::Result<u32> {
     if size > MOST_BYTES {
         anyhow::bail!("the message is longer than 64 MiB");
     }
-    if let Subject::Hmac(_) = subject {
-        if size < 16 {
-            anyhow::bail!("the message of a code is shorter than 16 bytes");
-        }
-    }
-    let checksum = match subject {
-        Subject::Cbc(direction, way) => cbc::run(rt.alloc(), direction, way, size, turns)?,
-        Subject::Hmac(setup) => hmac::run(rt.alloc(), setup, size, turns)?,
-        Subject::AeadSeal(setup) => aead::run_sealing(rt.alloc(), setup, size, turns)?,
-        Subject::AeadOpen => aead::run_opening(rt.alloc(), size, turns)?,
+    match subject {
+        Subject::Cbc(direction, way) => Ok(cbc::run(rt.alloc(), direction, way, size, turns)?),
+        Subject::Hmac(setup) => run_code(rt.alloc(), setup, size, turns),
+        Subject::AeadSeal(setup) => Ok(aead::run_sealing(rt.alloc(), setup, size, turns)?),
+        Subject::AeadOpen => Ok(aead::run_opening(rt.alloc(), size, turns)?),
         Subject::Payload(Direction::Seal, algorithm) => {
-            payload::run_sealing(rt.alloc(), algorithm, size, turns)?
+            Ok(payload::run_sealing(rt.alloc(), algorithm, size, turns)?)
         }
         Subject::Payload(Direction::Open, algorithm) => {
-            payload::run_opening(rt.alloc(), algorithm, size, turns)?
+            Ok(payload::run_opening(rt.alloc(), algorithm, size, turns)?)
         }
-        Subject::BsonCheck => {
-            let document = bson::document(rt.alloc(), &mut StdinSource::new(rt.reader()), size)?;
-            bson::run(&document, turns) as u32
-        }
-        Subject::RuleNames => {
-            let bytes = bson::document(rt.alloc(), &mut StdinSource::new(rt.reader()), size)?;
-            rules::run(rt.alloc(), &bytes, turns)
-        }
-        Subject::Document(direction) => {
-            let bytes = bson::document(rt.alloc(), &mut StdinSource::new(rt.reader()), size)?;
-            let Some(sum) = documents::run(rt.alloc(), direction, &bytes, turns) else {
-                anyhow::bail!("the input is not what is sealed or opened");
-            };
-            sum
-        }
-    };
-    println!(rt; "{word} {size} {turns} {checksum:08x}")?;
-    Ok(())
+        Subject::BsonCheck => Ok(bson::run(&read_input(rt, size)?, turns) as u32),
+        Subject::RuleNames => Ok(rules::run(rt.alloc(), &read_input(rt, size)?, turns)),
+        Subject::Document(direction) => run_document(
+            rt.alloc(),
+            direction,
+            &read_input(rt, size)?,
+            turns,
+        ),
+    }
+}
+
+/// The same of codes.
+fn run_code(alloc: Global, setup: KeySetup, size: usize, turns: u32) -> anyhow::Result<u32> {
+    if size < 16 {
+        anyhow::bail!("the message of a code is shorter than 16 bytes");
+    }
+    Ok(hmac::run(alloc, setup, size, turns)?)
+}
+
+/// The same of a document that is sealed or opened.
+fn run_document(
+    alloc: Global,
+    direction: Direction,
+    bytes: &[u8],
+    turns: u32,
+) -> anyhow::Result<u32>
+    requires { length bytes.now ≤ MOST_BYTES }
+{
+    match documents::run(alloc, direction, bytes, turns) {
+        Some(sum) => Ok(sum),
+        None => anyhow::bail!("the input is not what is sealed or opened"),
+    }
+}
+
+/// The first so many bytes of standard input.
+fn read_input(rt: &HostRuntime, size: usize) -> anyhow::Result<Vec<u8>>
+    ensures len { IfOk result (λ v. length v.items ≡ size) }
+{
+    Ok(bson::document(rt.alloc(), &mut StdinSource::new(rt.reader()), size)?)
 }
