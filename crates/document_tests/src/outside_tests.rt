@@ -40,7 +40,8 @@ fn folder_of_keys(alloc: Global) -> Result<MemFolder, Fail> {
     let name = String::from_str(alloc, "keys")?;
     let bytes = vec![in alloc; 7u8, 8, 9]?;
     let files = vec![in alloc; (name, bytes)]?;
-    Ok(MemFolder::new(files, vec![in alloc; 3u64]?))
+    let folder = MemFolder::new(files, vec![in alloc; 3u64]?);
+    Ok(folder)
 }
 
 #[test]
