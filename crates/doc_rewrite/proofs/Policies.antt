@@ -1,15 +1,17 @@
--- The site of a mark is read from its rule.
-use Rattle.std.proofs.Common.{◌≡◌, ℕ, zero, suc, ◌+◌, List, [], ◌∷◌, ◌++◌, length, Option, Some, None, slice_get}
-use Rattle.std.proofs.Common.{option_map, drop, refl, ap, ◌∙◌, sym, subst, arith, append_assoc}
+-- The site of a mark is read from its rule, and sites by their numbers.
+use Rattle.std.proofs.Common.{◌≡◌, ℕ, zero, suc, ◌+◌, ◌<◌, List, [], ◌∷◌, length, Option, Some, None, slice_get}
+use Rattle.std.proofs.Common.{option_map, drop, refl, ap, ◌∙◌, sym, subst, arith}
+use Rattle.std.proofs.lemmas.Option.{slice_get-map}
 use Rattle.std.specs.Prelude.{MatchOption}
+use Rattle.bson_splice.specs.Spans.{IsNextAt}
 use Rattle.encrypt_schema.specs.declared.command.marks.Mark.{Mark}
 use Rattle.encrypt_schema.specs.declared.schema.policy.Policy.{Policy}
 use Rattle.encrypt_schema.specs.Language.Row.{Row}
 use Rattle.encrypt_schema.proofs.Language.PolicyAt.{policy_found}
 use Rattle.payload6.specs.Marking.{key_id}
 use Rattle.doc_rewrite.specs.declared.site.Site.{Site}
-use Rattle.doc_rewrite.specs.Plans.{AreLong}
-use Rattle.doc_rewrite.specs.Sites.{site_of, sites_of}
+use Rattle.doc_rewrite.specs.Plans.{AreRuled}
+use Rattle.doc_rewrite.specs.Sites.{site_of, sites_of, spans_of}
 
 pub site_found : (rows : List Row) (m : Mark) (policy : Policy) (site : Site)
     → option_map (λ (row : Row). row.policy) (slice_get rows m.policy) ≡ Some policy
@@ -19,37 +21,52 @@ site_found rows m policy site found is =
     is ∙ ap (λ (p : Policy). record { start = m.start; end = m.end; algorithm = p.algorithm; key_id = key_id p.key })
     (sym (policy_found m.policy rows policy found))
 
--- the mark of a number, and those behind it
-pub no_mark : (i : ℕ) (ms : List Mark) → slice_get ms i ≡ None → drop i ms ≡ []
-no_mark zero [] e = refl
-no_mark (suc i) [] e = refl
-no_mark zero (m ∷ ms) e = absurd cc
-no_mark (suc i) (m ∷ ms) e = no_mark i ms e
+-- what has a number, and what stands behind it
+none_left : {A : Type 0} (i : ℕ) (xs : List A) → slice_get xs i ≡ None → drop i xs ≡ []
+none_left zero [] e = refl
+none_left (suc i) [] e = refl
+none_left zero (x ∷ xs) e = absurd cc
+none_left (suc i) (x ∷ xs) e = none_left i xs e
 
-pub mark_first : (i : ℕ) (ms : List Mark) (m : Mark) → slice_get ms i ≡ Some m → drop i ms ≡ m ∷ drop (i + 1) ms
-mark_first i [] m e = absurd cc
-mark_first zero (n ∷ ms) m e = cc
-mark_first (suc i) (n ∷ ms) m e =
+one_left : {A : Type 0} (i : ℕ) (xs : List A) (x : A) → slice_get xs i ≡ Some x → drop i xs ≡ x ∷ drop (i + 1) xs
+one_left i [] x e = absurd cc
+one_left zero (y ∷ xs) x e = cc
+one_left (suc i) (y ∷ xs) x e =
     let turned : suc (i + 1) ≡ suc i + 1 = omega arith in
-    subst (λ (k : ℕ). drop i ms ≡ m ∷ drop k (n ∷ ms)) turned (mark_first i ms m e)
+    subst (λ (k : ℕ). drop i xs ≡ x ∷ drop k (y ∷ xs)) turned (one_left i xs x e)
 
 -- by what is found
-pub marks_first : (i : ℕ) (ms : List Mark) (found : Option Mark) → found ≡ slice_get ms i
-    → MatchOption found (drop i ms ≡ []) (λ m. drop i ms ≡ m ∷ drop (i + 1) ms)
-marks_first i ms None e = no_mark i ms (sym e)
-marks_first i ms (Some m) e = mark_first i ms m (sym e)
+pub first_left : {A : Type 0} (i : ℕ) (xs : List A) (found : Option A) → found ≡ slice_get xs i
+    → MatchOption found (drop i xs ≡ []) (λ x. drop i xs ≡ x ∷ drop (i + 1) xs)
+first_left i xs None e = none_left i xs (sym e)
+first_left i xs (Some x) e = one_left i xs x (sym e)
 
--- one site more
-pub long_more : (ss : List Site) (s : Site) → AreLong ss → length s.key_id ≡ 16 → AreLong (ss ++ s ∷ [])
-long_more [] s are long = (long, tt)
-long_more (t ∷ ss) s are long = (are.0, long_more ss s are.1 long)
+-- where the next site begins
+pub next_start : (i : ℕ) (ss : List Site) (found : Option ℕ)
+    → found ≡ option_map (λ (s : Site). s.start) (slice_get ss i)
+    → MatchOption found (spans_of (drop i ss) ≡ []) (λ at. IsNextAt (spans_of (drop i ss)) at)
+next_start zero [] None e = refl
+next_start (suc i) [] None e = refl
+next_start i [] (Some at) e = absurd cc
+next_start zero (s ∷ ss) None e = absurd cc
+next_start zero (s ∷ ss) (Some at) e = cc
+next_start (suc i) (s ∷ ss) None e = next_start i ss None e
+next_start (suc i) (s ∷ ss) (Some at) e = next_start i ss (Some at) e
 
--- what was made of the marks that were read, and what is left
-pub one_site : (rows : List Row) (ss all : List Site) (m : Mark) (ms left : List Mark) (s : Site)
-    → ss ++ sites_of rows left ≡ all
-    → left ≡ m ∷ ms → s ≡ site_of rows m → (ss ++ s ∷ []) ++ sites_of rows ms ≡ all
-one_site rows ss all m ms left s made first is =
-    append_assoc ss (s ∷ []) (sites_of rows ms)
-    ∙ ap (λ (x : Site). ss ++ (x ∷ sites_of rows ms)) is
-    ∙ ap (λ (ns : List Mark). ss ++ sites_of rows ns) (sym first)
-    ∙ made
+-- a mark is of a rule that is there
+pub ruled_at : (n i : ℕ) (ms : List Mark) (m : Mark) → AreRuled n ms → Some m ≡ slice_get ms i → m.policy < n
+ruled_at n i [] m are e = absurd cc
+ruled_at n zero (k ∷ ms) m are e =
+    let same : k ≡ m = cc in
+    subst (λ (x : Mark). x.policy < n) same are.0
+ruled_at n (suc i) (k ∷ ms) m are e = ruled_at n i ms m are.1 e
+
+-- the site of a mark is that of its number
+pub site_is : (rows : List Row) (ms : List Mark) (i : ℕ) (m : Mark) (s : Site) → Some m ≡ slice_get ms i
+    → s ≡ site_of rows m → Some s ≡ slice_get (sites_of rows ms) i
+site_is rows ms i m s e is =
+    ap Some is ∙ ap (option_map (site_of rows)) e ∙ sym (slice_get-map (site_of rows) ms i)
+
+pub site_is_none : (rows : List Row) (ms : List Mark) (i : ℕ) → None ≡ slice_get ms i
+    → None ≡ slice_get (sites_of rows ms) i
+site_is_none rows ms i e = ap (option_map (site_of rows)) e ∙ sym (slice_get-map (site_of rows) ms i)

@@ -5,7 +5,7 @@
 //! sealed; [`seal_through`] writes it, and draws a random block for each value of the random algorithm.
 //!
 //! ```text
-//! let plan = plan_seal(alloc, &document, &marks, &rows)?;
+//! let plan = plan_seal(&document, &marks, &rows)?;
 //! let mut out = vec![in alloc; 0; plan.output_len()]?;
 //! seal_through(&plan, &document, &keys, &hooks, &mut entropy, &mut out)?;
 //! ```
@@ -33,6 +33,7 @@ mod placing;
 mod planning;
 mod sealing;
 mod site;
+mod sites;
 mod unsealing;
 mod vector;
 
@@ -40,7 +41,8 @@ pub use finding::{FindFault, find_payloads};
 pub use found::{Found, FoundAt};
 pub use key_table::{KeyEntry, KeyTable};
 pub use opening::open_through;
-pub use planning::{Plan, PlanFault, plan_clear, plan_seal, sites_of};
+pub use planning::{Plan, plan_clear, plan_seal};
 pub use sealing::seal_through;
 pub use site::Site;
+pub use sites::{Sites, sites_of};
 pub use unsealing::Spot;

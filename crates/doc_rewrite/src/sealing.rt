@@ -9,7 +9,7 @@ ghost use Rattle.doc_rewrite.specs.Sites.{draws_of, spans_of};
 use crate::key_table::{KeyTable, key_of};
 use crate::placing::put_sealed;
 use crate::planning::Plan;
-use crate::site::{Site, site_at};
+use crate::sites::{Sites, site_at, start_at};
 use crate::vector::vector_of;
 use bson_codec::{RawDoc, RawItem};
 use bson_splice::{Putter, Stopped, splice};
@@ -21,7 +21,7 @@ use fle_outside::{Entropy, Failed};
 struct Sealing<'a, 'n, B, N> {
     hooks: &'a B,
     keys: &'a KeyTable,
-    sites: &'a [Site],
+    sites: &'a Sites<'a>,
     next: usize,
     entropy: &'n mut N,
 }
@@ -41,10 +41,7 @@ impl<'a, 'n, B: Block256, N: Entropy> Putter for Sealing<'a, 'n, B, N> {
     ghost ready = { λ s. B.answers s.hooks.now × HasKeys (key_in s.keys.now) (drop s.next s.sites.now) };
 
     fn next_start(&self) -> Option<usize> {
-        match site_at(self.sites, self.next) {
-            Some(site) => Some(site.start as usize),
-            None => None,
-        }
+        start_at(self.sites, self.next)
     }
 
     fn put_next(
@@ -74,7 +71,7 @@ impl<'a, 'n, B: Block256, N: Entropy> Putter for Sealing<'a, 'n, B, N> {
 /// of its id, those of the random algorithm with a block each, drawn in reading order. `Failed` where a block couldn't
 /// be drawn: `out` may hold anything then. It takes no memory.
 pub fn seal_through<B: Block256, N: Entropy>(
-    plan: &Plan,
+    plan: &Plan<'_>,
     document: &RawDoc<'_>,
     keys: &KeyTable,
     hooks: &B,

@@ -1,6 +1,4 @@
-//! Values that are to be sealed.
-
-ghost use Rattle.std.specs.Prelude.{◌≡◌, ◌+◌, ◌<◌, ◌∷◌, [], drop, length, IfSome, MatchOption};
+//! A value that is to be sealed.
 
 use encrypt_schema::Algorithm;
 
@@ -15,17 +13,4 @@ pub struct Site {
     pub algorithm: Algorithm,
     /// The id of the data key that seals it, a UUID.
     pub key_id: [u8; 16],
-}
-
-/// The site of this number, counted from 0.
-pub(crate) fn site_at(sites: &[Site], i: usize) -> Option<Site>
-    ensures first { MatchOption result (drop i sites.now ≡ [])
-        (λ s. drop i sites.now ≡ s ∷ drop (i + 1) sites.now) }
-    ensures inside { IfSome result (λ s. i < length sites.now) }
-{
-    if i < sites.len() {
-        Some(sites[i])
-    } else {
-        None
-    }
 }

@@ -8,32 +8,21 @@ use Rattle.doc_rewrite.proofs.Growth.{sealed_long}
 use Rattle.doc_rewrite.proofs.planning.plan_seal.Goals as goal
 
 pub returns-then-size-clause-above : goal.returns-then-size-clause-above
-returns-then-size-clause-above c = λ _.
+returns-then-size-clause-above c =
     let ss = sites_of c.args.rows.now c.args.marks.now in
+    let is = c.sites_of-sites.ensures.sites in
     let size : length c.bytes.result.now + c.grown.result ≡ length (doc_bytes c.args.document.now.tree) + grown ss =
-    omega (
-      arith,
-      ap length c.bytes.ensures.spelling,
-      c.grown.ensures.grown,
-      ap grown c.deref.ensures.value,
-      ap grown c.in-Ok.ensures.sites,
-    ) in
-    let long : AreLong ss = subst (λ (xs : List Site). AreLong xs) c.in-Ok.ensures.sites c.in-Ok.ensures.long in
+    omega (arith, ap length c.bytes.ensures.spelling, c.grown.ensures.grown, ap grown is) in
+    let long : AreLong ss = subst (λ (xs : List Site). AreLong xs) is c.grown.ensures.long in
     (_, sealed_long ss c.args.document.now c.requires.stands.places _ size long, c.if-size.true)
 
 pub returns-clause-stands : goal.returns-clause-stands
 returns-clause-stands c =
     let ss = sites_of c.args.rows.now c.args.marks.now in
-    let is = c.in-Ok.ensures.sites in
+    let is = c.sites_of-sites.ensures.sites in
     let size : length c.bytes.result.now + c.grown.result ≡ length (doc_bytes c.args.document.now.tree) + grown ss =
-    omega (
-      arith,
-      ap length c.bytes.ensures.spelling,
-      c.grown.ensures.grown,
-      ap grown c.deref.ensures.value,
-      ap grown is,
-    ) in
-    let long : AreLong ss = subst (λ (xs : List Site). AreLong xs) is c.in-Ok.ensures.long in
+    omega (arith, ap length c.bytes.ensures.spelling, c.grown.ensures.grown, ap grown is) in
+    let long : AreLong ss = subst (λ (xs : List Site). AreLong xs) is c.grown.ensures.long in
     record {
       places = subst (λ (xs : List Site). StandsAt (spans_of xs) c.args.document.now) (sym is) c.requires.stands.places;
       size =

@@ -1,6 +1,6 @@
 use Rattle.std.proofs.Common.{rules}
 use Rattle.doc_rewrite.proofs.Policies.{site_found}
-use Rattle.doc_rewrite.proofs.planning.site_of.Goals as goal
+use Rattle.doc_rewrite.proofs.sites.site_of.Goals as goal
 
 pub returns : goal.returns
 returns c = record {

@@ -1,0 +1,182 @@
+//! The values of a document that are to be sealed, read from its marks and their rules.
+
+ghost use Rattle.std.specs.Prelude.{◌≡◌, ◌+◌, ◌<◌, ◌^◌, ◌∷◌, [], drop, length, option_map, slice_get, IfSome, MatchOption};
+ghost use Rattle.bson_splice.specs.Spans.{IsNextAt};
+ghost use Rattle.payload6.specs.Marking.{key_id};
+ghost use Rattle.doc_rewrite.specs.Plans.{AreRuled};
+ghost use Rattle.doc_rewrite.specs.Sites.{site_of as site_by, sites_of as sites_by, spans_of};
+
+use crate::site::Site;
+use encrypt_schema::{KeyRef, Mark, Marks, Policy, Rows};
+use std::marker::Model;
+
+/// Marks of rules that are there, seen as the list of their sites.
+#[derive(Drop)]
+struct Ruled<'a> {
+    marks: &'a Marks,
+    rows: &'a Rows,
+}
+
+impl<'a> Model for Ruled<'a> {
+    ghost use Rattle.std.specs.Prelude.{List, length};
+    ghost use Rattle.doc_rewrite.specs.declared.site.Site.{Site};
+    ghost use Rattle.doc_rewrite.specs.Plans.{AreRuled};
+    ghost use Rattle.doc_rewrite.specs.Sites.{sites_of};
+
+    ghost Value = { List Site };
+
+    ghost view = { λ r. sites_of r.rows.now r.marks.now };
+
+    ghost invariant = { λ r. AreRuled (length r.rows.now) r.marks.now };
+}
+
+impl<'a> Ruled<'a> {
+    /// How many marks there are.
+    fn len(&self) -> usize
+        ensures count { result ≡ length self.now }
+    {
+        self.marks.len()
+    }
+
+    /// The site of the mark of this number, counted from 0.
+    fn get(&self, i: usize) -> Option<Site>
+        ensures site { result ≡ slice_get self.now i }
+        ensures long { IfSome result (λ s. length s.key_id ≡ 16) }
+    {
+        match self.marks.get(i) {
+            Some(mark) => {
+                let site = site_of(&mark, self.rows);
+                Some(site)
+            }
+            None => None,
+        }
+    }
+
+    /// Where the value of the mark of this number begins.
+    fn start(&self, i: usize) -> Option<usize>
+        ensures start { result ≡ option_map (λ s. s.start) (slice_get self.now i) }
+    {
+        match self.marks.get(i) {
+            Some(mark) => Some(mark.start as usize),
+            None => None,
+        }
+    }
+}
+
+/// The values of a document that are to be sealed, seen as the list of their sites in reading order. Each site is read
+/// from its mark and the mark's rule when it is asked for, so no list of them takes memory.
+#[derive(Drop)]
+pub struct Sites<'a> {
+    /// None where no value is sealed.
+    ruled: Option<Ruled<'a>>,
+}
+
+impl<'a> Model for Sites<'a> {
+    ghost use Rattle.std.specs.Prelude.{List, [], unwrap_or};
+    ghost use Rattle.doc_rewrite.specs.declared.site.Site.{Site};
+
+    ghost Value = { List Site };
+
+    ghost view = { λ s. unwrap_or s.ruled [] };
+}
+
+impl<'a> Sites<'a> {
+    /// No value is sealed.
+    pub(crate) fn none() -> Sites<'a>
+        ensures empty { result ≡ [] }
+    {
+        Sites { ruled: None }
+    }
+
+    /// How many values are to be sealed.
+    pub fn len(&self) -> usize
+        ensures count { result ≡ length self.now }
+    {
+        match &self.ruled {
+            Some(ruled) => ruled.len(),
+            None => 0,
+        }
+    }
+
+    /// The value of this number, counted from 0; `None` exactly where the number isn't below `len`.
+    pub fn get(&self, i: usize) -> Option<Site>
+        ensures site { result ≡ slice_get self.now i }
+        ensures first { MatchOption result (drop i self.now ≡ []) (λ s. drop i self.now ≡ s ∷ drop (i + 1) self.now) }
+        ensures long { IfSome result (λ s. length s.key_id ≡ 16) }
+    {
+        match &self.ruled {
+            Some(ruled) => ruled.get(i),
+            None => None,
+        }
+    }
+
+    /// Where the value of this number begins.
+    pub(crate) fn start(&self, i: usize) -> Option<usize>
+        ensures start { result ≡ option_map (λ s. s.start) (slice_get self.now i) }
+    {
+        match &self.ruled {
+            Some(ruled) => ruled.start(i),
+            None => None,
+        }
+    }
+}
+
+/// The sites of marks, in their order. It takes no memory.
+pub fn sites_of<'a>(marks: &'a Marks, rows: &'a Rows) -> Sites<'a>
+    requires ruled { AreRuled (length rows.now) marks.now }
+    ensures sites { result ≡ sites_by rows.now marks.now }
+{
+    Sites {
+        ruled: Some(Ruled { marks, rows }),
+    }
+}
+
+/// The site of this number, counted from 0.
+pub(crate) fn site_at(sites: &Sites<'_>, i: usize) -> Option<Site>
+    ensures first { MatchOption result (drop i sites.now ≡ []) (λ s. drop i sites.now ≡ s ∷ drop (i + 1) sites.now) }
+    ensures long { IfSome result (λ s. length s.key_id ≡ 16) }
+    ensures counted { IfSome result (λ s. i + 1 < 2 ^ 64) }
+{
+    if i < sites.len() { sites.get(i) } else { None }
+}
+
+/// Where the next site begins, those before `i` being behind.
+pub(crate) fn start_at(sites: &Sites<'_>, i: usize) -> Option<usize>
+    ensures next { MatchOption result (spans_of (drop i sites.now) ≡ []) (λ at. IsNextAt (spans_of (drop i sites.now)) at) }
+{
+    sites.start(i)
+}
+
+/// The site of a mark.
+fn site_of(mark: &Mark, rows: &Rows) -> Site
+    requires ruled { mark.now.policy < length rows.now }
+    ensures site { result ≡ site_by rows.now mark.now }
+    ensures long { length result.key_id ≡ 16 }
+{
+    match rows.policy(mark.policy) {
+        Some(policy) => Site {
+            start: mark.start,
+            end: mark.end,
+            algorithm: policy.algorithm,
+            key_id: id_of(policy),
+        },
+        None => unreachable!(),
+    }
+}
+
+/// The id of a policy's key.
+fn id_of(policy: &Policy) -> [u8; 16]
+    ensures id { result ≡ key_id policy.now.key }
+    ensures long { length result ≡ 16 }
+{
+    let KeyRef::Id(id) = policy.key;
+    as_id(id)
+}
+
+/// The same 16 bytes; contracts then see how many they are.
+fn as_id(bytes: [u8; 16]) -> [u8; 16]
+    ensures same { result ≡ bytes }
+    ensures long { length result ≡ 16 }
+{
+    bytes
+}
