@@ -16,71 +16,50 @@ use Rattle.doc_rewrite.specs.declared.key_table.KeyEntry.{KeyEntry}
 use Rattle.doc_rewrite.specs.declared.site.Site.{Site}
 use Rattle.doc_rewrite.specs.declared.unsealing.Spot.{Spot}
 use Rattle.context_machine.specs.Decrypting.{OpensTo, StaysSealed}
-use Rattle.context_machine.specs.Ready.{IsReady, finished, sealed_size, values_of}
-use Rattle.context_machine.specs.States.{Finished, OpenedDone, Opens, OpensWith, Readied}
+use Rattle.context_machine.specs.Ready.{IsReady, finished, readied, sealed_size, values_of}
+use Rattle.context_machine.specs.States.{Finished, OpenedDone, Opens, OpensWith, Readied, Waits}
 
 -- what is sealed has all that was ready, and bytes
-pub finished_as : (command : At) (info : Option Collection) (kept : List KeyDoc) (table : List KeyEntry)
-    (bytes : List ℕ) (r : Readied) (d : Finished)
-    → record { command = command; info = info; kept = kept; table = table } ≡ r
-    → d ≡ record { command = command; info = info; kept = kept; table = table; bytes = bytes }
-    → d ≡ finished r d.bytes
-finished_as command info kept table bytes r d is made =
+pub finished_as : (w : Waits) (table : List KeyEntry) (bytes : List ℕ) (r : Readied) (d : Finished)
+    → readied w table ≡ r → d ≡ finished (readied w table) bytes → d ≡ finished r d.bytes
+finished_as w table bytes r d is made =
     subst (λ (x : Readied). d ≡ finished x d.bytes) is
-    (subst (λ (y : Finished). y
-    ≡ record { command = command; info = info; kept = kept; table = table; bytes = y.bytes }) (sym made) refl)
+    (subst (λ (y : Finished). y ≡ finished (readied w table) y.bytes) (sym made) refl)
 
 -- the bytes that were written fill those that were there
 pub filled : (out now : List ℕ) (len : ℕ) → length now ≡ length out → len ≡ length out
     → take len (now ++ drop (length now) out) ≡ now
 filled out now len same whole = take_at now (drop (length now) out) len (omega (arith, same, whole))
 
--- the sites of the plan are the command's values
-pub sealed_as : (command : At) (info : Option Collection) (kept : List KeyDoc) (table : List KeyEntry)
-    (plan : Planned) (out now bytes : List ℕ) (before after : EntropySeen) (r : Readied) (d : Finished)
-    → record { command = command; info = info; kept = kept; table = table } ≡ r
-    → d ≡ record { command = command; info = info; kept = kept; table = table; bytes = bytes }
-    → IsReady info command plan table out → bytes ≡ now
-    → IsSealedWhole (key_in table) plan.sites command before after now
+-- the bytes are the sealed command
+pub sealed_as : (w : Waits) (table : List KeyEntry) (now bytes : List ℕ) (before after : EntropySeen) (r : Readied)
+    (d : Finished) → readied w table ≡ r → d ≡ finished (readied w table) bytes → bytes ≡ now
+    → IsSealedWhole (key_in table) (values_of w.info w.command) w.command before after now
     → IsSealedWhole (key_in r.table) (values_of r.info r.command) r.command before after d.bytes
-sealed_as command info kept table plan out now bytes before after r d is made ready same whole =
+sealed_as w table now bytes before after r d is made same whole =
     subst (λ (x : Readied). IsSealedWhole (key_in x.table) (values_of x.info x.command) x.command before after d.bytes)
-    is (subst (λ (bs : List ℕ). IsSealedWhole (key_in table) (values_of info command) command before after bs)
-    (sym (ap (λ (y : Finished). y.bytes) made ∙ same))
-    (subst (λ (ss : List Site). IsSealedWhole (key_in table) ss command before after now) ready.planned.sites whole))
+    is (subst (λ (bs : List ℕ). IsSealedWhole (key_in table) (values_of w.info w.command) w.command before after bs)
+    (sym (ap (λ (y : Finished). y.bytes) made ∙ same)) whole)
 
 -- so many bytes were there
-pub size_as : (command : At) (info : Option Collection) (kept : List KeyDoc) (table : List KeyEntry)
-    (plan : Planned) (out bytes : List ℕ) (r : Readied) (d : Finished)
-    → record { command = command; info = info; kept = kept; table = table } ≡ r
-    → d ≡ record { command = command; info = info; kept = kept; table = table; bytes = bytes }
-    → IsReady info command plan table out → length bytes ≡ length out
+pub size_as : (w : Waits) (table : List KeyEntry) (out bytes : List ℕ) (r : Readied) (d : Finished)
+    → readied w table ≡ r → d ≡ finished (readied w table) bytes → IsReady w table out → length bytes ≡ length out
     → length d.bytes ≡ sealed_size r.info r.command
-size_as command info kept table plan out bytes r d is made ready same =
+size_as w table out bytes r d is made ready same =
     subst (λ (x : Readied). length d.bytes ≡ sealed_size x.info x.command) is
-    (ap (λ (y : Finished). length y.bytes) made ∙ same ∙ ready.room ∙ ready.planned.size)
-
--- the key of each site is there
-pub keyed_as : (command : At) (info : Option Collection) (table : List KeyEntry) (plan : Planned) (out : List ℕ)
-    → IsReady info command plan table out → HasKeys (key_in table) plan.sites
-keyed_as command info table plan out ready =
-    subst (λ (ss : List Site). HasKeys (key_in table) ss) (sym ready.planned.sites) ready.keyed
+    (ap (λ (y : Finished). length y.bytes) made ∙ same ∙ ready.room)
 
 -- it is ready still, whatever stands in those bytes
-pub ready_still : (command : At) (info : Option Collection) (table : List KeyEntry) (plan : Planned) (out now : List ℕ)
-    → IsReady info command plan table out → length now ≡ length out → IsReady info command plan table now
-ready_still command info table plan out now ready same =
-    record { planned = ready.planned; keyed = ready.keyed; room = same ∙ ready.room }
+pub ready_still : (w : Waits) (table : List KeyEntry) (out now : List ℕ) → IsReady w table out
+    → length now ≡ length out → IsReady w table now
+ready_still w table out now ready same = record { keyed = ready.keyed; room = same ∙ ready.room; most = ready.most }
 
 -- fewer blocks were drawn than the command's values need
-pub fell_as : (command : At) (info : Option Collection) (kept : List KeyDoc) (table : List KeyEntry)
-    (plan : Planned) (out : List ℕ) (before after : EntropySeen) (r : Readied)
-    → record { command = command; info = info; kept = kept; table = table } ≡ r
-    → IsReady info command plan table out → FellShort before after (draws_of plan.sites)
+pub fell_as : (w : Waits) (table : List KeyEntry) (before after : EntropySeen) (r : Readied) → readied w table ≡ r
+    → FellShort before after (draws_of (values_of w.info w.command))
     → FellShort before after (draws_of (values_of r.info r.command))
-fell_as command info kept table plan out before after r is ready fell =
-    subst (λ (x : Readied). FellShort before after (draws_of (values_of x.info x.command))) is
-    (subst (λ (ss : List Site). FellShort before after (draws_of ss)) ready.planned.sites fell)
+fell_as w table before after r is fell =
+    subst (λ (x : Readied). FellShort before after (draws_of (values_of x.info x.command))) is fell
 
 -- the document is that of the state that asked for its keys
 pub opens_asked : (document : At) (kept : List KeyDoc) (asked : Opens) (keys : Keyring) (now : List ℕ)

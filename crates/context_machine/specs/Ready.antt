@@ -32,13 +32,12 @@ pub record IsPlanOf (info : Option Collection) (command : At) (plan : Planned) :
   pub stands : StandsFor plan command
   pub most : plan.size ≤ 48000000
 
--- what holds of a command that is ready: it has a plan, the table has the key of each of its values, and so many bytes
--- are there as it is sealed to
-pub record IsReady (info : Option Collection) (command : At) (plan : Planned) (table : List KeyEntry) (out : List ℕ)
-    : Type 0 where
-  pub planned : IsPlanOf info command plan
-  pub keyed : HasKeys (key_in table) (values_of info command)
-  pub room : length out ≡ plan.size
+-- what holds of a command that is ready: the table has the key of each of its values, and so many bytes are there as it
+-- is sealed to
+pub record IsReady (w : Waits) (table : List KeyEntry) (out : List ℕ) : Type 0 where
+  pub keyed : HasKeys (key_in table) (values_of w.info w.command)
+  pub room : length out ≡ sealed_size w.info w.command
+  pub most : sealed_size w.info w.command ≤ 48000000
 
 -- the first value whose key isn't to be had; or each has its key, and the sealed command would be too long; want of
 -- memory may come at any time

@@ -1,28 +1,32 @@
 //! A command that waits for keys (libmongocrypt's state NEED_MONGO_KEYS).
 
-ghost use Rattle.std.specs.Prelude.{◌≡◌, ◌<◌, ◌≤◌, ℕ, option_copied, option_map, slice_get, Err, IfErr, IfOk};
+ghost use Rattle.std.specs.Prelude.{◌≡◌, ◌<◌, ◌≤◌, length, option_copied, option_map, slice_get, IfErr, IfOk, OnErr};
 ghost use Rattle.bson_tree.specs.Spelling.{doc_bytes};
 ghost use Rattle.context_machine.specs.Asks.{key_filter};
 ghost use Rattle.context_machine.specs.Needs.{ids_of};
-ghost use Rattle.context_machine.specs.Ready.{IsPlanOf, IsTooLong, StopsWaiting, readied, sealed_size, values_of};
+ghost use Rattle.context_machine.specs.Ready.{IsPlanOf, IsReady, IsTooLong, StopsWaiting, finished, readied};
+ghost use Rattle.context_machine.specs.Ready.{sealed_size, values_of};
 ghost use Rattle.context_machine.specs.Rings.{AreOpened, needs_of, ring};
 ghost use Rattle.context_machine.specs.Waiting.{IsMarked, IsWaiting, fed_key, wanted_of};
 ghost use Rattle.doc_rewrite.specs.Keys.{key_in};
-ghost use Rattle.doc_rewrite.specs.Sealing.{HasKeys};
+ghost use Rattle.doc_rewrite.specs.Sealing.{FellShort, HasKeys, IsSealedWhole};
+ghost use Rattle.doc_rewrite.specs.Sites.{draws_of};
 ghost use Rattle.encrypt_schema.specs.Commands.Targets.{rows_in};
 
+use crate::done::Done;
 use crate::keys_asked;
 use crate::need::Need;
 use crate::opened_keys::{KeysStop, open_keys, open_keys_cached};
 use crate::ready::Ready;
 use crate::wanted::Wanted;
 use bson_codec::RawDoc;
+use bson_splice::TooLong;
 use command_marker::Marked;
 use crypto_hooks::Block256;
 use data_key::KeyDoc;
-use doc_rewrite::{KeyTable, Plan, PlanFault, plan_clear, plan_seal};
+use doc_rewrite::{KeyTable, Plan, plan_clear, plan_seal, seal_through};
 use encrypt_schema::Info;
-use fle_outside::Memory;
+use fle_outside::{Entropy, Failed, Memory};
 use key_vault::KeyCache;
 use local_kms::MasterKey;
 use std::alloc::Global;
@@ -164,48 +168,78 @@ impl<'a> NeedKeys<'a> {
         ensures back { IfErr result (λ e. e.0 ≡ self.entry) }
         ensures stop { IfErr result (λ e. IsTooLong (sealed_size self.entry.info self.entry.command) e.1) }
     {
-        match plan_of(alloc, self.info, &self.command, &self.marked) {
-            Ok(plan) => match vec![in alloc; 0; plan.output_len()] {
+        match self.output_len() {
+            Ok(size) => match vec![in alloc; 0; size] {
                 Ok(out) => {
-                    let ready = Ready::new(self.command, self.info, self.wanted, plan, table, out);
+                    let ready = Ready::new(self, table, out);
                     Ok(ready)
                 }
                 Err(_) => Err((self, KeysStop::Memory)),
             },
-            Err(fault) => Err((self, stop_of(fault))),
+            Err(TooLong) => Err((self, KeysStop::TooLong)),
         }
+    }
+
+    /// How many bytes the sealed command has.
+    fn output_len(&self) -> Result<usize, TooLong>
+        ensures size { IfOk result (λ n. n ≡ sealed_size self.now.info self.now.command) }
+        ensures fits { IfOk result (λ _. sealed_size self.now.info self.now.command ≤ 48000000) }
+        ensures too_long { IfErr result (λ _. 48000000 < sealed_size self.now.info self.now.command) }
+    {
+        match plan_of(self.info, &self.command, &self.marked) {
+            Ok(plan) => Ok(plan.output_len()),
+            Err(TooLong) => Err(TooLong),
+        }
+    }
+
+    /// Seals the command into as many bytes as it is sealed to, as `seal_through` does.
+    pub(crate) fn seal_into<B: Block256, N: Entropy>(
+        &self,
+        table: &KeyTable,
+        hooks: &B,
+        entropy: &mut N,
+        out: &mut [u8],
+    ) -> Result<(), Failed>
+        requires hooks { B.answers hooks.now }
+        requires ready { IsReady self.now table.now out.old }
+        ensures size { length out.new ≡ length out.old }
+        ensures sealed { IfOk result (λ _. IsSealedWhole (key_in table.now) (values_of self.now.info self.now.command)
+            self.now.command (N.seen entropy.old) (N.seen entropy.new) out.new) }
+        ensures failed { OnErr result (FellShort (N.seen entropy.old) (N.seen entropy.new)
+            (draws_of (values_of self.now.info self.now.command))) }
+    {
+        match plan_of(self.info, &self.command, &self.marked) {
+            Ok(plan) => seal_through(&plan, &self.command, table, hooks, entropy, out),
+            Err(TooLong) => unreachable!(),
+        }
+    }
+
+    /// The command with the bytes that it was sealed to.
+    pub(crate) fn sealed(self, table: KeyTable, out: Vec<u8>) -> Done<'a>
+        ensures done { result ≡ finished (readied self.entry table) out.items }
+    {
+        Done::new(self.command, self.info, self.wanted, table, out)
     }
 }
 
 /// The plan of a command, by its marks; of one without marks nothing is sealed.
-fn plan_of(
-    alloc: Global,
+fn plan_of<'m>(
     info: Option<&Info>,
     command: &RawDoc<'_>,
-    marked: &Option<Marked<'_>>,
-) -> Result<Plan, PlanFault>
+    marked: &'m Option<Marked<'_>>,
+) -> Result<Plan<'m>, TooLong>
     requires marked { IsMarked (option_copied info) command.now marked.now }
     ensures plan { IfOk result (λ plan. IsPlanOf (option_copied info.entry) command.now plan) }
-    ensures too_long { result ≡ Err PlanFault.TooLong → 48000000 < sealed_size (option_copied info.entry) command.now }
+    ensures too_long { IfErr result (λ _. 48000000 < sealed_size (option_copied info.entry) command.now) }
 {
     match marked {
-        Some(marked) => match plan_seal(alloc, command, marked.marks(), marked.rows()) {
+        Some(marked) => match plan_seal(command, marked.marks(), marked.rows()) {
             Ok(plan) => Ok(plan),
-            Err(fault) => Err(fault),
+            Err(TooLong) => Err(TooLong),
         },
         None => match plan_clear(command) {
             Ok(plan) => Ok(plan),
-            Err(fault) => Err(fault),
+            Err(TooLong) => Err(TooLong),
         },
-    }
-}
-
-/// Why a command that has its keys isn't ready.
-fn stop_of(fault: PlanFault) -> KeysStop
-    ensures stop { (size : ℕ) → (fault ≡ PlanFault.TooLong → 48000000 < size) → IsTooLong size result }
-{
-    match fault {
-        PlanFault::TooLong => KeysStop::TooLong,
-        PlanFault::Memory => KeysStop::Memory,
     }
 }

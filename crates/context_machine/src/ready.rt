@@ -1,34 +1,28 @@
 //! A command that can be sealed (libmongocrypt's state READY).
 
-ghost use Rattle.std.specs.Prelude.{◌≡◌, length, option_copied, IfErr, IfOk, OnErr};
-ghost use Rattle.context_machine.specs.Ready.{IsReady, finished, sealed_size, values_of};
+ghost use Rattle.std.specs.Prelude.{◌≡◌, length, IfErr, IfOk, OnErr};
+ghost use Rattle.context_machine.specs.Ready.{IsReady, finished, readied, sealed_size, values_of};
 ghost use Rattle.doc_rewrite.specs.Keys.{key_in};
 ghost use Rattle.doc_rewrite.specs.Sealing.{FellShort, IsSealedWhole};
 ghost use Rattle.doc_rewrite.specs.Sites.{draws_of};
 
 use crate::done::Done;
-use crate::wanted::Wanted;
-use bson_codec::RawDoc;
+use crate::need_keys::NeedKeys;
 use crypto_hooks::Block256;
-use doc_rewrite::{KeyTable, Plan, seal_through};
-use encrypt_schema::Info;
+use doc_rewrite::KeyTable;
 use fle_outside::{Entropy, Failed};
 use std::marker::Model;
 
 /// A command whose protected values have their keys, and the bytes that it is to be sealed into.
 #[derive(Drop)]
 pub struct Ready<'a> {
-    command: RawDoc<'a>,
-    info: Option<&'a Info>,
-    wanted: Wanted<'a>,
-    plan: Plan,
+    waited: NeedKeys<'a>,
     table: KeyTable,
     out: Vec<u8>,
 }
 
 impl<'a> Model for Ready<'a> {
-    ghost use Rattle.std.specs.Prelude.{option_copied};
-    ghost use Rattle.context_machine.specs.Ready.{IsReady};
+    ghost use Rattle.context_machine.specs.Ready.{IsReady, readied};
     ghost use Rattle.context_machine.specs.SealingCodes.{coded_readied};
     ghost use Rattle.context_machine.specs.States.{Readied};
 
@@ -36,42 +30,18 @@ impl<'a> Model for Ready<'a> {
 
     ghost coded = { coded_readied };
 
-    ghost view = { λ s. record {
-      command = s.command;
-      info = option_copied s.info;
-      kept = s.wanted.kept;
-      table = s.table;
-    } };
+    ghost view = { λ s. readied s.waited s.table };
 
-    ghost invariant = { λ s. IsReady (option_copied s.info) s.command s.plan s.table s.out.items };
+    ghost invariant = { λ s. IsReady s.waited s.table s.out.items };
 }
 
 impl<'a> Ready<'a> {
-    /// A command with its plan, its keys and the bytes that it is to be sealed into.
-    pub(crate) fn new(
-        command: RawDoc<'a>,
-        info: Option<&'a Info>,
-        wanted: Wanted<'a>,
-        plan: Plan,
-        table: KeyTable,
-        out: Vec<u8>,
-    ) -> Ready<'a>
-        requires ready { IsReady (option_copied info) command plan table out.items }
-        ensures ready { result ≡ record {
-          command = command.entry;
-          info = option_copied info.entry;
-          kept = wanted.entry.kept;
-          table = table;
-        } }
+    /// A command that waited for its keys, with these and the bytes that it is to be sealed into.
+    pub(crate) fn new(waited: NeedKeys<'a>, table: KeyTable, out: Vec<u8>) -> Ready<'a>
+        requires ready { IsReady waited table out.items }
+        ensures ready { result ≡ readied waited.entry table }
     {
-        Ready {
-            command,
-            info,
-            wanted,
-            plan,
-            table,
-            out,
-        }
+        Ready { waited, table, out }
     }
 
     /// Seals the command: each of its values under the key of its rule, those of the random algorithm with a block
@@ -92,28 +62,18 @@ impl<'a> Ready<'a> {
         ensures failed { OnErr result (FellShort (N.seen entropy.old) (N.seen entropy.new)
             (draws_of (values_of self.entry.info self.entry.command))) }
     {
-        let mut out = self.out;
-        match seal_through(
-            &self.plan,
-            &self.command,
-            &self.table,
-            hooks,
-            entropy,
-            &mut out,
-        ) {
+        let Ready {
+            waited,
+            table,
+            mut out,
+        } = self;
+        match waited.seal_into(&table, hooks, entropy, &mut out) {
             Ok(()) => {
-                let done = Done::new(self.command, self.info, self.wanted, self.table, out);
+                let done = waited.sealed(table, out);
                 Ok(done)
             }
             Err(Failed) => {
-                let ready = Ready::new(
-                    self.command,
-                    self.info,
-                    self.wanted,
-                    self.plan,
-                    self.table,
-                    out,
-                );
+                let ready = Ready::new(waited, table, out);
                 Err((ready, Failed))
             }
         }
