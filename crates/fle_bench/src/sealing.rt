@@ -1,6 +1,6 @@
 //! A command sealed some times over, at marks that are made once.
 
-ghost use Rattle.std.specs.Prelude.{◌≡◌, ◌+◌, ◌<◌, ◌≤◌, ◌∷◌, [], drop, length, IfSome, IsTrue, MatchOption};
+ghost use Rattle.std.specs.Prelude.{◌≡◌, ◌<◌, ◌≤◌, length, IfSome, IsTrue};
 ghost use Rattle.doc_rewrite.specs.Keys.{key_in};
 ghost use Rattle.doc_rewrite.specs.Plans.{AreMarksOf};
 ghost use Rattle.doc_rewrite.specs.Sealing.{HasKeys};
@@ -14,7 +14,7 @@ use crate::documents::{SameBlock, keys};
 use bson_codec::{RawDoc, check_bson, first_doc};
 use command_marker::{Marked, Target, mark_command, target};
 use crypto_hooks::Tables;
-use doc_rewrite::{KeyTable, Site, plan_seal, seal_through, sites_of};
+use doc_rewrite::{KeyTable, Sites, plan_seal, seal_through, sites_of};
 use encrypt_schema::{Infos, Marks, Rows};
 use fle_outside::Failed;
 use std::alloc::Global;
@@ -52,12 +52,11 @@ fn seal_marked(alloc: Global, marked: &Marked<'_>, turns: u32) -> Option<u32>
         → sum ≡ checksum (sealed_command marked.now.rows marked.now.command)) }
 {
     let keys = keys(alloc)?;
-    if !are_keyed(alloc, marked, &keys) {
+    if !are_keyed(marked, &keys) {
         return None;
     }
     let mut out = room(alloc, marked)?;
     if seal(
-        alloc,
         &marked.command(),
         marked.marks(),
         marked.rows(),
@@ -73,7 +72,7 @@ fn seal_marked(alloc: Global, marked: &Marked<'_>, turns: u32) -> Option<u32>
 
 /// The room for a marked command when it is sealed.
 fn room(alloc: Global, marked: &Marked<'_>) -> Option<Vec<u8>> {
-    match plan_seal(alloc, &marked.command(), marked.marks(), marked.rows()) {
+    match plan_seal(&marked.command(), marked.marks(), marked.rows()) {
         Ok(plan) => match vec![in alloc; 0u8; plan.output_len()] {
             Ok(out) => Some(out),
             Err(_) => None,
@@ -82,23 +81,20 @@ fn room(alloc: Global, marked: &Marked<'_>) -> Option<Vec<u8>> {
     }
 }
 
-/// Whether the key of each protected value is there; false for want of memory, too.
-fn are_keyed(alloc: Global, marked: &Marked<'_>, keys: &KeyTable) -> bool
+/// Whether the key of each protected value is there.
+fn are_keyed(marked: &Marked<'_>, keys: &KeyTable) -> bool
     ensures keyed { IsTrue result → HasKeys (key_in keys.now)
         (sites_by marked.now.rows (roles marked.now.rows marked.now.command.start marked.now.command.tree)) }
 {
-    match sites_of(alloc, marked.marks(), marked.rows()) {
-        Ok(sites) => sites_keyed(&sites, keys),
-        Err(_) => false,
-    }
+    sites_keyed(&sites_of(marked.marks(), marked.rows()), keys)
 }
 
 /// The same of values that are to be sealed.
-fn sites_keyed(sites: &[Site], keys: &KeyTable) -> bool
+fn sites_keyed(sites: &Sites<'_>, keys: &KeyTable) -> bool
     ensures keyed { IsTrue result → HasKeys (key_in keys.now) sites.now }
 {
     for i in 0..sites.len() {
-        match site_at(sites, i) {
+        match sites.get(i) {
             Some(site) => if keys.find(&site.key_id).is_none() {
                 return false;
             },
@@ -108,20 +104,8 @@ fn sites_keyed(sites: &[Site], keys: &KeyTable) -> bool
     true
 }
 
-/// The value of this number, counted from 0.
-fn site_at(sites: &[Site], i: usize) -> Option<Site>
-    ensures first { MatchOption result (drop i sites.now ≡ []) (λ s. drop i sites.now ≡ s ∷ drop (i + 1) sites.now) }
-{
-    if i < sites.len() {
-        Some(sites[i])
-    } else {
-        None
-    }
-}
-
 /// Seals a document some times over, and says whether it did the last time.
 fn seal(
-    alloc: Global,
     document: &RawDoc<'_>,
     marks: &Marks,
     rows: &Rows,
@@ -136,15 +120,14 @@ fn seal(
 {
     let mut done = true;
     for _turn in 0..turns {
-        done = seal_once(alloc, document, marks, rows, keys, out);
+        done = seal_once(document, marks, rows, keys, out);
     }
     done
 }
 
-/// Plans a document and seals it, where it fits; false where it doesn't, and for want of memory.
+/// Plans a document and seals it, where it fits; false where it doesn't.
 #[tactic(auto, using(crate::proofs::SameBlocks::sealed_same))]
 fn seal_once(
-    alloc: Global,
     document: &RawDoc<'_>,
     marks: &Marks,
     rows: &Rows,
@@ -155,7 +138,7 @@ fn seal_once(
     requires keyed { HasKeys (key_in keys.now) (sites_by rows.now marks.now) }
     ensures sealed { IsTrue result → out.new ≡ sealed_bytes keys.now (sites_by rows.now marks.now) document.now }
 {
-    let Ok(plan) = plan_seal(alloc, document, marks, rows) else {
+    let Ok(plan) = plan_seal(document, marks, rows) else {
         return false;
     };
     if plan.output_len() != out.len() {

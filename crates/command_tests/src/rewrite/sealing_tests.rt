@@ -49,10 +49,10 @@ fn seal(
     keys: &KeyTable,
     entropy: &mut MemEntropy,
 ) -> Result<Option<Vec<u8>>, Fail> {
-    if !stand(alloc, document, marks, rows) {
+    if !stand(document, marks, rows) {
         return Err("marks".into());
     }
-    let plan = match plan_seal(alloc, document, marks, rows) {
+    let plan = match plan_seal(document, marks, rows) {
         Ok(plan) => plan,
         Err(_) => return Err("no plan".into()),
     };

@@ -1,27 +1,22 @@
 //! Whether marks stand in a document: tests ask it before they call `plan_seal`.
 
-ghost use Rattle.std.specs.Prelude.{◌≡◌, ◌+◌, ◌<◌, ◌∷◌, [], drop, length, IfSome, IsTrue, MatchOption};
+ghost use Rattle.std.specs.Prelude.{◌≡◌, ◌+◌, ◌<◌, ◌^◌, ◌∷◌, [], drop, length, IfSome, IsTrue, MatchOption};
 ghost use Rattle.doc_rewrite.specs.Keys.{key_in};
 ghost use Rattle.doc_rewrite.specs.Plans.{AreMarksOf, AreRuled};
 ghost use Rattle.doc_rewrite.specs.Sealing.{HasKeys};
 ghost use Rattle.doc_rewrite.specs.Standing.{DocumentTakes, ElementTakes};
 
 use bson_codec::{RawDoc, RawItem};
-use doc_rewrite::{KeyTable, Plan, Site, sites_of};
+use doc_rewrite::{KeyTable, Plan, Site, Sites, sites_of};
 use encrypt_schema::{Mark, Marks, Rows};
-use std::alloc::Global;
 
 /// The site of this number, counted from 0.
-fn site_at(sites: &[Site], i: usize) -> Option<Site>
+fn site_at(sites: &Sites<'_>, i: usize) -> Option<Site>
     ensures first { MatchOption result (drop i sites.now ≡ [])
         (λ s. drop i sites.now ≡ s ∷ drop (i + 1) sites.now) }
-    ensures inside { IfSome result (λ s. i < length sites.now) }
+    ensures counted { IfSome result (λ s. i + 1 < 2 ^ 64) }
 {
-    if i < sites.len() {
-        Some(sites[i])
-    } else {
-        None
-    }
+    if i < sites.len() { sites.get(i) } else { None }
 }
 
 /// The mark of this number, counted from 0.
@@ -34,7 +29,7 @@ fn mark_at(marks: &Marks, i: usize) -> Option<Mark>
 
 /// The number of the site behind those of an element.
 #[cycle(stand)]
-fn stand_at(sites: &[Site], next: usize, item: &RawItem<'_>) -> Option<usize>
+fn stand_at(sites: &Sites<'_>, next: usize, item: &RawItem<'_>) -> Option<usize>
     ensures taken { IfSome result (λ n. ElementTakes item.now (drop next sites.now) (drop n sites.now)) }
 {
     let Some(site) = site_at(sites, next) else {
@@ -57,7 +52,7 @@ fn stand_at(sites: &[Site], next: usize, item: &RawItem<'_>) -> Option<usize>
 
 /// The number of the site behind those of a document.
 #[cycle(stand)]
-fn stand_inside(sites: &[Site], next: usize, document: &RawDoc<'_>) -> Option<usize>
+fn stand_inside(sites: &Sites<'_>, next: usize, document: &RawDoc<'_>) -> Option<usize>
     ensures taken { IfSome result (λ n. DocumentTakes document.now (drop next sites.now) (drop n sites.now)) }
 {
     let mut here = next;
@@ -85,29 +80,27 @@ fn are_ruled(marks: &Marks, rows: &Rows) -> bool
     true
 }
 
-/// Whether the marks are what `plan_seal` asks of them; false for want of memory, too.
-pub(crate) fn stand(alloc: Global, document: &RawDoc<'_>, marks: &Marks, rows: &Rows) -> bool
+/// Whether the marks are what `plan_seal` asks of them.
+pub(crate) fn stand(document: &RawDoc<'_>, marks: &Marks, rows: &Rows) -> bool
     ensures stand { IsTrue result → AreMarksOf rows.now marks.now document.now }
 {
     if !are_ruled(marks, rows) {
         return false;
     }
-    match sites_of(alloc, marks, rows) {
-        Ok(sites) => match stand_inside(&sites, 0, document) {
-            Some(n) => n == sites.len(),
-            None => false,
-        },
-        Err(_) => false,
+    let sites = sites_of(marks, rows);
+    match stand_inside(&sites, 0, document) {
+        Some(n) => n == sites.len(),
+        None => false,
     }
 }
 
 /// Whether the key of each site of a plan is there.
-pub(crate) fn keys_there(plan: &Plan, keys: &KeyTable) -> bool
+pub(crate) fn keys_there(plan: &Plan<'_>, keys: &KeyTable) -> bool
     ensures keyed { IsTrue result → HasKeys (key_in keys.now) plan.now.sites }
 {
     let sites = plan.sites();
     for i in 0..sites.len() {
-        match site_at(sites, i) {
+        match sites.get(i) {
             Some(site) => if keys.find(&site.key_id).is_none() {
                 return false;
             },
