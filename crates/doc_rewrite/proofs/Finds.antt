@@ -1,24 +1,19 @@
 -- Payloads that are found.
-use Rattle.std.proofs.Common.{◌≡◌, ◌∙◌, ℕ, ◌+◌, ◌-◌, ◌%◌, ◌/◌, ◌<◌, ◌==◌, ◌&&◌, Bool, true, false, nat_lt, List, []}
-use Rattle.std.proofs.Common.{◌∷◌, ◌++◌, length, map, Some, Ok, sym, ap, refl, subst, arith, append_assoc, append-nil}
+use Rattle.std.proofs.Common.{◌≡◌, ◌∙◌, ℕ, ◌+◌, ◌-◌, ◌%◌, ◌/◌, ◌<◌, ◌==◌, ◌&&◌, Bool, true, false, nat_lt, List}
+use Rattle.std.proofs.Common.{◌++◌, length, sym, ap, refl, subst, arith}
 use Rattle.std.proofs.Common.{length-append}
 use Rattle.std.proofs.lemmas.Bool.{eq-eqb, eqb-true}
 use Rattle.std.proofs.lemmas.Bool.Decides.{nat_tests}
-use Rattle.std.proofs.lemmas.List.{map-append}
-use Rattle.bson_tree.specs.Tree.{Tree, Items, leaf, no_items}
+use Rattle.bson_tree.specs.Tree.{Tree, leaf}
 use Rattle.bson_tree.specs.Spelling.{value_bytes}
-use Rattle.bson_codec.specs.Borrowed.{At, Elem}
-use Rattle.bson_codec.specs.Elements.{TakesElement}
 use Rattle.payload6.specs.Payload.{head, IsPayloadLength}
 use Rattle.payload6.specs.Verdicts.{id_in}
 use Rattle.payload6.proofs.PayloadForm.{head-size}
 use Rattle.doc_rewrite.specs.declared.found.FoundAt.{FoundAt}
-use Rattle.doc_rewrite.specs.declared.finding.FindFault.{FindFault}
-use Rattle.doc_rewrite.specs.declared.finding.FindFault.TheVariants as faults
-use Rattle.doc_rewrite.specs.Finding.{FailsAs, FindsAs, found_at}
-use Rattle.doc_rewrite.specs.Founds.{Place, contents_of, founds, founds_in, opens_here, place_of}
+use Rattle.doc_rewrite.specs.Finding.{FailsAs, FindsAll, found_at}
+use Rattle.doc_rewrite.specs.Founds.{Place, contents_of, founds_in, opens_here, place_of}
 use Rattle.doc_rewrite.specs.Opened.{first_wrong, is_payload_length, misshapen}
-use Rattle.doc_rewrite.proofs.Walks.{before_wrong, behind_right, founds_parts, none_found, one_found}
+use Rattle.doc_rewrite.proofs.Walks.{none_found, one_found}
 
 -- ---- lengths
 
@@ -54,22 +49,6 @@ length_of_parts kind type id h c b long is some whole parts =
 
 -- ---- one value
 
-pub passes : (levels at : ℕ) (t : Tree) (tag : ℕ) (bytes : List ℕ) (old : List FoundAt) → t ≡ leaf tag bytes
-    → opens_here t ≡ false
-    → FindsAs (founds_in levels at t) old old (Ok tt)
-passes levels at t tag bytes old is off =
-    subst (λ (ps : List Place). FindsAs ps old old (Ok tt)) (sym (none_found levels at t tag bytes is off))
-    (sym (append-nil old), refl)
-
-pub finds_one : (levels at : ℕ) (t : Tree) (tag : ℕ) (bytes : List ℕ) (old new : List FoundAt) → t ≡ leaf tag bytes
-    → opens_here t ≡ true
-    → IsPayloadLength (length (contents_of t)) → new ≡ old ++ found_at (place_of levels at t) ∷ []
-    → FindsAs (founds_in levels at t) old new (Ok tt)
-finds_one levels at t tag bytes old new is on long e =
-    let test = length_is (length (contents_of t)) long in
-    subst (λ (ps : List Place). FindsAs ps old new (Ok tt)) (sym (one_found levels at t tag bytes is on))
-    (e, rw test refl)
-
 -- what is told of one
 pub told : (levels at n m : ℕ) (t : Tree) (id : List ℕ) → n ≡ at → m ≡ at + length (value_bytes t)
     → id ≡ id_in (contents_of t)
@@ -77,52 +56,27 @@ pub told : (levels at n m : ℕ) (t : Tree) (id : List ℕ) → n ≡ at → m �
 told levels at n m t id p q r = rw (p, q, r) refl
 
 pub finds_wrong : (levels at : ℕ) (t : Tree) (tag : ℕ) (bytes : List ℕ) → t ≡ leaf tag bytes → opens_here t ≡ true
-    → (IsPayloadLength (length (contents_of t)) → ⊥) → FailsAs (founds_in levels at t) (faults.Shape at)
+    → (IsPayloadLength (length (contents_of t)) → ⊥) → FailsAs (founds_in levels at t) (record { at = at })
 finds_wrong levels at t tag bytes is on short =
     let test = length_not (length (contents_of t)) short in
     ap (first_wrong misshapen) (one_found levels at t tag bytes is on) ∙ rw test refl
 
--- ---- the walk
+module _ {S : Type 0} (step : S → S → FoundAt → Type 0) (levels at : ℕ) (t : Tree) (tag : ℕ) (bytes : List ℕ)
+    (is : t ≡ leaf tag bytes) (n : ℕ) (before : S) where
+  pub passes : opens_here t ≡ false → FindsAll step (founds_in levels at t) n before before n
+  passes off =
+      subst (λ (ps : List Place). FindsAll step ps n before before n) (sym (none_found levels at t tag bytes is off))
+      (record { told = refl; shaped = refl; count = omega arith })
 
--- some elements are passed, and these are left
-pub record Passing (levels : ℕ) (all here : At) (old new : List FoundAt) : Type 0 where
-  pub made : new ++ map found_at (founds levels here.start here.tree)
-      ≡ old ++ map found_at (founds levels (all.start + 4) all.tree)
-  pub wrongs : first_wrong misshapen (founds levels here.start here.tree)
-      ≡ first_wrong misshapen (founds levels (all.start + 4) all.tree)
-
-module _ (levels : ℕ) (all : At) (old : List FoundAt) where
-  pub begins : (here : At) → here ≡ record { tree = all.tree; start = all.start + 4 } → Passing levels all here old old
-  begins here e = record {
-    made = ap (λ (h : At). old ++ map found_at (founds levels h.start h.tree)) e;
-    wrongs = ap (λ (h : At). first_wrong misshapen (founds levels h.start h.tree)) e;
-  }
-
-  pub passes_next : (here rest : At) (e : Elem) (now new : List FoundAt) → TakesElement here (Some e) rest
-      → Passing levels all here old now
-      → FindsAs (founds_in levels e.start e.tree) now new (Ok tt) → Passing levels all rest old new
-  passes_next here rest e now new taken o s =
-      let ps = founds_in levels e.start e.tree in
-      let qs = founds levels rest.start rest.tree in
-      let parts = founds_parts levels here rest e taken in
-      record {
-        made = ap (λ (x : List FoundAt). x ++ map found_at qs) s.0
-            ∙ append_assoc now (map found_at ps) (map found_at qs)
-            ∙ ap (λ (x : List FoundAt). now ++ x) (sym (ap (map found_at) parts ∙ map-append found_at ps qs)) ∙ o.made;
-        wrongs = sym (ap (first_wrong misshapen) parts ∙ behind_right misshapen ps qs s.1) ∙ o.wrongs;
-      }
-
-  pub fails : (here rest : At) (e : Elem) (now : List FoundAt) (fault : FindFault) → TakesElement here (Some e) rest
-      → Passing levels all here old now
-      → FailsAs (founds_in levels e.start e.tree) fault → FailsAs (founds levels (all.start + 4) all.tree) fault
-  fails here rest e now faults.Memory taken o s = tt
-  fails here rest e now (faults.Shape at) taken o s =
-      sym o.wrongs ∙ ap (first_wrong misshapen) (founds_parts levels here rest e taken)
-      ∙ before_wrong misshapen (founds_in levels e.start e.tree) (founds levels rest.start rest.tree) _ s
-
-  pub finds_all : (here : At) (new : List FoundAt) → here.tree ≡ no_items → Passing levels all here old new
-      → FindsAs (founds levels (all.start + 4) all.tree) old new (Ok tt)
-  finds_all here new none o = (
-    sym (append-nil new) ∙ ap (λ (is : Items). new ++ map found_at (founds levels here.start is)) (sym none) ∙ o.made,
-    sym o.wrongs ∙ ap (λ (is : Items). first_wrong misshapen (founds levels here.start is)) none,
-  )
+  pub finds_one : (f : FoundAt) (after : S) → opens_here t ≡ true → IsPayloadLength (length (contents_of t))
+      → f ≡ found_at (place_of levels at t) → step before after f
+      → FindsAll step (founds_in levels at t) n before after (n + 1)
+  finds_one f after on long same did =
+      let test = length_is (length (contents_of t)) long in
+      subst (λ (ps : List Place). FindsAll step ps n before after (n + 1))
+      (sym (one_found levels at t tag bytes is on))
+      (record {
+        told = (after, subst (step before after) same did, refl);
+        shaped = rw test refl;
+        count = omega arith;
+      })

@@ -20,6 +20,8 @@ pub mod Finds
 pub mod Unsealed
 pub mod OneLeaf
 pub mod Held
+pub mod Telling
+pub mod Picks
 pub mod Opens
 pub mod Wholes
 pub mod Clear

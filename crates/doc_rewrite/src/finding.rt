@@ -1,99 +1,130 @@
 //! The payloads of a document, found.
 
-ghost use Rattle.std.specs.Prelude.{◌≡◌, ◌+◌};
+ghost use Rattle.std.specs.Prelude.{◌≡◌, ◌+◌, ◌≤◌, IfOk};
 ghost use Rattle.bson_tree.specs.Spelling.{value_bytes};
 ghost use Rattle.bson_tree.specs.Tree.{leaf, tag_of};
-ghost use Rattle.doc_rewrite.specs.Finding.{FindsAs, FindsPayloads};
+ghost use Rattle.doc_rewrite.specs.Finding.{FindsAs, FindsPayloads, Tells};
 ghost use Rattle.doc_rewrite.specs.Founds.{founds, founds_in};
 
 use crate::found::{Found, FoundAt};
 use crate::leaf::{Leaf, leaf_of};
+use crate::listener::Listener;
 use bson_codec::{RawDoc, RawItem};
-use std::alloc::Global;
 
 /// How many levels a value at the top of a document may add: one less than a document may have.
 pub(crate) const LEVELS: u32 = 99;
 
-/// The fewest bytes of an element with a payload: its type byte, the 00 behind a name of no byte, and a binary of 5
-/// bytes and a payload of 66 with one block.
-const LEAST: usize = 89;
-
-/// Why the payloads of a document weren't found.
+/// Why the payloads of a document weren't found: one has a length that none has, not 66 and one or more blocks of 16.
 #[derive(Clone, Copy, Debug, PartialEq, Eq)]
-pub enum FindFault {
-    /// A payload has a length that none has: not 66 and one or more blocks of 16.
-    Shape {
-        /// The offset of its value.
-        at: u32,
-    },
-    /// There was no memory for the list. It may come at any time.
-    Memory,
+pub struct FindFault {
+    /// The offset of its value.
+    pub at: u32,
 }
 
-/// Finds a raw value, where it is a payload.
-fn find_leaf(item: &RawItem<'_>, levels: u32, found: &mut Vec<FoundAt>) -> Result<(), FindFault>
+/// Who keeps nothing of what it is told.
+#[derive(Drop)]
+struct Unheard;
+
+impl Listener for Unheard {
+    ghost tells = { λ a b f. Unit {0} };
+
+    fn tell(&mut self, _payload: FoundAt) {}
+}
+
+/// Tells of a raw value, where it is a payload. `count` were told of before it; how many with it.
+fn tell_leaf<L: Listener>(
+    item: &RawItem<'_>,
+    levels: u32,
+    count: usize,
+    listener: &mut L,
+) -> Result<usize, FindFault>
     requires raw { item.now.tree ≡ leaf (tag_of item.now.tree) (value_bytes item.now.tree) }
-    ensures found { FindsAs (founds_in levels item.now.start item.now.tree) found.old.items found.new.items result }
+    requires few { count ≤ item.now.start }
+    ensures found { FindsAs L.tells (founds_in levels item.now.start item.now.tree) count listener.old listener.new
+        result }
 {
     let width = item.value().len();
     match leaf_of(item) {
         Leaf::Payload(payload) => {
-            let here = FoundAt {
+            listener.tell(FoundAt {
                 start: item.start() as u32,
                 end: (item.start() + width) as u32,
                 key_id: payload.key_id,
                 levels,
-            };
-            match found.push(here) {
-                Ok(()) => Ok(()),
-                Err(_) => Err(FindFault::Memory),
-            }
+            });
+            Ok(count + 1)
         }
-        Leaf::Other => Ok(()),
-        Leaf::Misshapen => Err(FindFault::Shape {
+        Leaf::Other => Ok(count),
+        Leaf::Misshapen => Err(FindFault {
             at: item.start() as u32,
         }),
     }
 }
 
-/// Finds the payloads of an element.
+/// Tells of the payloads of an element.
 #[cycle(find)]
-fn find_item(item: &RawItem<'_>, levels: u32, found: &mut Vec<FoundAt>) -> Result<(), FindFault>
-    ensures found { FindsAs (founds_in levels item.now.start item.now.tree) found.old.items found.new.items result }
-{
-    match item.child() {
-        Some(document) => find_items(&document, levels.saturating_sub(1), found),
-        None => find_leaf(item, levels, found),
-    }
-}
-
-/// Finds the payloads of the elements of a document.
-#[cycle(find)]
-fn find_items(document: &RawDoc<'_>, levels: u32, found: &mut Vec<FoundAt>) -> Result<(), FindFault>
-    ensures found { FindsAs (founds levels (document.now.start + 4) document.now.tree) found.old.items found.new.items
+fn tell_item<L: Listener>(
+    item: &RawItem<'_>,
+    levels: u32,
+    count: usize,
+    listener: &mut L,
+) -> Result<usize, FindFault>
+    requires few { count ≤ item.now.start }
+    ensures found { FindsAs L.tells (founds_in levels item.now.start item.now.tree) count listener.old listener.new
         result }
 {
-    for item in document.items() {
-        match find_item(&item, levels, found) {
-            Ok(()) => {}
-            Err(fault) => return Err(fault),
-        }
+    match item.child() {
+        Some(document) => tell_items(&document, levels.saturating_sub(1), count, listener),
+        None => tell_leaf(item, levels, count, listener),
     }
-    Ok(())
 }
 
-/// The payloads of a document, in reading order: the binaries of subtype 06 whose contents begin with 1 or 2.
-///
-/// `Shape` exactly where one of them has a length that none has, with the first of them. No key is asked for, and no
-/// payload opened.
-pub fn find_payloads(alloc: Global, document: &RawDoc<'_>) -> Result<Found, FindFault>
-    ensures found { FindsPayloads document.now result }
+/// Tells of the payloads of the elements of a document.
+#[cycle(find)]
+fn tell_items<L: Listener>(
+    document: &RawDoc<'_>,
+    levels: u32,
+    count: usize,
+    listener: &mut L,
+) -> Result<usize, FindFault>
+    requires few { count ≤ document.now.start }
+    ensures found { FindsAs L.tells (founds levels (document.now.start + 4) document.now.tree) count listener.old
+        listener.new result }
 {
-    let Ok(mut payloads) = Vec::with_capacity(alloc, document.bytes().len() / LEAST) else {
-        return Err(FindFault::Memory);
-    };
-    match find_items(document, LEVELS, &mut payloads) {
-        Ok(()) => Ok(Found { payloads }),
+    let mut told = count;
+    for item in document.items() {
+        match tell_item(&item, levels, told, listener) {
+            Ok(behind) => told = behind,
+            stopped => return stopped,
+        }
+    }
+    Ok(told)
+}
+
+/// The payloads of a document: the binaries of subtype 06 whose contents begin with 1 or 2. `listener` is told of each,
+/// in reading order, while it is found.
+///
+/// The fault comes exactly where one of them has a length that none has, with the first of them; what `listener` was
+/// told of by then isn't said. No key is asked for, and no payload opened. It takes no memory.
+pub fn tell_payloads<'a, L: Listener>(
+    document: &RawDoc<'a>,
+    listener: &mut L,
+) -> Result<Found<'a>, FindFault>
+    ensures found { FindsPayloads document.now result }
+    ensures told { IfOk result (λ found. Tells L.tells listener.old listener.new found) }
+{
+    match tell_items(document, LEVELS, 0, listener) {
+        Ok(count) => Ok(Found {
+            document: document.again(),
+            count,
+        }),
         Err(fault) => Err(fault),
     }
+}
+
+/// The payloads of a document, as `tell_payloads` finds them, where nobody is told of them.
+pub fn find_payloads<'a>(document: &RawDoc<'a>) -> Result<Found<'a>, FindFault>
+    ensures found { FindsPayloads document.now result }
+{
+    tell_payloads(document, &mut Unheard)
 }

@@ -3,6 +3,8 @@
 ghost use Rattle.std.specs.Prelude.{◌≡◌, length, slice_get};
 ghost use Rattle.doc_rewrite.specs.Opening.{room_to_open};
 
+use crate::finding::tell_payloads;
+use crate::picking::Picking;
 use bson_codec::RawDoc;
 use std::marker::Model;
 
@@ -24,37 +26,49 @@ pub struct FoundAt {
     pub levels: u32,
 }
 
-/// The payloads of a document, seen as the list of their places in reading order.
+/// The payloads of a document, seen as the list of their places in reading order. The list isn't kept: this borrows the
+/// document's bytes, and takes no memory of its own.
 #[derive(Drop)]
-pub struct Found {
-    pub(crate) payloads: Vec<FoundAt>,
+pub struct Found<'a> {
+    pub(crate) document: RawDoc<'a>,
+    pub(crate) count: usize,
 }
 
-impl Model for Found {
-    ghost use Rattle.std.specs.Prelude.{List};
+impl<'a> Model for Found<'a> {
+    ghost use Rattle.std.specs.Prelude.{◌≡◌, List, None, length, map};
+    ghost use Rattle.doc_rewrite.specs.Finding.{found_at};
+    ghost use Rattle.doc_rewrite.specs.Founds.{payloads_of};
+    ghost use Rattle.doc_rewrite.specs.Opened.{first_wrong, misshapen};
     ghost use Rattle.doc_rewrite.specs.declared.found.FoundAt.{FoundAt};
 
     ghost Value = { List FoundAt };
 
-    ghost view = { λ f. f.payloads.items };
+    ghost view = { λ f. map found_at (payloads_of f.document) };
+
+    ghost invariant = { λ f. (f.count ≡ length (payloads_of f.document))
+        × (first_wrong misshapen (payloads_of f.document) ≡ None) };
 }
 
-impl Found {
+impl<'a> Found<'a> {
     /// How many payloads there are.
     pub fn len(&self) -> usize
         ensures count { result ≡ length self.now }
     {
-        self.payloads.len()
+        self.count
     }
 
-    /// The payload of this number, counted from 0; `None` exactly where the number isn't below `len`.
+    /// The payload of this number, counted from 0; `None` exactly where the number isn't below `len`. It walks the
+    /// document: who wants all of them has `tell_payloads`.
     pub fn get(&self, i: usize) -> Option<FoundAt>
         ensures payload { result ≡ slice_get self.now i }
     {
-        if i < self.payloads.len() {
-            Some(self.payloads[i])
-        } else {
-            None
+        let mut picking = Picking {
+            before: i,
+            picked: None,
+        };
+        match tell_payloads(&self.document, &mut picking) {
+            Ok(_) => picking.picked,
+            Err(_) => unreachable!(),
         }
     }
 

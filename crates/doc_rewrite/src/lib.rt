@@ -10,11 +10,11 @@
 //! seal_through(&plan, &document, &keys, &hooks, &mut entropy, &mut out)?;
 //! ```
 //!
-//! [`find_payloads`] lists the payloads of a document, and [`open_through`] writes the document with each of them
-//! opened.
+//! [`find_payloads`] finds the payloads of a document, and [`open_through`] writes the document with each of them
+//! opened. Who wants each payload is a [`Listener`], which [`tell_payloads`] tells of it while it is found.
 //!
 //! ```text
-//! let found = find_payloads(alloc, &document)?;
+//! let found = find_payloads(&document)?;
 //! let mut out = vec![in alloc; 0; found.room(&document)]?;
 //! let n = open_through(&found, &document, &keys, &hooks, &mut out)?;
 //! ```
@@ -28,7 +28,9 @@ mod hashed_keys;
 mod key_table;
 pub mod laws;
 mod leaf;
+mod listener;
 mod opening;
+mod picking;
 mod placing;
 mod planning;
 mod sealing;
@@ -37,9 +39,10 @@ mod sites;
 mod unsealing;
 mod vector;
 
-pub use finding::{FindFault, find_payloads};
+pub use finding::{FindFault, find_payloads, tell_payloads};
 pub use found::{Found, FoundAt};
 pub use key_table::{KeyEntry, KeyTable};
+pub use listener::Listener;
 pub use opening::open_through;
 pub use planning::{Plan, plan_clear, plan_seal};
 pub use sealing::seal_through;

@@ -162,7 +162,7 @@ fn open_items<B: Block256>(
 /// room that `found` tells, which is at most as many bytes as the document has. Otherwise the first payload, in
 /// reading order, whose tag, padding or value is wrong; `out` may hold anything then. It takes no memory.
 pub fn open_through<B: Block256>(
-    found: &Found,
+    found: &Found<'_>,
     document: &RawDoc<'_>,
     keys: &KeyTable,
     hooks: &B,

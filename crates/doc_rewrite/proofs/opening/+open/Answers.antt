@@ -1,4 +1,4 @@
-use Rattle.std.proofs.Common.{◌≡◌, ◌∙◌, ◌+◌, ◌-◌, ◌*◌, ◌<◌, ◌≤◌, ◌^◌, ◌++◌, ◌∷◌, [], ap, ap₂, take, arith, length, List}
+use Rattle.std.proofs.Common.{◌≡◌, ◌∙◌, ◌+◌, ◌-◌, ◌*◌, ◌<◌, ◌^◌, ◌++◌, ◌∷◌, [], ap, ap₂, take, arith, length, List}
 use Rattle.std.proofs.Common.{ℕ, rules}
 use Rattle.bson_tree.specs.Tree.{items_size, tag_of, tree_size}
 use Rattle.bson_tree.specs.Spelling.{items_bytes}

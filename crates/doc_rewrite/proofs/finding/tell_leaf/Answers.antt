@@ -1,14 +1,13 @@
-use Rattle.std.proofs.Common.{◌≡◌, ◌∙◌, ◌++◌, ◌∷◌, ◌+◌, [], ap, sym, length, rules, arith}
+use Rattle.std.proofs.Common.{◌≡◌, ◌∙◌, ◌+◌, ap, sym, length, rules, arith}
 use Rattle.bson_tree.specs.Spelling.{value_bytes}
 use Rattle.payload6.specs.Verdicts.{id_in}
 use Rattle.payload6.proofs.Verdicts.{id_is}
 use Rattle.doc_rewrite.specs.Founds.{contents_of}
-use Rattle.doc_rewrite.specs.declared.found.FoundAt.{FoundAt}
 use Rattle.doc_rewrite.proofs.Finds.{finds_one, finds_wrong, length_of_parts, told}
-use Rattle.doc_rewrite.proofs.finding.find_leaf.Goals as goal
+use Rattle.doc_rewrite.proofs.finding.tell_leaf.Goals as goal
 
-pub returns-in-Ok : goal.returns-in-Ok
-returns-in-Ok c =
+pub returns-in-Payload : goal.returns-in-Payload
+returns-in-Payload g c =
     let p = c.in-Payload.payload in
     let e = c.args.item.now in
     let long_id : length p.key_id ≡ 16 = search rules in
@@ -21,13 +20,12 @@ returns-in-Ok c =
     let here = told c.args.levels e.start c.start.result
     (c.start-in-Payload.result + length c.value-width.result.now) e.tree p.key_id c.start.ensures.start end id in
     record {
-      found = finds_one c.args.levels e.start e.tree _ _ c.args.found.now.items c.push.new.self.items c.requires.raw
-          c.in-Payload.ensures.is.0 long
-          (c.in-Ok.ensures.items ∙ ap (λ (f : FoundAt). c.args.found.now.items ++ f ∷ []) here);
+      found = finds_one g.L.Listener.tells c.args.levels e.start e.tree _ _ c.requires.raw c.args.count
+          c.args.listener.now _ c.tell.new.self c.in-Payload.ensures.is.0 long here c.tell.ensures.told;
     }
 
 pub returns-in-Misshapen : goal.returns-in-Misshapen
-returns-in-Misshapen c =
+returns-in-Misshapen g c =
     let e = c.args.item.now in
     let is = c.in-Misshapen.ensures.is in
     record {
