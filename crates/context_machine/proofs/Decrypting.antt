@@ -1,10 +1,10 @@
 -- A document that is opened with the keys that were kept.
-use Rattle.std.proofs.Common.{◌≡◌, ◌∙◌, ℕ, zero, suc, ◌+◌, List, [], ◌∷◌, map, drop, Option, Some, None}
-use Rattle.std.proofs.Common.{Result, refl, sym, ap, arith, subst}
-use Rattle.std.specs.Prelude.{is_some, slice_get, MatchOption}
+use Rattle.std.proofs.Common.{◌≡◌, ◌∙◌, ℕ, List, [], ◌∷◌, map, false}
+use Rattle.std.proofs.Common.{Result, refl, sym, ap, subst}
+use Rattle.std.specs.Prelude.{is_some}
 use Rattle.bson_codec.specs.Borrowed.{At}
 use Rattle.data_key.specs.declared.key_doc.KeyDoc.{KeyDoc}
-use Rattle.doc_rewrite.specs.Finding.{HasKeysFor, IsFoundIn, found_at}
+use Rattle.doc_rewrite.specs.Finding.{HasKeysFor, IsFoundIn, Tells, found_at}
 use Rattle.doc_rewrite.specs.Founds.{Place, payloads_of}
 use Rattle.doc_rewrite.specs.Keys.{key_in}
 use Rattle.doc_rewrite.specs.Opened.{Keyring}
@@ -12,8 +12,8 @@ use Rattle.doc_rewrite.specs.declared.found.FoundAt.{FoundAt}
 use Rattle.doc_rewrite.specs.declared.key_table.KeyEntry.{KeyEntry}
 use Rattle.context_machine.specs.declared.need.Need.{Need}
 use Rattle.context_machine.specs.declared.opened_keys.KeysStop.{KeysStop}
-use Rattle.context_machine.specs.Decrypting.{need_found}
-use Rattle.context_machine.specs.Needs.{first_needs}
+use Rattle.context_machine.specs.Decrypting.{Gathers, GathersOne, need_found}
+use Rattle.context_machine.specs.Needs.{first_needs, with_new}
 use Rattle.context_machine.specs.Rings.{AreOpened, need_in, needs_in, ring}
 use Rattle.context_machine.specs.States.{Opens}
 use Rattle.context_machine.specs.Tables.{OpensKeys, TellsTable, table_of}
@@ -25,8 +25,24 @@ needs_same : (ps : List Place) → map need_found (map found_at ps) ≡ map need
 needs_same [] = refl
 needs_same (p ∷ ps) = ap (λ (ns : List Need). need_in p ∷ ns) (needs_same ps)
 
-pub found_needs : (d : At) (fs : List FoundAt) → IsFoundIn d fs → map need_found fs ≡ needs_in d
+found_needs : (d : At) (fs : List FoundAt) → IsFoundIn d fs → map need_found fs ≡ needs_in d
 found_needs d fs found = ap (map need_found) found.all ∙ needs_same (payloads_of d)
+
+-- all that were told of, where memory didn't run short
+gathers_all : (a b : Gathers) (fs : List FoundAt) → Tells GathersOne a b fs → b.short ≡ false
+    → (a.short ≡ false) × (b.needs ≡ with_new a.needs (map need_found fs))
+gathers_all a b [] told long = (ap (λ (g : Gathers). g.short) told ∙ long, sym (ap (λ (g : Gathers). g.needs) told))
+gathers_all a b (f ∷ fs) told long =
+    let rest = gathers_all told.0 b fs told.2 long in
+    let one = told.1 rest.0 in
+    (one.0, rest.1 ∙ ap (λ (ns : List Need). with_new ns (map need_found fs)) one.1)
+
+pub gathered : (d : At) (fs : List FoundAt) (a b : Gathers) → IsFoundIn d fs → a ≡ record { needs = []; short = false }
+    → Tells GathersOne a b fs → b.short ≡ false → b.needs ≡ first_needs (needs_in d)
+gathered d fs a b found none told long =
+    (gathers_all a b fs told long).1
+    ∙ ap (λ (g : Gathers). with_new g.needs (map need_found fs)) none
+    ∙ ap first_needs (found_needs d fs found)
 
 -- ---- what is there
 
@@ -50,23 +66,3 @@ kept_opens s d kept needs master r is first tells =
     subst (λ (ns : List Need). TellsTable (table_of (ring kept master) ns) r) first tells in
     subst (λ (o : Opens). OpensKeys (ring o.kept master) (needs_in o.document) r) is
     (opens_keys (ring kept master) (needs_in d) r made)
-
--- ---- payload by payload
-
-got_none : (i : ℕ) (fs : List FoundAt) → slice_get fs i ≡ None → drop i fs ≡ []
-got_none zero [] e = refl
-got_none (suc i) [] e = refl
-got_none zero (f ∷ fs) e = absurd cc
-got_none (suc i) (f ∷ fs) e = got_none i fs e
-
-got_one : (i : ℕ) (fs : List FoundAt) (f : FoundAt) → slice_get fs i ≡ Some f → drop i fs ≡ f ∷ drop (i + 1) fs
-got_one i [] f e = absurd cc
-got_one zero (g ∷ fs) f e = cc
-got_one (suc i) (g ∷ fs) f e =
-    let turned : suc (i + 1) ≡ suc i + 1 = omega arith in
-    subst (λ (k : ℕ). drop i fs ≡ f ∷ drop k (g ∷ fs)) turned (got_one i fs f e)
-
-pub got_first : (i : ℕ) (fs : List FoundAt) (found : Option FoundAt) → found ≡ slice_get fs i
-    → MatchOption found (drop i fs ≡ []) (λ f. drop i fs ≡ f ∷ drop (i + 1) fs)
-got_first i fs None e = got_none i fs (sym e)
-got_first i fs (Some f) e = got_one i fs f (sym e)

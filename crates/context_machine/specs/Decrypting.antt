@@ -1,5 +1,5 @@
 -- MongoDB Client Side Encryption, decryption: what the steps of opening a document answer
-use Rattle.std.specs.Prelude.{◌≡◌, ℕ, List, Some, Ok, Err}
+use Rattle.std.specs.Prelude.{◌≡◌, ℕ, Bool, false, List, Some, Ok, Err}
 use Rattle.bson_tree.specs.Tree.{Items}
 use Rattle.bson_tree.specs.Spelling.{doc_bytes}
 use Rattle.bson_codec.specs.Borrowed.{At}
@@ -10,10 +10,21 @@ use Rattle.doc_rewrite.specs.Opened.{Keyring, first_wrong, misshapen, opened}
 use Rattle.doc_rewrite.specs.declared.found.FoundAt.{FoundAt}
 use Rattle.doc_rewrite.specs.declared.unsealing.Spot.{Spot}
 use Rattle.context_machine.specs.declared.need.Need.{Need}
+use Rattle.context_machine.specs.Needs.{put_new}
 
 -- a payload that was found needs the key of its id
 abbrev pub need_found : FoundAt → Need
 need_found f = record { id = f.key_id; at = f.start }
+
+-- the needs of the payloads that were told of, and whether memory ran short
+pub record Gathers : Type 0 where
+  pub needs : List Need
+  pub short : Bool
+
+-- one more was told of: unless memory ran short by then, its need is put behind those before where its key is a new one
+abbrev pub GathersOne : Gathers → Gathers → FoundAt → Type 0
+GathersOne before after f = after.short ≡ false
+    → (before.short ≡ false) × (after.needs ≡ put_new before.needs (need_found f))
 
 -- the first payload of a length that none has; or there was no memory
 abbrev pub IsMisshapen : At → MarkFault → Type 0

@@ -1,14 +1,13 @@
 //! Opening a document, while its keys are asked for (libmongocrypt's state NEED_MONGO_KEYS).
 
-ghost use Rattle.std.specs.Prelude.{◌≡◌, ◌+◌, ◌∷◌, [], drop, length, map, option_map, slice_get, IfErr, IfOk};
-ghost use Rattle.std.specs.Prelude.{MatchOption, None};
+ghost use Rattle.std.specs.Prelude.{◌≡◌, [], length, map, option_map, slice_get, IfErr, IfOk, None};
 ghost use Rattle.bson_tree.specs.Spelling.{doc_bytes};
 ghost use Rattle.doc_rewrite.specs.Finding.{found_at};
 ghost use Rattle.doc_rewrite.specs.Founds.{payloads_of};
 ghost use Rattle.doc_rewrite.specs.Opened.{first_wrong, misshapen};
 ghost use Rattle.doc_rewrite.specs.Opening.{room_to_open};
 ghost use Rattle.context_machine.specs.Asks.{key_filter};
-ghost use Rattle.context_machine.specs.Decrypting.{IsMisshapen, need_found};
+ghost use Rattle.context_machine.specs.Decrypting.{IsMisshapen};
 ghost use Rattle.context_machine.specs.Kept.{fed};
 ghost use Rattle.context_machine.specs.Needs.{first_needs, ids_of};
 ghost use Rattle.context_machine.specs.Rings.{AreOpened, needs_in, ring};
@@ -17,26 +16,25 @@ ghost use Rattle.context_machine.specs.Tables.{KeysFail};
 use crate::decrypt_ready::DecryptReady;
 use crate::keys_asked::key_filter;
 use crate::need::Need;
-use crate::needed::put_new;
 use crate::opened_keys::{KeysStop, open_keys, open_keys_cached};
+use crate::payload_needs::PayloadNeeds;
 use crate::wanted::Wanted;
 use bson_codec::RawDoc;
 use crypto_hooks::Block256;
 use data_key::KeyDoc;
-use doc_rewrite::{FindFault, Found, FoundAt, find_payloads};
+use doc_rewrite::{FindFault, Found, tell_payloads};
 use encrypt_schema::{MarkFault, Reason};
 use fle_outside::Memory;
 use key_vault::KeyCache;
 use local_kms::MasterKey;
 use std::alloc::Global;
-use std::collections::BTreeMap;
 use std::marker::Model;
 
 /// A document whose payloads need keys, and the keys kept so far.
 #[derive(Drop)]
 pub struct DecryptNeedKeys<'a> {
     pub(crate) document: RawDoc<'a>,
-    pub(crate) found: Found,
+    pub(crate) found: Found<'a>,
     wanted: Wanted<'a>,
 }
 
@@ -66,8 +64,9 @@ impl<'a> DecryptNeedKeys<'a> {
         ensures shaped { IfOk result (λ _. first_wrong misshapen (payloads_of document.entry) ≡ None) }
         ensures refused { IfErr result (IsMisshapen document.entry) }
     {
-        match find_payloads(alloc, &document) {
-            Ok(found) => match wanted_of(alloc, &found) {
+        let mut needs = PayloadNeeds::new(alloc);
+        match tell_payloads(&document, &mut needs) {
+            Ok(found) => match needs.wanted(alloc) {
                 Ok(wanted) => Ok(DecryptNeedKeys {
                     document,
                     found,
@@ -75,11 +74,10 @@ impl<'a> DecryptNeedKeys<'a> {
                 }),
                 Err(_) => Err(MarkFault::Memory),
             },
-            Err(FindFault::Shape { at }) => Err(MarkFault::Refused {
+            Err(FindFault { at }) => Err(MarkFault::Refused {
                 reason: Reason::PayloadShape,
                 at,
             }),
-            Err(FindFault::Memory) => Err(MarkFault::Memory),
         }
     }
 
@@ -181,37 +179,4 @@ impl<'a> DecryptNeedKeys<'a> {
             Err(_) => Err(Memory),
         }
     }
-}
-
-/// The keys that payloads need, none of them kept yet.
-fn wanted_of<'a>(alloc: Global, found: &Found) -> Result<Wanted<'a>, Memory>
-    ensures wanted { IfOk result (λ w. w ≡ record { needs = first_needs (map need_found found.now); kept = [] }) }
-{
-    let mut needs = Vec::new(alloc);
-    let mut slots = BTreeMap::new(alloc);
-    for i in 0..found.len() {
-        match payload_at(found, i) {
-            Some(payload) => put_new(&mut needs, &mut slots, need_of(&payload))?,
-            None => unreachable!(),
-        }
-    }
-    Wanted::new(alloc, needs, slots)
-}
-
-/// What a payload needs: the key that it names.
-fn need_of(payload: &FoundAt) -> Need
-    ensures need { result ≡ need_found payload.now }
-{
-    Need {
-        id: payload.key_id,
-        at: payload.start,
-    }
-}
-
-/// The payload of this number, counted from 0.
-fn payload_at(found: &Found, i: usize) -> Option<FoundAt>
-    ensures first { MatchOption result (drop i found.now ≡ [])
-        (λ f. drop i found.now ≡ f ∷ drop (i + 1) found.now) }
-{
-    found.get(i)
 }

@@ -34,6 +34,7 @@ mod need_keys;
 mod need_markings;
 mod needed;
 mod opened_keys;
+mod payload_needs;
 mod ready;
 mod slots;
 mod wanted;

@@ -1,5 +1,0 @@
-use Rattle.context_machine.proofs.Decrypting.{got_first}
-use Rattle.context_machine.proofs.decrypt_need_keys.payload_at.Goals as goal
-
-pub returns : goal.returns
-returns c = record { first = got_first c.args.i c.args.found.now c.get.result c.get.ensures.payload }
