@@ -1,6 +1,6 @@
 pub mod Messages
 pub mod SameBlocks
 pub mod Sealable
-pub mod InOrder
+pub mod Asked
 pub mod Payloads
 pub mod Turns

@@ -1,6 +1,6 @@
 //! A sealed document opened some times over.
 
-ghost use Rattle.std.specs.Prelude.{◌≡◌, ◌+◌, ◌<◌, ◌≤◌, ◌∷◌, [], drop, length, map, take, IfSome, IsTrue, MatchOption};
+ghost use Rattle.std.specs.Prelude.{◌≡◌, ◌<◌, ◌≤◌, length, map, take, IfSome};
 ghost use Rattle.doc_rewrite.specs.Finding.{HasKeysFor, found_at};
 ghost use Rattle.doc_rewrite.specs.Founds.{payloads_of};
 ghost use Rattle.doc_rewrite.specs.Keys.{key_in};
@@ -12,7 +12,7 @@ use crate::checksum::checksum;
 use crate::documents::keys;
 use bson_codec::{RawDoc, check_bson};
 use crypto_hooks::Tables;
-use doc_rewrite::{Found, FoundAt, KeyTable, find_payloads, open_through};
+use doc_rewrite::{FoundAt, KeyTable, Listener, find_payloads, open_through, tell_payloads};
 use std::alloc::Global;
 
 /// Opens the payloads of a document, some times over, and gives the checksum of what was written last; `None` where the
@@ -31,23 +31,46 @@ fn open_document(alloc: Global, document: &RawDoc<'_>, turns: u32) -> Option<u32
     ensures sum { IfSome result (λ sum. 0 < turns → sum ≡ checksum (opened_bytes the_keys document.now)) }
 {
     let keys = keys(alloc)?;
-    let room = keyed_room(alloc, document, &keys)?;
+    let room = keyed_room(document, &keys)?;
     match vec![in alloc; 0u8; room] {
-        Ok(out) => opened_sum(alloc, document, &keys, out, turns),
+        Ok(out) => opened_sum(document, &keys, out, turns),
         Err(_) => None,
     }
 }
 
-/// How much room it takes to open a document; `None` where the key of a payload is missing, where one has a length that
-/// none has, and for want of memory. The list of payloads isn't kept.
-fn keyed_room(alloc: Global, document: &RawDoc<'_>, keys: &KeyTable) -> Option<usize>
+/// Who is told of payloads, and looks up the key of each.
+#[derive(Drop)]
+struct Asking<'k> {
+    keys: &'k KeyTable,
+    /// Whether the keys of all were there so far.
+    all: bool,
+}
+
+impl<'k> Listener for Asking<'k> {
+    ghost use Rattle.std.specs.Prelude.{◌≡◌, is_some, true};
+    ghost use Rattle.doc_rewrite.specs.Keys.{key_in};
+
+    ghost tells = { λ a b f. (b.keys.now ≡ a.keys.now)
+        × (b.all ≡ true → (a.all ≡ true) × (is_some (key_in a.keys.now f.key_id) ≡ true)) };
+
+    fn tell(&mut self, payload: FoundAt) {
+        if self.keys.find(&payload.key_id).is_none() {
+            self.all = false;
+        }
+    }
+}
+
+/// How much room it takes to open a document; `None` where the key of a payload is missing, and where one has a length
+/// that none has.
+fn keyed_room(document: &RawDoc<'_>, keys: &KeyTable) -> Option<usize>
     ensures keyed { IfSome result (λ _. HasKeysFor (key_in keys.now) (map found_at (payloads_of document.now))) }
     ensures room { IfSome result (λ n. n ≡ room_to_open document.now (map found_at (payloads_of document.now))) }
 {
-    let Ok(found) = find_payloads(alloc, document) else {
+    let mut asking = Asking { keys, all: true };
+    let Ok(found) = tell_payloads(document, &mut asking) else {
         return None;
     };
-    if payloads_keyed(&found, keys) {
+    if asking.all {
         Some(found.room(document))
     } else {
         None
@@ -55,18 +78,12 @@ fn keyed_room(alloc: Global, document: &RawDoc<'_>, keys: &KeyTable) -> Option<u
 }
 
 /// The same under keys that are there, in room for it.
-fn opened_sum(
-    alloc: Global,
-    document: &RawDoc<'_>,
-    keys: &KeyTable,
-    mut out: Vec<u8>,
-    turns: u32,
-) -> Option<u32>
+fn opened_sum(document: &RawDoc<'_>, keys: &KeyTable, mut out: Vec<u8>, turns: u32) -> Option<u32>
     requires keyed { HasKeysFor (key_in keys.now) (map found_at (payloads_of document.now)) }
     requires room { room_to_open document.now (map found_at (payloads_of document.now)) ≤ length out.items }
     ensures sum { IfSome result (λ sum. 0 < turns → sum ≡ checksum (opened_bytes keys.now document.now)) }
 {
-    match open(alloc, document, keys, &mut out, turns) {
+    match open(document, keys, &mut out, turns) {
         Some(n) => Some(front_sum(out, n)),
         None => None,
     }
@@ -80,55 +97,27 @@ fn front_sum(mut out: Vec<u8>, n: usize) -> u32
     checksum(&out)
 }
 
-/// Whether the key of each payload is there.
-fn payloads_keyed(found: &Found, keys: &KeyTable) -> bool
-    ensures keyed { IsTrue result → HasKeysFor (key_in keys.now) found.now }
-{
-    for i in 0..found.len() {
-        match payload_at(found, i) {
-            Some(payload) => if keys.find(&payload.key_id).is_none() {
-                return false;
-            },
-            None => return false,
-        }
-    }
-    true
-}
-
-/// The payload of this number, counted from 0.
-fn payload_at(found: &Found, i: usize) -> Option<FoundAt>
-    ensures first { MatchOption result (drop i found.now ≡ []) (λ f. drop i found.now ≡ f ∷ drop (i + 1) found.now) }
-{
-    found.get(i)
-}
-
 /// Opens a document some times over, to the front of `out`, and says how long it was the last time.
-fn open(
-    alloc: Global,
-    document: &RawDoc<'_>,
-    keys: &KeyTable,
-    out: &mut [u8],
-    turns: u32,
-) -> Option<usize>
+fn open(document: &RawDoc<'_>, keys: &KeyTable, out: &mut [u8], turns: u32) -> Option<usize>
     requires keyed { HasKeysFor (key_in keys.now) (map found_at (payloads_of document.now)) }
     requires room { room_to_open document.now (map found_at (payloads_of document.now)) ≤ length out.old }
     ensures opened { 0 < turns → IfSome result (λ n. take n out.new ≡ opened_bytes keys.now document.now) }
 {
     let mut opened = Some(0);
     for _turn in 0..turns {
-        opened = open_once(alloc, document, keys, out);
+        opened = open_once(document, keys, out);
     }
     opened
 }
 
-/// Finds the payloads of a document and opens them; `None` where one isn't opened, and for want of memory.
-fn open_once(alloc: Global, document: &RawDoc<'_>, keys: &KeyTable, out: &mut [u8]) -> Option<usize>
+/// Finds the payloads of a document and opens them; `None` where one isn't opened.
+fn open_once(document: &RawDoc<'_>, keys: &KeyTable, out: &mut [u8]) -> Option<usize>
     requires keyed { HasKeysFor (key_in keys.now) (map found_at (payloads_of document.now)) }
     requires room { room_to_open document.now (map found_at (payloads_of document.now)) ≤ length out.old }
     ensures size { length out.new ≡ length out.old }
     ensures opened { IfSome result (λ n. take n out.new ≡ opened_bytes keys.now document.now) }
 {
-    let Ok(found) = find_payloads(alloc, document) else {
+    let Ok(found) = find_payloads(document) else {
         return None;
     };
     match open_through(&found, document, keys, &Tables, out) {
