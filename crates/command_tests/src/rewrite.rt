@@ -10,3 +10,4 @@ mod sample_bytes;
 mod samples;
 mod sealing_tests;
 mod standing;
+mod telling_tests;

@@ -1,6 +1,7 @@
 //! The values of a document that are to be sealed, read from its marks and their rules.
 
-ghost use Rattle.std.specs.Prelude.{◌≡◌, ◌+◌, ◌<◌, ◌^◌, ◌∷◌, [], drop, length, option_map, slice_get, IfSome, MatchOption};
+ghost use Rattle.std.specs.Prelude.{◌≡◌, ◌+◌, ◌<◌, ◌^◌, ◌∷◌, [], drop, length, option_map, slice_get, IfSome};
+ghost use Rattle.std.specs.Prelude.{MatchOption};
 ghost use Rattle.bson_splice.specs.Spans.{IsNextAt};
 ghost use Rattle.payload6.specs.Marking.{key_id};
 ghost use Rattle.doc_rewrite.specs.Plans.{AreRuled};
@@ -142,7 +143,8 @@ pub(crate) fn site_at(sites: &Sites<'_>, i: usize) -> Option<Site>
 
 /// Where the next site begins, those before `i` being behind.
 pub(crate) fn start_at(sites: &Sites<'_>, i: usize) -> Option<usize>
-    ensures next { MatchOption result (spans_of (drop i sites.now) ≡ []) (λ at. IsNextAt (spans_of (drop i sites.now)) at) }
+    ensures next { MatchOption result (spans_of (drop i sites.now) ≡ [])
+        (λ at. IsNextAt (spans_of (drop i sites.now)) at) }
 {
     sites.start(i)
 }

@@ -47,7 +47,7 @@ fn is_keyless(alloc: Global, i: usize, byte: u8) -> Result<bool, Fail> {
     if bytes.len() > 1000 {
         return Err("too long".into());
     }
-    match find_payloads(alloc, &check_bson(&bytes)?) {
+    match find_payloads(&check_bson(&bytes)?) {
         Ok(found) => Ok(!has_keys(&found, &key_of_tests(alloc)?)),
         Err(_) => Ok(false),
     }

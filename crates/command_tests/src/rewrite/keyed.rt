@@ -7,14 +7,14 @@ ghost use Rattle.doc_rewrite.specs.Keys.{key_in};
 use doc_rewrite::{Found, FoundAt, KeyTable};
 
 /// The payload of this number, counted from 0.
-fn payload_at(found: &Found, i: usize) -> Option<FoundAt>
+fn payload_at(found: &Found<'_>, i: usize) -> Option<FoundAt>
     ensures first { MatchOption result (drop i found.now ≡ []) (λ f. drop i found.now ≡ f ∷ drop (i + 1) found.now) }
 {
     found.get(i)
 }
 
 /// Whether the key of each payload is there.
-pub(crate) fn has_keys(found: &Found, keys: &KeyTable) -> bool
+pub(crate) fn has_keys(found: &Found<'_>, keys: &KeyTable) -> bool
     ensures keyed { IsTrue result → HasKeysFor (key_in keys.now) found.now }
 {
     for i in 0..found.len() {

@@ -48,10 +48,9 @@ pub(crate) fn key_of_tests(alloc: Global) -> Result<KeyTable, Fail> {
 
 /// What a document opens to, or why it doesn't.
 fn open(alloc: Global, document: &RawDoc<'_>) -> Result<Result<Vec<u8>, Refused>, Fail> {
-    let found = match find_payloads(alloc, document) {
+    let found = match find_payloads(document) {
         Ok(found) => found,
-        Err(FindFault::Shape { at }) => return Ok(Err(Refused::Shape(at))),
-        Err(FindFault::Memory) => return Err("no memory".into()),
+        Err(FindFault { at }) => return Ok(Err(Refused::Shape(at))),
     };
     let keys = key_of_tests(alloc)?;
     if !has_keys(&found, &keys) {

@@ -7,5 +7,6 @@ use Rattle.doc_rewrite.proofs.planning.plan_clear.Goals as goal
 pub returns-clause-stands : goal.returns-clause-stands
 returns-clause-stands c =
     let size = ap length c.bytes-size.ensures.spelling in
-    subst (λ (ss : List Site). StandsFor (record { sites = ss; size = length c.bytes-size.result.now }) c.args.document.now)
-    (sym c.none.ensures.empty) (clear_stands c.args.document.now _ size)
+    let d = c.args.document.now in
+    subst (λ (ss : List Site). StandsFor (record { sites = ss; size = length c.bytes-size.result.now }) d)
+    (sym c.none.ensures.empty) (clear_stands d _ size)
