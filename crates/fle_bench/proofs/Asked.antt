@@ -1,5 +1,5 @@
 -- Payloads whose keys are looked up while they are found.
-use Rattle.std.proofs.Common.{◌≡◌, Bool, true, List, [], ◌∷◌, ap, subst, sym, ◌∙◌}
+use Rattle.std.proofs.Common.{◌≡◌, Bool, true, List, [], ◌∷◌, ap, subst, ◌∙◌}
 use Rattle.std.specs.Prelude.{is_some}
 use Rattle.doc_rewrite.specs.declared.found.FoundAt.{FoundAt}
 use Rattle.doc_rewrite.specs.declared.key_table.KeyEntry.{KeyEntry}
