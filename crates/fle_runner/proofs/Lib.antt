@@ -6,6 +6,7 @@ pub mod Marks
 pub mod Shows
 pub mod JsonMarks
 pub mod Vaults
+pub mod VerbEnds
 pub mod NewKeys
 pub mod Backs
 pub mod HeadlineReads

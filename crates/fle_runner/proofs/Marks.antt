@@ -1,18 +1,24 @@
 -- What a reply makes of a judgement.
 use Rattle.std.proofs.Common.{◌≡◌, ◌<◌, ◌≤◌, ℕ, Bool, true, false, nat_lt, cond, Option, Some, None, List}
-use Rattle.std.proofs.Common.{[], length, Vec, Global, refl, arith}
+use Rattle.std.proofs.Common.{[], length, Vec, Global, refl, sym, ap, subst, Err, ◌∙◌, arith}
 use Rattle.std.proofs.lemmas.Bool.Decides.{nat_tests}
 use Rattle.bson_tree.specs.Tree.{Items}
+use Rattle.bson_codec.specs.Borrowed.{At}
+use Rattle.command_marker.specs.Commands.{Command, MarksAs}
 use Rattle.command_marker.specs.Reply.{reply_limit, reply_to}
 use Rattle.encrypt_schema.specs.Language.Collection.{Collection}
 use Rattle.encrypt_schema.specs.Commands.Targets.{rows_of, verdict}
-use Rattle.encrypt_schema.specs.Commands.Visits.{Refusal}
+use Rattle.encrypt_schema.specs.Commands.Visits.{Refusal, content_verdict}
+use Rattle.encrypt_schema.specs.Language.Row.{Row}
+use Rattle.encrypt_schema.specs.declared.command.marks.MarkFault.{MarkFault}
+use Rattle.encrypt_schema.specs.declared.command.marks.MarkFault.TheVariants as faults
 use Rattle.fle_outside.specs.Seen.{EntropySeen}
 use Rattle.fle_outside.proofs.Drawings.{draws_none}
-use Rattle.fle_runner.specs.Mark.{mark_verdict, sized}
-use Rattle.fle_runner.specs.Verdicts.{by_refusal, plain_plan}
+use Rattle.fle_runner.specs.Mark.{mark_verdict, sized, verdict_under}
+use Rattle.fle_runner.specs.Verdicts.{Tells, by_refusal, plain_plan}
 use Rattle.fle_stream.specs.Judge.{JudgeIs}
 use Rattle.fle_stream.specs.Plan.{DrawsNone, Verdict, writes, refused, too_long, draws_in}
+use Rattle.fle_stream.specs.declared.judging.Judged.{Judged}
 use Rattle.fle_stream.specs.declared.judging.Judged.TheVariants as judgements
 
 -- no reply draws a block
@@ -53,3 +59,29 @@ pub judged_memory : (v : Verdict) (e : EntropySeen) → JudgeIs v e e judgements
 judged_memory (writes plan) e = ([], omega arith, draws_none e)
 judged_memory (refused reason place) e = draws_none e
 judged_memory too_long e = draws_none e
+
+-- what a command comes to by its contents, wherever its offsets begin
+under : (rows : List Row) (command : At) (r : Option Refusal) → command.start ≡ 0
+    → content_verdict rows command.start command.tree ≡ r
+    → verdict_under rows command.tree ≡ by_refusal command.tree r (sized (reply_to rows command.tree))
+under rows command r whole told =
+    ap (λ (o : Option Refusal). by_refusal command.tree o (sized (reply_to rows command.tree)))
+    (ap (λ (n : ℕ). content_verdict rows n command.tree) (sym whole) ∙ told)
+
+-- its contents aren't refused, and it is replied to
+pub contents_marked : (rows : List Row) (command : At) (marked : Command) (result : Judged) (e : EntropySeen)
+    → command.start ≡ 0 → marked ≡ record { rows = rows; command = command }
+    → content_verdict rows command.start command.tree ≡ None
+    → JudgeIs (sized (reply_to marked.rows marked.command.tree)) e e result
+    → JudgeIs (verdict_under rows command.tree) e e result
+contents_marked rows command marked result e whole is free judged =
+    subst (λ (v : Verdict). JudgeIs v e e result)
+    (ap (λ (m : Command). sized (reply_to m.rows m.command.tree)) is ∙ sym (under rows command None whole free))
+    judged
+
+-- or they are at fault
+pub contents_told : (rows : List Row) (command : At) (fault : MarkFault) → command.start ≡ 0
+    → MarksAs rows command (Err fault) → Tells fault command.tree (verdict_under rows command.tree)
+contents_told rows command (faults.Refused reason at) whole told =
+    under rows command (Some (record { reason = reason; at = at })) whole told
+contents_told rows command faults.Memory whole told = tt

@@ -1,0 +1,117 @@
+-- The ends that a verb can make, and the statuses that they have.
+use Rattle.std.proofs.Common.{◌≡◌, ℕ, ◌≤◌, List, Option, Some, None, ap, subst, arith}
+use Rattle.fle_stream.specs.Codes.{status_of}
+use Rattle.fle_outside.specs.Files.{Files}
+use Rattle.fle_stream.specs.Ended.{IsUnread}
+use Rattle.fle_stream.specs.Plan.{draws_of, size_of}
+use Rattle.fle_stream.specs.Task.{Task, outcome_of}
+use Rattle.fle_stream.specs.Turn.{IsOfStream, RunTook}
+use Rattle.fle_stream.specs.declared.why.Cut.{Cut}
+use Rattle.fle_stream.specs.declared.why.Finish.{Finish}
+use Rattle.fle_stream.specs.declared.why.Finish.TheVariants as finishes
+use Rattle.fle_stream.specs.declared.why.Cut.TheVariants as cuts
+use Rattle.fle_stream.specs.declared.why.Why.{Why}
+use Rattle.fle_stream.specs.declared.why.Why.TheVariants as whys
+use Rattle.fle_words.specs.Words.{Form}
+use Rattle.fle_runner.specs.Verbs.{task_of}
+use Rattle.fle_runner.specs.Keys.{IsOfKeys, IsOfText}
+use Rattle.fle_runner.specs.Keygen.{IsOfKeygen}
+use Rattle.fle_runner.specs.Statuses.{IsStatusOfDemo, IsStatusOfKeygen, IsStatusOfKeys}
+
+-- an end of a stream is none of words or files
+pub stream_reads : (why : Why) → IsOfStream why → IsUnread (status_of why) → ⊥
+stream_reads (whys.Finished finishes.Done) kind none = none
+stream_reads (whys.Finished (finishes.Refused reason place)) kind none = none
+stream_reads (whys.Finished (finishes.Malformed fault)) kind none = none
+stream_reads (whys.Finished (finishes.Limit bound)) kind none = none
+stream_reads (whys.Finished finishes.Words) kind none = kind
+stream_reads (whys.Finished (finishes.Setup file fault document)) kind none = kind
+stream_reads (whys.Cut cuts.Folder) kind none = none
+stream_reads (whys.Cut cuts.Input) kind none = none
+stream_reads (whys.Cut cuts.Output) kind none = none
+stream_reads (whys.Cut cuts.Entropy) kind none = none
+stream_reads (whys.Cut cuts.Memory) kind none = none
+
+-- nor is one of a text
+pub text_reads : (why : Why) → IsOfText why → IsUnread (status_of why) → ⊥
+text_reads (whys.Finished finishes.Done) kind none = none
+text_reads (whys.Finished (finishes.Refused reason place)) kind none = kind
+text_reads (whys.Finished (finishes.Malformed fault)) kind none = kind
+text_reads (whys.Finished (finishes.Limit bound)) kind none = kind
+text_reads (whys.Finished finishes.Words) kind none = kind
+text_reads (whys.Finished (finishes.Setup file fault document)) kind none = kind
+text_reads (whys.Cut cuts.Folder) kind none = none
+text_reads (whys.Cut cuts.Input) kind none = none
+text_reads (whys.Cut cuts.Output) kind none = none
+text_reads (whys.Cut cuts.Entropy) kind none = none
+text_reads (whys.Cut cuts.Memory) kind none = none
+
+pub text_status : (why : Why) → IsOfText why → IsStatusOfDemo (status_of why)
+text_status (whys.Finished finishes.Done) kind = tt
+text_status (whys.Finished (finishes.Refused reason place)) kind = kind
+text_status (whys.Finished (finishes.Malformed fault)) kind = kind
+text_status (whys.Finished (finishes.Limit bound)) kind = kind
+text_status (whys.Finished finishes.Words) kind = kind
+text_status (whys.Finished (finishes.Setup file fault document)) kind = kind
+text_status (whys.Cut cuts.Folder) kind = kind
+text_status (whys.Cut cuts.Input) kind = kind
+text_status (whys.Cut cuts.Output) kind = tt
+text_status (whys.Cut cuts.Entropy) kind = kind
+text_status (whys.Cut cuts.Memory) kind = tt
+
+pub keys_status : (why : Why) → IsOfKeys why → IsStatusOfKeys (status_of why)
+keys_status (whys.Finished finishes.Done) kind = tt
+keys_status (whys.Finished (finishes.Refused reason place)) kind = kind
+keys_status (whys.Finished (finishes.Malformed fault)) kind = kind
+keys_status (whys.Finished (finishes.Limit bound)) kind = kind
+keys_status (whys.Finished finishes.Words) kind = kind
+keys_status (whys.Finished (finishes.Setup file fault document)) kind = tt
+keys_status (whys.Cut cuts.Folder) kind = tt
+keys_status (whys.Cut cuts.Input) kind = tt
+keys_status (whys.Cut cuts.Output) kind = tt
+keys_status (whys.Cut cuts.Entropy) kind = kind
+keys_status (whys.Cut cuts.Memory) kind = tt
+
+pub keygen_status : (why : Why) → IsOfKeygen why → IsStatusOfKeygen (status_of why)
+keygen_status (whys.Finished finishes.Done) kind = tt
+keygen_status (whys.Finished (finishes.Refused reason place)) kind = kind
+keygen_status (whys.Finished (finishes.Malformed fault)) kind = kind
+keygen_status (whys.Finished (finishes.Limit bound)) kind = kind
+keygen_status (whys.Finished finishes.Words) kind = kind
+keygen_status (whys.Finished (finishes.Setup file fault document)) kind = tt
+keygen_status (whys.Cut cuts.Folder) kind = tt
+keygen_status (whys.Cut cuts.Input) kind = tt
+keygen_status (whys.Cut cuts.Output) kind = tt
+keygen_status (whys.Cut cuts.Entropy) kind = tt
+keygen_status (whys.Cut cuts.Memory) kind = tt
+
+-- words that have a form don't lack it
+pub unasked : {A : Type 0} {form : Option A} {asked : A} → form ≡ Some asked → form ≡ None → ⊥
+unasked is none = cc
+
+-- what is finished isn't cut short
+pub uncut : {finish : Finish} {cut : Cut} → whys.Finished finish ≡ whys.Cut cut → ⊥
+uncut at = cc
+
+-- a run that is at no document took nothing
+pub took_none : (taken number : ℕ) → number ≡ 0 → RunTook taken taken number
+took_none taken number none = (omega arith, omega arith)
+
+-- there was no memory
+abbrev pub IsMemory : Why → Type 0
+IsMemory (whys.Cut cuts.Memory) = Unit {0}
+IsMemory _ = ⊥
+
+-- the words that ask for this have its task
+pub task_asked : {form asked : Option Form} (now : ℕ) (all : Files) → form ≡ asked
+    → task_of now form all ≡ task_of now asked all
+task_asked now all is = ap (λ (f : Option Form). task_of now f all) is
+
+-- so what is enough for one task is for the other
+pub bytes_enough : {t u : Task} {n : ℕ} (told : List ℕ) → t ≡ u → size_of (outcome_of t told).outputs ≤ n
+    → size_of (outcome_of u told).outputs ≤ n
+bytes_enough {n = n} told is enough = subst (λ (t : Task). size_of (outcome_of t told).outputs ≤ n) is enough
+
+pub blocks_enough : {t u : Task} {n : ℕ} (told : List ℕ) → t ≡ u → draws_of (outcome_of t told).outputs ≤ n
+    → draws_of (outcome_of u told).outputs ≤ n
+blocks_enough {n = n} told is enough = subst (λ (t : Task). draws_of (outcome_of t told).outputs ≤ n) is enough
