@@ -7,3 +7,4 @@ pub mod Loads
 pub mod Programs
 pub mod Endings
 pub mod Outputs
+pub mod Turned
