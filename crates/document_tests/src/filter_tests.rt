@@ -1,63 +1,66 @@
 //! The marks of filters, and where one is refused.
 
-use bson_codec::{RawDoc, check_bson};
+use bson_codec::check_bson;
 use encrypt_schema::{Mark, MarkFault, Marks, Reason, Role, Rows};
 use filter_rules::mark_filter;
 use sample_documents::{PEOPLE_SCHEMA, STAFF};
 use std::alloc::Global;
-use std::test::Fail;
 
-/// Marks a filter under the rules of a schema: why and where it is refused, or the starts of what is compared.
-fn outcome(
-    alloc: Global,
-    schema: &[u8],
-    filter: &[u8],
-) -> Result<Result<Vec<u32>, (Reason, u32)>, Fail> {
+/// The marks of a filter under the rules of a schema, or why there are none; `None` where one of the two can't be read.
+fn marks_of(alloc: Global, schema: &[u8], filter: &[u8]) -> Option<Result<Marks, MarkFault>> {
     if schema.len() > 1000 || filter.len() > 1000 {
-        return Err("a test's document is too long".into());
+        return None;
     }
-    let rows = Rows::read(alloc, &check_bson(schema)?)?;
-    outcome_under(alloc, &rows, &check_bson(filter)?)
-}
-
-/// The same under these rules.
-fn outcome_under(
-    alloc: Global,
-    rows: &Rows,
-    filter: &RawDoc<'_>,
-) -> Result<Result<Vec<u32>, (Reason, u32)>, Fail> {
+    let rows = Rows::read(alloc, &check_bson(schema).ok()?).ok()?;
+    let filter = check_bson(filter).ok()?;
     let mut marks = Marks::new(alloc);
-    match mark_filter(&mut marks, rows, filter) {
-        Ok(()) => Ok(Ok(starts(alloc, &marks)?)),
-        Err(MarkFault::Refused { reason, at }) => Ok(Err((reason, at))),
-        Err(MarkFault::Memory) => Err("there is no memory".into()),
+    match mark_filter(&mut marks, &rows, &filter) {
+        Ok(()) => Some(Ok(marks)),
+        Err(fault) => Some(Err(fault)),
     }
 }
 
-/// Where the marks begin, each of a string of one byte that is compared under the first rule.
-fn starts(alloc: Global, marks: &Marks) -> Result<Vec<u32>, Fail> {
-    let mut starts = Vec::new(alloc);
-    for i in 0..marks.len() {
-        let mark = marks.get(i).ok_or("no mark")?;
+/// Whether the marks begin here, each of a string of one byte that is compared under the first rule.
+fn are_strings_at(marks: &Marks, starts: &[u32]) -> bool {
+    for i in 0..starts.len() {
         let compared = Mark {
-            start: mark.start,
-            end: mark.start.saturating_add(6),
+            start: starts[i],
+            end: starts[i].saturating_add(6),
             tag: 0x02,
             policy: 0,
             role: Role::Compare,
         };
-        if mark != compared {
-            return Err("another mark".into());
+        if marks.get(i) != Some(compared) {
+            return false;
         }
-        starts.push(mark.start)?;
     }
-    Ok(starts)
+    marks.len() == starts.len()
+}
+
+/// Whether such strings, which begin here, are all that is marked of a filter under the rules of people.
+fn is_marked(alloc: Global, filter: &[u8], starts: &[u32]) -> bool {
+    matches!(marks_of(alloc, PEOPLE_SCHEMA, filter), Some(Ok(marks)) if are_strings_at(&marks, starts))
+}
+
+/// Whether a filter is refused for this reason at this offset.
+fn is_refused(alloc: Global, schema: &[u8], filter: &[u8], reason: Reason, at: u32) -> bool {
+    match marks_of(alloc, schema, filter) {
+        Some(
+            Err(
+                MarkFault::Refused {
+                    reason: found,
+                    at: place,
+                },
+            ),
+        ) => found == reason && place == at,
+        _ => false,
+    }
 }
 
 /// `{ssn: {$in: ["x", "y", "x"]}}`, `{$or: [{ssn: "x"}, {ssn: {$ne: "x"}}]}`, `{ssn: {$not: {$eq: "x"}}}`,
 /// `{salary: {$exists: true}}`, `{ssn: {$in: []}}`.
 #[test]
-fn compared_values_are_marked(rt: HostRuntime) -> Result<(), Fail> {
+fn compared_values_are_marked(rt: HostRuntime) {
     let cases: &[(&[u8], &[u32])] = &[
         (
             b"4\x00\x00\x00\x03ssn\x00*\x00\x00\x00\x04$in\x00 \x00\x00\x00\x020\x00\x02\x00\x00\x00x\x00\
@@ -83,19 +86,15 @@ fn compared_values_are_marked(rt: HostRuntime) -> Result<(), Fail> {
             &[],
         ),
     ];
-    for (filter, expected) in cases {
-        match outcome(rt.alloc(), PEOPLE_SCHEMA, filter)? {
-            Ok(starts) => assert!(rt; &starts[..] == *expected),
-            Err(_) => return Err("it is refused".into()),
-        }
+    for (filter, starts) in cases {
+        assert!(rt; is_marked(rt.alloc(), filter, starts));
     }
-    Ok(())
 }
 
 /// `{salary: 3}`, `{salary: null}`, `{ssn: {$in: "x"}}`, `{salary: {$in: []}}`, `{$where: "x"}`, `{ssn: {}}`,
 /// `{ssn: {$gt: "x"}}`.
 #[test]
-fn values_are_refused_where_they_stand(rt: HostRuntime) -> Result<(), Fail> {
+fn values_are_refused_where_they_stand(rt: HostRuntime) {
     let cases: &[(&[u8], Reason, u32)] = &[
         (
             b"\x11\x00\x00\x00\x10salary\x00\x03\x00\x00\x00\x00",
@@ -134,17 +133,13 @@ fn values_are_refused_where_they_stand(rt: HostRuntime) -> Result<(), Fail> {
         ),
     ];
     for (filter, reason, at) in cases {
-        match outcome(rt.alloc(), PEOPLE_SCHEMA, filter)? {
-            Err(refused) => assert!(rt; refused == (*reason, *at)),
-            Ok(_) => return Err("it isn't refused".into()),
-        }
+        assert!(rt; is_refused(rt.alloc(), PEOPLE_SCHEMA, filter, *reason, *at));
     }
-    Ok(())
 }
 
 /// `{"a.b.c": 1}`, `{a: {b: 1}}`.
 #[test]
-fn paths_below_and_above_are_refused(rt: HostRuntime) -> Result<(), Fail> {
+fn paths_below_and_above_are_refused(rt: HostRuntime) {
     let cases: &[(&[u8], Reason, u32)] = &[
         (
             b"\x10\x00\x00\x00\x10a.b.c\x00\x01\x00\x00\x00\x00",
@@ -158,10 +153,6 @@ fn paths_below_and_above_are_refused(rt: HostRuntime) -> Result<(), Fail> {
         ),
     ];
     for (filter, reason, at) in cases {
-        match outcome(rt.alloc(), STAFF, filter)? {
-            Err(refused) => assert!(rt; refused == (*reason, *at)),
-            Ok(_) => return Err("it isn't refused".into()),
-        }
+        assert!(rt; is_refused(rt.alloc(), STAFF, filter, *reason, *at));
     }
-    Ok(())
 }

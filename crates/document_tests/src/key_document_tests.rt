@@ -6,8 +6,8 @@ ghost use Rattle.data_key.specs.Written.{IsWritable};
 use bson_codec::check_bson;
 use bson_tree::{Bytes, Names};
 use data_key::{KeyDoc, KeyFault, Provider, read_key, write_key};
+use fle_outside::Memory;
 use std::alloc::Global;
-use std::test::Fail;
 
 /// The UUID 00112233-4455-4677-8899-aabbccddeeff.
 const ID: [u8; 16] = [
@@ -57,19 +57,19 @@ const NAMED: [u8; 331] = [
 const CREATED: i64 = 1700000000000;
 
 /// The key of these bytes with the name `hr-key`.
-fn named_key(alloc: Global) -> Result<KeyDoc, Fail>
+fn named_key(alloc: Global) -> Result<KeyDoc, Memory>
     ensures { IfOk result (λ key. IsWritable key) }
 {
     let Ok(name) = Bytes::from_slice(alloc, b"hr-key") else {
-        return Err("no memory".into());
+        return Err(Memory);
     };
     let Ok(material) = Bytes::from_slice(alloc, &MATERIAL) else {
-        return Err("no memory".into());
+        return Err(Memory);
     };
     let mut names = Names::new(alloc);
     match names.push(name) {
         Ok(()) => {}
-        Err(_) => return Err("no memory".into()),
+        Err(_) => return Err(Memory),
     }
     Ok(KeyDoc {
         id: ID,
@@ -79,44 +79,49 @@ fn named_key(alloc: Global) -> Result<KeyDoc, Fail>
     })
 }
 
-#[test]
-fn a_key_is_written_as_elsewhere(rt: HostRuntime) -> Result<(), Fail> {
-    let key = named_key(rt.alloc())?;
-    match write_key(rt.alloc(), &key, CREATED, CREATED, 0) {
-        Ok(bytes) => assert!(rt; bytes.as_slice() == NAMED.as_slice()),
-        Err(_) => return Err("no memory".into()),
+/// The document of that key.
+fn written_key(alloc: Global) -> Result<Vec<u8>, Memory> {
+    match named_key(alloc) {
+        Ok(key) => write_key(alloc, &key, CREATED, CREATED, 0),
+        Err(Memory) => Err(Memory),
     }
-    Ok(())
 }
 
-/// The key of a document, or its first fault.
-fn read(alloc: Global, bytes: &[u8]) -> Result<Result<KeyDoc, KeyFault>, Fail> {
+#[test]
+fn a_key_is_written_as_elsewhere(rt: HostRuntime) {
+    let bytes = written_key(rt.alloc()).expect(&rt, "no memory");
+    assert!(rt; bytes.as_slice() == NAMED.as_slice());
+}
+
+/// The key of a document, or its first fault; `None` where the bytes are no document.
+fn read(alloc: Global, bytes: &[u8]) -> Option<Result<KeyDoc, KeyFault>> {
     if bytes.len() > 1000 {
-        return Err("a test's document is too long".into());
+        return None;
     }
-    let document = check_bson(bytes)?;
-    Ok(read_key(alloc, &document))
+    let document = check_bson(bytes).ok()?;
+    Some(read_key(alloc, &document))
+}
+
+/// The key of a document without a fault.
+fn key_of(alloc: Global, bytes: &[u8]) -> Option<KeyDoc> {
+    read(alloc, bytes)?.ok()
 }
 
 #[test]
-fn a_key_is_read(rt: HostRuntime) -> Result<(), Fail> {
-    let Ok(key) = read(rt.alloc(), &NAMED)? else {
-        return Err("no key".into());
-    };
-    assert!(rt; key.id == ID && key.provider == Provider::Local);
-    assert!(rt; key.names.len() == 1);
-    assert!(rt; key.names.as_slice()[0].as_slice() == b"hr-key".as_slice());
+fn a_key_is_read(rt: HostRuntime) {
+    let key = key_of(rt.alloc(), &NAMED).expect(&rt, "no key");
+    assert!(rt; key.id == ID && key.provider == Provider::Local && key.names.len() == 1);
+    assert!(rt; matches!(key.names.name(0), Some(name) if name.as_slice() == b"hr-key".as_slice()));
     assert!(rt; key.material.as_slice() == MATERIAL.as_slice());
-    Ok(())
 }
 
-/// The first fault of a document.
-fn fault_of(alloc: Global, bytes: &[u8]) -> Result<Option<KeyFault>, Fail> {
-    Ok(read(alloc, bytes)?.err())
+/// Whether this is the first fault of a document.
+fn has_fault(alloc: Global, bytes: &[u8], fault: KeyFault) -> bool {
+    matches!(read(alloc, bytes), Some(Err(found)) if found == fault)
 }
 
 #[test]
-fn ids_and_names_are_judged_first(rt: HostRuntime) -> Result<(), Fail> {
+fn ids_are_judged_first(rt: HostRuntime) {
     let cases: &[(&[u8], KeyFault)] = &[
         (b"\x05\x00\x00\x00\x00", KeyFault::Id),
         (
@@ -138,6 +143,15 @@ fn ids_and_names_are_judged_first(rt: HostRuntime) -> Result<(), Fail> {
              \x02provider\x00\x06\x00\x00\x00local\x00\x00\x00",
             KeyFault::Id,
         ),
+    ];
+    for (bytes, fault) in cases {
+        assert!(rt; has_fault(rt.alloc(), bytes, *fault));
+    }
+}
+
+#[test]
+fn alternate_names_stand_once_in_an_array_of_strings(rt: HostRuntime) {
+    let cases: &[(&[u8], KeyFault)] = &[
         (
             b"{\x00\x00\x00\x05_id\x00\x10\x00\x00\x00\x04\x00\x11\x223DUFw\x88\x99\xaa\xbb\xcc\xdd\
              \xee\xff\x04keyAltNames\x00\x05\x00\x00\x00\x00\x04keyAltNames\x00\x05\x00\x00\x00\x00\
@@ -161,13 +175,12 @@ fn ids_and_names_are_judged_first(rt: HostRuntime) -> Result<(), Fail> {
         ),
     ];
     for (bytes, fault) in cases {
-        assert!(rt; fault_of(rt.alloc(), bytes)? == Some(*fault));
+        assert!(rt; has_fault(rt.alloc(), bytes, *fault));
     }
-    Ok(())
 }
 
 #[test]
-fn material_is_judged_before_the_provider(rt: HostRuntime) -> Result<(), Fail> {
+fn material_is_judged_before_the_provider(rt: HostRuntime) {
     let cases: &[(&[u8], KeyFault)] = &[
         (
             b"C\x00\x00\x00\x05_id\x00\x10\x00\x00\x00\x04\x00\x11\x223DUFw\x88\x99\xaa\xbb\xcc\xdd\
@@ -199,21 +212,17 @@ fn material_is_judged_before_the_provider(rt: HostRuntime) -> Result<(), Fail> {
         ),
     ];
     for (bytes, fault) in cases {
-        assert!(rt; fault_of(rt.alloc(), bytes)? == Some(*fault));
+        assert!(rt; has_fault(rt.alloc(), bytes, *fault));
     }
-    Ok(())
 }
 
 #[test]
-fn a_key_of_a_service_is_read(rt: HostRuntime) -> Result<(), Fail> {
+fn a_key_of_a_service_is_read(rt: HostRuntime) {
     let bytes: &[u8] =
         b"g\x00\x00\x00\x05_id\x00\x10\x00\x00\x00\x04\x00\x11\x223DUFw\x88\x99\xaa\xbb\xcc\xdd\xee\
          \xff\x04keyAltNames\x00\x05\x00\x00\x00\x00\x05keyMaterial\x00\x02\x00\x00\x00\x00\x01\x02\
          \x03masterKey\x00\x17\x00\x00\x00\x02provider\x00\x04\x00\x00\x00aws\x00\x00\x00";
-    let Ok(key) = read(rt.alloc(), bytes)? else {
-        return Err("no key".into());
-    };
+    let key = key_of(rt.alloc(), bytes).expect(&rt, "no key");
     assert!(rt; key.provider == Provider::Other && key.names.len() == 0);
     assert!(rt; key.material.as_slice() == b"\x01\x02".as_slice());
-    Ok(())
 }

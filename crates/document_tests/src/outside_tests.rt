@@ -1,42 +1,36 @@
 //! What no clause says: that each call can succeed, and what the system's streams and files do.
 
 use fle_outside::*;
-use std::alloc::Global;
+use std::alloc::{AllocError, Global};
 use std::io::{BufRead, ErrorKind, Read};
-use std::test::Fail;
 use std::{fs, io};
 
 /// A source of five bytes, at most two a call, whose calls of these numbers fail.
-fn source_of_five(alloc: Global, failing: &[u64]) -> Result<MemSource, Fail> {
+fn source_of_five(alloc: Global, failing: &[u64]) -> Result<MemSource, AllocError> {
     let bytes = vec![in alloc; 1u8, 2, 3, 4, 5]?;
     Ok(MemSource::new(bytes, 2, Vec::from_slice(alloc, failing)?))
 }
 
 #[test]
-fn source_hands_out_its_bytes_in_steps(rt: HostRuntime) -> Result<(), Fail> {
-    let mut source = source_of_five(rt.alloc(), &[1])?;
+fn source_hands_out_its_bytes_in_steps(rt: HostRuntime) {
+    let mut source = source_of_five(rt.alloc(), &[1]).expect(&rt, "no memory");
     let mut piece = [0u8; 4];
-    assert!(rt; source.read(&mut piece) == ReadAnswer::Took(2));
-    assert!(rt; piece == [1, 2, 0, 0]);
+    assert!(rt; source.read(&mut piece) == ReadAnswer::Took(2) && piece == [1, 2, 0, 0]);
     assert!(rt; source.read(&mut piece) == ReadAnswer::Failed);
     assert!(rt; source.read(&mut piece) == ReadAnswer::Took(2));
-    Ok(())
 }
 
 #[test]
-fn a_piece_is_filled_up_to_the_end(rt: HostRuntime) -> Result<(), Fail> {
-    let mut source = source_of_five(rt.alloc(), &[])?;
+fn a_piece_is_filled_up_to_the_end(rt: HostRuntime) {
+    let mut source = source_of_five(rt.alloc(), &[]).expect(&rt, "no memory");
     let mut piece = [0u8; 3];
-    assert!(rt; fill_piece(&mut source, &mut piece) == Fill::Whole);
-    assert!(rt; piece == [1, 2, 3]);
-    assert!(rt; fill_piece(&mut source, &mut piece) == Fill::Ended(2));
-    assert!(rt; piece == [4, 5, 3]);
+    assert!(rt; fill_piece(&mut source, &mut piece) == Fill::Whole && piece == [1, 2, 3]);
+    assert!(rt; fill_piece(&mut source, &mut piece) == Fill::Ended(2) && piece == [4, 5, 3]);
     assert!(rt; source.read(&mut piece) == ReadAnswer::End);
-    Ok(())
 }
 
 /// A folder of one file of three bytes, whose call of number 3 fails.
-fn folder_of_keys(alloc: Global) -> Result<MemFolder, Fail> {
+fn folder_of_keys(alloc: Global) -> Result<MemFolder, AllocError> {
     let name = String::from_str(alloc, "keys")?;
     let bytes = vec![in alloc; 7u8, 8, 9]?;
     let files = vec![in alloc; (name, bytes)]?;
@@ -45,41 +39,42 @@ fn folder_of_keys(alloc: Global) -> Result<MemFolder, Fail> {
 }
 
 #[test]
-fn folder_reads_its_files_by_name(rt: HostRuntime) -> Result<(), Fail> {
-    let mut folder = folder_of_keys(rt.alloc())?;
+fn folder_reads_its_files_by_name(rt: HostRuntime) {
+    let mut folder = folder_of_keys(rt.alloc()).expect(&rt, "no memory");
     let mut piece = [0u8; 2];
-    assert!(rt; folder.read_at("keys", 1, &mut piece) == FileAnswer::Took(2));
-    assert!(rt; piece == [8, 9]);
-    assert!(rt; folder.read_at("keys", 3, &mut piece) == FileAnswer::End);
-    assert!(rt; folder.read_at("key", 0, &mut piece) == FileAnswer::Missing);
-    assert!(rt; folder.read_at("keys", 0, &mut piece) == FileAnswer::Failed);
-    Ok(())
+    assert!(rt; folder.read_at("keys", 1, &mut piece) == FileAnswer::Took(2) && piece == [8, 9]);
+    let cases: &[(&str, u64, FileAnswer)] = &[
+        ("keys", 3, FileAnswer::End),
+        ("key", 0, FileAnswer::Missing),
+        ("keys", 0, FileAnswer::Failed),
+    ];
+    for (name, at, answer) in cases {
+        assert!(rt; folder.read_at(name, *at, &mut piece) == *answer);
+    }
 }
 
 /// A sink with room for six bytes, at most two a call, whose calls of these numbers fail.
-fn sink_of_six(alloc: Global, failing: &[u64]) -> Result<MemSink, Fail> {
-    match MemSink::new(alloc, 6, 2, Vec::from_slice(alloc, failing)?) {
-        Ok(sink) => Ok(sink),
-        Err(_) => Err("no memory".into()),
+fn sink_of_six(alloc: Global, failing: &[u64]) -> Result<MemSink, Memory> {
+    match Vec::from_slice(alloc, failing) {
+        Ok(failing) => MemSink::new(alloc, 6, 2, failing),
+        Err(_) => Err(Memory),
     }
 }
 
 #[test]
-fn sink_takes_bytes_in_steps(rt: HostRuntime) -> Result<(), Fail> {
-    let mut sink = sink_of_six(rt.alloc(), &[1])?;
+fn sink_takes_bytes_in_steps(rt: HostRuntime) {
+    let mut sink = sink_of_six(rt.alloc(), &[1]).expect(&rt, "no memory");
     assert!(rt; sink.write(b"abc") == WriteAnswer::Took(2));
     assert!(rt; sink.write(b"c") == WriteAnswer::Failed);
     assert!(rt; sink.written() == b"ab".as_slice());
-    Ok(())
 }
 
 #[test]
-fn sink_takes_bytes_until_it_is_full(rt: HostRuntime) -> Result<(), Fail> {
-    let mut sink = sink_of_six(rt.alloc(), &[])?;
+fn sink_takes_bytes_until_it_is_full(rt: HostRuntime) {
+    let mut sink = sink_of_six(rt.alloc(), &[]).expect(&rt, "no memory");
     assert!(rt; put_parts(&mut sink, &[b"abc", b"de"]) == Ok(()));
     assert!(rt; write_whole(&mut sink, b"fg") == Err(Failed));
     assert!(rt; sink.written() == b"abcdef".as_slice());
-    Ok(())
 }
 
 #[test]
@@ -105,17 +100,16 @@ fn standard_error_takes_a_line(rt: HostRuntime) {
 }
 
 #[test]
-fn files_are_opened_by_name(rt: HostRuntime) -> Result<(), Fail> {
+fn files_are_opened_by_name(rt: HostRuntime) {
     let name = "fle_outside_files_are_opened_by_name";
-    fs::write(&rt, name, b"abcd")?;
+    fs::write(&rt, name, b"abcd").expect(&rt, "no file is written");
     let mut piece = [0u8; 3];
     let mut folder = FileFolder::new(&rt);
     let front = folder.read_at(name, 0, &mut piece);
     let end = folder.read_at(name, 4, &mut piece);
-    fs::remove_file(&rt, name)?;
+    fs::remove_file(&rt, name).expect(&rt, "the file stays");
     assert!(rt; front == FileAnswer::Took(3) && end == FileAnswer::End);
     assert!(rt; piece == *b"abc");
-    Ok(())
 }
 
 #[test]
@@ -128,19 +122,18 @@ fn what_is_no_file_is_missing_or_fails(rt: HostRuntime) {
 }
 
 /// Two blocks, in the second of whose calls drawing fails.
-fn two_blocks(alloc: Global) -> Result<MemEntropy, Fail> {
+fn two_blocks(alloc: Global) -> Result<MemEntropy, AllocError> {
     let blocks = vec![in alloc; [1u8; 16], [2u8; 16]]?;
     Ok(MemEntropy::new(blocks, vec![in alloc; 1u64]?))
 }
 
 #[test]
-fn entropy_hands_out_its_blocks(rt: HostRuntime) -> Result<(), Fail> {
-    let mut entropy = two_blocks(rt.alloc())?;
+fn entropy_hands_out_its_blocks(rt: HostRuntime) {
+    let mut entropy = two_blocks(rt.alloc()).expect(&rt, "no memory");
     assert!(rt; entropy.block() == Ok([1u8; 16]));
     assert!(rt; entropy.block() == Err(Failed));
     assert!(rt; draw_block(&mut entropy) == Ok([2u8; 16]));
     assert!(rt; draw_block(&mut entropy) == Err(Failed));
-    Ok(())
 }
 
 #[test]

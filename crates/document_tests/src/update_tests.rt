@@ -1,10 +1,9 @@
 //! The marks of stored documents and of updates, and where one is refused.
 
-use bson_codec::{RawDoc, check_bson};
+use bson_codec::check_bson;
 use encrypt_schema::{Class, Mark, MarkFault, Marks, Reason, Role, Rows};
 use sample_documents::STAFF;
 use std::alloc::Global;
-use std::test::Fail;
 use update_rules::{mark_document, mark_update};
 
 /// A schema: `x` and `y` deterministic strings under one key, `z` random under that key.
@@ -75,23 +74,34 @@ const RENAME_ALIKE: &[u8] = b"\x1c\x00\x00\x00\x03$rename\x00\x0e\x00\x00\x00\
 const RENAME_OTHERWISE: &[u8] = b"\x1c\x00\x00\x00\x03$rename\x00\x0e\x00\x00\x00\
 \x02x\x00\x02\x00\x00\x00z\x00\x00\x00";
 
-fn read_rows(alloc: Global, schema: &[u8]) -> Result<Rows, Fail> {
+/// The rules of a schema.
+fn read_rows(alloc: Global, schema: &[u8]) -> Option<Rows> {
     if schema.len() > 1000 {
-        return Err("a test's schema is too long".into());
+        return None;
     }
-    Ok(Rows::read(alloc, &check_bson(schema)?)?)
+    Rows::read(alloc, &check_bson(schema).ok()?).ok()
 }
 
-/// Marks a whole document.
+/// The marks of a whole document under the rules of a schema, and what marking it answers; `None` where one of the two
+/// can't be read, or no rule stands below the root.
 fn mark_whole(
-    marks: &mut Marks,
-    rows: &Rows,
-    document: &RawDoc<'_>,
-) -> Result<Result<(), MarkFault>, Fail> {
+    alloc: Global,
+    schema: &[u8],
+    document: &[u8],
+) -> Option<(Marks, Result<(), MarkFault>)> {
+    if document.len() > 100 {
+        return None;
+    }
+    let document = check_bson(document).ok()?;
+    let rows = read_rows(alloc, schema)?;
+    let mut marks = Marks::new(alloc);
     let root = rows.root();
     match rows.class(root) {
-        Class::Above => Ok(mark_document(marks, rows, root, document)),
-        _ => Err("no rule stands below the root".into()),
+        Class::Above => {
+            let answer = mark_document(&mut marks, &rows, root, &document);
+            Some((marks, answer))
+        }
+        _ => None,
     }
 }
 
@@ -102,17 +112,18 @@ enum Seen {
     Marked(usize, Option<Mark>),
 }
 
-/// What becomes of an update under the rules of a schema.
-fn see(alloc: Global, schema: &[u8], update: &[u8]) -> Result<Seen, Fail> {
+/// What becomes of an update under the rules of a schema; `None` where one of the two can't be read.
+fn see(alloc: Global, schema: &[u8], update: &[u8]) -> Option<Seen> {
+    if update.len() > 100 {
+        return None;
+    }
+    let update = check_bson(update).ok()?;
     let rows = read_rows(alloc, schema)?;
     let mut marks = Marks::new(alloc);
-    if update.len() > 100 {
-        return Err("a test's update is too long".into());
-    }
-    match mark_update(&mut marks, &rows, &check_bson(update)?) {
-        Ok(()) => Ok(Seen::Marked(marks.len(), marks.get(0))),
-        Err(MarkFault::Refused { reason, at }) => Ok(Seen::Refused(reason, at)),
-        Err(MarkFault::Memory) => Err("out of memory".into()),
+    match mark_update(&mut marks, &rows, &update) {
+        Ok(()) => Some(Seen::Marked(marks.len(), marks.get(0))),
+        Err(MarkFault::Refused { reason, at }) => Some(Seen::Refused(reason, at)),
+        Err(MarkFault::Memory) => None,
     }
 }
 
@@ -128,62 +139,56 @@ fn int_at(start: u32, end: u32) -> Mark {
 }
 
 #[test]
-fn a_nested_value_is_marked(rt: HostRuntime) -> Result<(), Fail> {
-    let rows = read_rows(rt.alloc(), STAFF)?;
-    let mut marks = Marks::new(rt.alloc());
-    match mark_whole(&mut marks, &rows, &check_bson(DOCUMENT)?)? {
-        Ok(()) => {}
-        Err(_) => return Err("it is refused".into()),
-    }
-    assert!(rt; marks.len() == 1);
-    assert!(rt; marks.get(0) == Some(int_at(14, 18)));
-    Ok(())
+fn a_nested_value_is_marked(rt: HostRuntime) {
+    let (marks, answer) = mark_whole(rt.alloc(), STAFF, DOCUMENT).expect(&rt, "no rules");
+    assert!(rt; answer.is_ok());
+    assert!(rt; marks.len() == 1 && marks.get(0) == Some(int_at(14, 18)));
 }
 
 #[test]
-fn an_array_on_the_way_is_refused_where_it_stands(rt: HostRuntime) -> Result<(), Fail> {
-    let rows = read_rows(rt.alloc(), STAFF)?;
-    let mut marks = Marks::new(rt.alloc());
-    match mark_whole(&mut marks, &rows, &check_bson(ARRAY)?)? {
-        Err(MarkFault::Refused { reason, at }) => {
-            assert!(rt; reason == Reason::ArrayOnPath);
-            assert!(rt; at == 10);
-        }
-        _ => return Err("it isn't refused".into()),
-    }
+fn an_array_on_the_way_is_refused_where_it_stands(rt: HostRuntime) {
+    let (marks, answer) = mark_whole(rt.alloc(), STAFF, ARRAY).expect(&rt, "no rules");
+    assert!(rt;
+        matches!(
+            answer,
+            Err(MarkFault::Refused {
+                reason: Reason::ArrayOnPath,
+                at: 10
+            })
+        )
+    );
     assert!(rt; marks.len() == 0);
-    Ok(())
 }
 
 #[test]
-fn stored_values_of_updates_are_marked(rt: HostRuntime) -> Result<(), Fail> {
+fn stored_values_of_updates_are_marked(rt: HostRuntime) {
     let cases: &[(&[u8], u32, u32)] = &[(SET, 19, 23), (SET_DOCUMENT, 24, 28), (DOCUMENT, 14, 18)];
     for (update, start, end) in cases {
-        assert!(rt; see(rt.alloc(), STAFF, update)? == Seen::Marked(1, Some(int_at(*start, *end))));
+        let marked = Seen::Marked(1, Some(int_at(*start, *end)));
+        assert!(rt; see(rt.alloc(), STAFF, update) == Some(marked));
     }
-    Ok(())
 }
 
 #[test]
-fn updates_without_stored_values_pass(rt: HostRuntime) -> Result<(), Fail> {
-    assert!(rt; see(rt.alloc(), STAFF, UNSET)? == Seen::Marked(0, None));
-    assert!(rt; see(rt.alloc(), PAIR, RENAME_ALIKE)? == Seen::Marked(0, None));
-    Ok(())
+fn updates_without_stored_values_pass(rt: HostRuntime) {
+    let cases: &[(&[u8], &[u8])] = &[(STAFF, UNSET), (PAIR, RENAME_ALIKE)];
+    for (schema, update) in cases {
+        assert!(rt; see(rt.alloc(), schema, update) == Some(Seen::Marked(0, None)));
+    }
 }
 
 #[test]
-fn updates_are_refused_where_they_first_offend(rt: HostRuntime) -> Result<(), Fail> {
-    let cases: &[(&[u8], Reason, u32)] = &[
-        (SET_POSITION, Reason::PositionalOnPath, 21),
-        (SET_STRING, Reason::TypeNotAllowed, 27),
-        (SET_ARRAY, Reason::ArrayOnPath, 17),
-        (MIXED, Reason::BadField, 25),
-        (RENAME, Reason::RenameMixed, 22),
-        (INC, Reason::OperatorOnProtected, 19),
+fn updates_are_refused_where_they_first_offend(rt: HostRuntime) {
+    let cases: &[(&[u8], &[u8], Reason, u32)] = &[
+        (STAFF, SET_POSITION, Reason::PositionalOnPath, 21),
+        (STAFF, SET_STRING, Reason::TypeNotAllowed, 27),
+        (STAFF, SET_ARRAY, Reason::ArrayOnPath, 17),
+        (STAFF, MIXED, Reason::BadField, 25),
+        (STAFF, RENAME, Reason::RenameMixed, 22),
+        (STAFF, INC, Reason::OperatorOnProtected, 19),
+        (PAIR, RENAME_OTHERWISE, Reason::RenameMixed, 20),
     ];
-    for (update, reason, at) in cases {
-        assert!(rt; see(rt.alloc(), STAFF, update)? == Seen::Refused(*reason, *at));
+    for (schema, update, reason, at) in cases {
+        assert!(rt; see(rt.alloc(), schema, update) == Some(Seen::Refused(*reason, *at)));
     }
-    assert!(rt; see(rt.alloc(), PAIR, RENAME_OTHERWISE)? == Seen::Refused(Reason::RenameMixed, 20));
-    Ok(())
 }

@@ -6,21 +6,20 @@ ghost use Rattle.std.specs.Prelude.{◌≤◌};
 use ext_json::{JsonFault, infos_from_json};
 use std::alloc::{AllocError, Global};
 use std::process::Abort;
-use std::test::Fail;
 
+/// The text must have this fault.
 fn expect_fault(rt: &impl Abort, alloc: Global, text: &[u8], fault: JsonFault) {
     assert!(rt; infos_from_json(alloc, text).err() == Some(fault));
 }
 
-fn expect_infos(rt: &impl Abort, alloc: Global, text: &[u8], bytes: &[u8]) -> Result<(), Fail> {
-    let infos = infos_from_json(alloc, text)?;
-    assert!(rt; infos.as_slice() == bytes);
-    Ok(())
+/// Whether the text gives infos of these bytes.
+fn gives(alloc: Global, text: &[u8], bytes: &[u8]) -> bool {
+    matches!(infos_from_json(alloc, text), Ok(infos) if infos.as_slice() == bytes)
 }
 
 // Words; integers at the edges of 32 and 64 signed bits, and numbers beyond; a text; arrays and documents.
 #[test]
-fn values_stand_for_their_types(rt: HostRuntime) -> Result<(), Fail> {
+fn values_stand_for_their_types(rt: HostRuntime) {
     let cases: &[(&[u8], &[u8])] = &[
         (
             br#"[{"a":null,"b":true,"c":false}]"#,
@@ -48,14 +47,13 @@ fn values_stand_for_their_types(rt: HostRuntime) -> Result<(), Fail> {
         (b"[]", b""),
     ];
     for (text, bytes) in cases {
-        expect_infos(&rt, rt.alloc(), text, bytes)?;
+        assert!(rt; gives(rt.alloc(), text, bytes));
     }
-    Ok(())
 }
 
 // No byte, one byte in capital digits, an id in three forms; objects that are no wrappers.
 #[test]
-fn binaries_stand_in_wrappers(rt: HostRuntime) -> Result<(), Fail> {
+fn binaries_stand_in_wrappers(rt: HostRuntime) {
     let cases: &[(&[u8], &[u8])] = &[
         (
             br#"[{"a":{"$binary":{"base64":"","subType":"00"}}}]"#,
@@ -83,19 +81,18 @@ fn binaries_stand_in_wrappers(rt: HostRuntime) -> Result<(), Fail> {
         ),
     ];
     for (text, bytes) in cases {
-        expect_infos(&rt, rt.alloc(), text, bytes)?;
+        assert!(rt; gives(rt.alloc(), text, bytes));
     }
-    Ok(())
 }
 
 // Names stand in the order of their bytes; of two equal names the last one's value counts.
 #[test]
-fn names_are_sorted(rt: HostRuntime) -> Result<(), Fail> {
+fn names_are_sorted(rt: HostRuntime) {
     let text = b"[{\"b\":1,\"a\":2,\"\xC3\xA9\":3,\"\":4,\"B\":5,\"b\":6}]";
     let bytes =
         b"(\x00\x00\x00\x10\x00\x04\x00\x00\x00\x10B\x00\x05\x00\x00\x00\x10a\x00\x02\x00\x00\x00\
          \x10b\x00\x06\x00\x00\x00\x10\xC3\xA9\x00\x03\x00\x00\x00\x00";
-    expect_infos(&rt, rt.alloc(), text, bytes)
+    assert!(rt; gives(rt.alloc(), text, bytes));
 }
 
 // No array; a member that is no object, or is a binary; a name with the character 0, inside an array too.
@@ -187,12 +184,17 @@ fn what_is_no_json_is_told(rt: HostRuntime) {
 
 #[test]
 fn faults_have_their_numbers(rt: HostRuntime) {
-    assert!(rt; JsonFault::Syntax.code() == Some(33));
-    assert!(rt; JsonFault::Form { document: 0 }.code() == Some(34));
-    assert!(rt; JsonFault::Memory.code() == None);
+    let cases: &[(JsonFault, Option<u8>)] = &[
+        (JsonFault::Syntax, Some(33)),
+        (JsonFault::Form { document: 0 }, Some(34)),
+        (JsonFault::Memory, None),
+    ];
+    for (fault, code) in cases {
+        assert!(rt; fault.code() == *code);
+    }
 }
 
-// A text of arrays, each but the last with the next one inside, in a member.
+/// A text of arrays, each but the last with the next one inside, in a member.
 fn nested(alloc: Global, arrays: usize) -> Result<Vec<u8>, AllocError>
     requires { arrays ≤ 200 }
 {
@@ -208,12 +210,15 @@ fn nested(alloc: Global, arrays: usize) -> Result<Vec<u8>, AllocError>
 }
 
 #[test]
-fn a_hundred_levels_are_read_and_no_more(rt: HostRuntime) -> Result<(), Fail> {
-    let text = nested(rt.alloc(), 99)?;
-    assert!(rt; infos_from_json(rt.alloc(), &text).is_ok());
-    let text = nested(rt.alloc(), 100)?;
-    expect_fault(&rt, rt.alloc(), &text, JsonFault::Form { document: 1 });
-    let text = nested(rt.alloc(), 126)?;
-    expect_fault(&rt, rt.alloc(), &text, JsonFault::Syntax);
-    Ok(())
+fn a_hundred_levels_are_read_and_no_more(rt: HostRuntime) {
+    let cases: &[(usize, Option<JsonFault>)] = &[
+        (99, None),
+        (100, Some(JsonFault::Form { document: 1 })),
+        (126, Some(JsonFault::Syntax)),
+    ];
+    for (arrays, fault) in cases {
+        assert!(rt; *arrays <= 200);
+        let text = nested(rt.alloc(), *arrays).expect(&rt, "no memory");
+        assert!(rt; infos_from_json(rt.alloc(), &text).err() == *fault);
+    }
 }

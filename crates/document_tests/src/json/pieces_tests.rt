@@ -2,12 +2,11 @@
 
 use bson_codec::{RawDoc, check_bson};
 use ext_json::{Piece, Shown, send_text, show_whole, write_text};
-use fle_outside::MemSink;
-use std::alloc::Global;
-use std::test::Fail;
+use fle_outside::{MemSink, Memory};
+use std::alloc::{AllocError, Global};
 
-// {n: null, d: {s: 40,001 bytes, t: as many}, l: 70,001 bytes, n: null, s: 5 bytes} but for its last three bytes: parts
-// that are followed by so many times `x`.
+/// {n: null, d: {s: 40,001 bytes, t: as many}, l: 70,001 bytes, n: null, s: 5 bytes} but for its last three bytes:
+/// parts that are followed by so many times `x`.
 const LONG: &[(&[u8], usize)] = &[
     (
         b"\x2b\x4a\x02\x00\x0an\x00\x03d\x00\x97\x38\x01\x00\x02s\x00\x42\x9c\x00\x00",
@@ -18,8 +17,8 @@ const LONG: &[(&[u8], usize)] = &[
     (b"\x00\x0an\x00\x02s\x00\x06\x00\x00\x00", 4),
 ];
 
-// That document; the last byte of its last text is given.
-fn long_document(alloc: Global, last: u8) -> Result<Vec<u8>, Fail> {
+/// That document; the last byte of its last text is given.
+fn long_document(alloc: Global, last: u8) -> Result<Vec<u8>, AllocError> {
     let mut bytes = Vec::new(alloc);
     for (part, count) in LONG {
         bytes.extend_from_slice(part)?;
@@ -29,90 +28,92 @@ fn long_document(alloc: Global, last: u8) -> Result<Vec<u8>, Fail> {
     Ok(bytes)
 }
 
-// The document of these bytes.
-fn read(bytes: &[u8]) -> Result<RawDoc<'_>, Fail> {
+/// The document of these bytes.
+fn read(bytes: &[u8]) -> Option<RawDoc<'_>> {
     if bytes.len() >= 200_000 {
-        return Err("a test's document is too long".into());
+        return None;
     }
-    Ok(check_bson(bytes)?)
+    check_bson(bytes).ok()
 }
 
-// A sink of so much room, which takes at most 1000 bytes a call.
-fn sink_of(alloc: Global, room: usize) -> Result<MemSink, Fail> {
-    Ok(MemSink::new(alloc, room, 1000, Vec::new(alloc))?)
+/// A sink of so much room, which takes at most 1000 bytes a call.
+fn sink_of(alloc: Global, room: usize) -> Result<MemSink, Memory> {
+    MemSink::new(alloc, room, 1000, Vec::new(alloc))
 }
 
-// Whether a document is written whole to a sink of so much room, and what of its text is there.
-fn written(alloc: Global, document: &RawDoc<'_>, room: usize) -> Result<(bool, Vec<u8>), Fail> {
+/// Whether a document is written whole to a sink of so much room, and that sink.
+fn written(alloc: Global, document: &RawDoc<'_>, room: usize) -> Result<(bool, MemSink), Memory> {
     let mut out = sink_of(alloc, room)?;
     let whole = write_text(document, &mut out).is_ok();
-    Ok((whole, Vec::from_slice(alloc, out.written())?))
+    Ok((whole, out))
 }
 
-// Whether it is sent whole, piece by piece, as this text.
-fn is_sent(
-    alloc: Global,
-    document: &RawDoc<'_>,
-    piece: &mut Piece,
-    text: &[u8],
-) -> Result<bool, Fail> {
-    let mut out = sink_of(alloc, 160_000)?;
-    Ok(send_text(document, piece, &mut out).is_ok() && out.written() == text)
+/// Whether it is sent whole, piece by piece, as this text.
+fn is_sent(alloc: Global, document: &RawDoc<'_>, piece: &mut Piece, text: &[u8]) -> bool {
+    match sink_of(alloc, 160_000) {
+        Ok(mut out) => send_text(document, piece, &mut out).is_ok() && out.written() == text,
+        Err(Memory) => false,
+    }
 }
 
-// What showing it as a line answers, and what is there.
+/// What showing it as a line answers, and the sink of so much room.
 fn shown(
     alloc: Global,
     document: &RawDoc<'_>,
     piece: &mut Piece,
     room: usize,
-) -> Result<(Shown, Vec<u8>), Fail> {
+) -> Result<(Shown, MemSink), Memory> {
     let mut out = sink_of(alloc, room)?;
     let answer = show_whole(document, b"\n", piece, &mut out);
-    Ok((answer, Vec::from_slice(alloc, out.written())?))
+    Ok((answer, out))
 }
 
-#[test]
-fn a_long_text_is_sent_whole(rt: HostRuntime) -> Result<(), Fail> {
-    let long = long_document(rt.alloc(), b'x')?;
-    let document = read(&long)?;
-    let mut piece = Piece::new(rt.alloc());
-    let (whole, mut text) = written(rt.alloc(), &document, 160_000)?;
-    assert!(rt; whole && is_sent(rt.alloc(), &document, &mut piece, &text)?);
-    let (answer, line) = shown(rt.alloc(), &document, &mut piece, 160_000)?;
-    text.push(b'\n')?;
-    assert!(rt; answer == Shown::Written && line == text);
-    Ok(())
-}
-
-#[test]
-fn nothing_is_written_of_a_long_document_without_a_text(rt: HostRuntime) -> Result<(), Fail> {
-    let long = long_document(rt.alloc(), 0xff)?;
-    let mut piece = Piece::new(rt.alloc());
-    let (answer, line) = shown(rt.alloc(), &read(&long)?, &mut piece, 160_000)?;
-    assert!(rt; answer == Shown::Bad(150_048) && line.is_empty());
-    Ok(())
-}
-
-// Whether a document of which a sink has no room for the text is shown up to the same byte as it is written.
-fn is_cut(
-    alloc: Global,
-    document: &RawDoc<'_>,
-    piece: &mut Piece,
-    room: usize,
-) -> Result<bool, Fail> {
-    let (whole, front) = written(alloc, document, room)?;
-    let (answer, line) = shown(alloc, document, piece, room)?;
-    Ok(!whole && answer == Shown::Failed && line == front)
-}
-
-#[test]
-fn a_full_sink_holds_a_front_of_a_long_text(rt: HostRuntime) -> Result<(), Fail> {
-    let long = long_document(rt.alloc(), b'x')?;
-    let document = read(&long)?;
-    let mut piece = Piece::new(rt.alloc());
-    for room in [7usize, 40_020, 100_000] {
-        assert!(rt; is_cut(rt.alloc(), &document, &mut piece, room)?);
+/// Whether the line is this text and a line feed.
+fn is_line_of(line: &[u8], text: &[u8]) -> bool {
+    match line {
+        [front @ .., b'\n'] => front == text,
+        _ => false,
     }
-    Ok(())
+}
+
+#[test]
+fn a_long_text_is_sent_whole(rt: HostRuntime) {
+    let long = long_document(rt.alloc(), b'x').expect(&rt, "no memory");
+    let document = read(&long).expect(&rt, "no document");
+    let mut piece = Piece::new(rt.alloc());
+    let (whole, text) = written(rt.alloc(), &document, 160_000).expect(&rt, "no memory");
+    assert!(rt; whole && is_sent(rt.alloc(), &document, &mut piece, text.written()));
+    let (answer, line) = shown(rt.alloc(), &document, &mut piece, 160_000).expect(&rt, "no memory");
+    assert!(rt; answer == Shown::Written && is_line_of(line.written(), text.written()));
+}
+
+#[test]
+fn nothing_is_written_of_a_long_document_without_a_text(rt: HostRuntime) {
+    let long = long_document(rt.alloc(), 0xff).expect(&rt, "no memory");
+    let document = read(&long).expect(&rt, "no document");
+    let mut piece = Piece::new(rt.alloc());
+    let (answer, line) = shown(rt.alloc(), &document, &mut piece, 160_000).expect(&rt, "no memory");
+    assert!(rt; answer == Shown::Bad(150_048) && line.written().is_empty());
+}
+
+/// Whether a document of which a sink has no room for the text is shown up to the same byte as it is written.
+fn is_cut(alloc: Global, document: &RawDoc<'_>, piece: &mut Piece, room: usize) -> bool {
+    let Ok((whole, front)) = written(alloc, document, room) else {
+        return false;
+    };
+    let Ok((answer, line)) = shown(alloc, document, piece, room) else {
+        return false;
+    };
+    !whole && answer == Shown::Failed && line.written() == front.written()
+}
+
+#[test]
+fn a_full_sink_holds_a_front_of_a_long_text(rt: HostRuntime) {
+    let long = long_document(rt.alloc(), b'x').expect(&rt, "no memory");
+    let document = read(&long).expect(&rt, "no document");
+    let mut piece = Piece::new(rt.alloc());
+    let rooms: &[usize] = &[7, 40_020, 100_000];
+    for room in rooms {
+        assert!(rt; is_cut(rt.alloc(), &document, &mut piece, *room));
+    }
 }

@@ -7,40 +7,40 @@ use fle_outside::MemSink;
 use sample_documents::PING;
 use std::alloc::Global;
 use std::process::Abort;
-use std::test::Fail;
 
-// Whether this text is written where the sink takes so many bytes a call.
-fn is_written(
-    alloc: Global,
-    document: &RawDoc<'_>,
-    step: usize,
-    text: &[u8],
-) -> Result<bool, Fail> {
-    let mut out = MemSink::new(alloc, 200, step.max(1), Vec::new(alloc))?;
-    Ok(write_text(document, &mut out).is_ok() && out.written() == text)
-}
+/// How many bytes a sink takes a call.
+const STEPS: &[usize] = &[1, 7, 200];
 
-// Whether it is shown.
-fn is_shown(alloc: Global, document: &RawDoc<'_>, step: usize, text: &[u8]) -> Result<bool, Fail> {
-    let mut out = MemSink::new(alloc, 200, step.max(1), Vec::new(alloc))?;
-    Ok(show_text(document, &mut out) == Shown::Written && out.written() == text)
-}
-
-// The document has this text, however the sink cuts it.
-fn expect_text(rt: &impl Abort, alloc: Global, bytes: &[u8], text: &[u8]) -> Result<(), Fail> {
-    assert!(rt; bytes.len() < 200);
-    let document = check_bson(bytes)?;
-    assert!(rt; first_bad_text(&document) == None);
-    for step in [1usize, 7, 200] {
-        assert!(rt; is_written(alloc, &document, step, text)?);
-        assert!(rt; is_shown(alloc, &document, step, text)?);
+/// Whether this text is written where the sink takes so many bytes a call.
+fn is_written(alloc: Global, document: &RawDoc<'_>, step: usize, text: &[u8]) -> bool {
+    match MemSink::new(alloc, 200, step.max(1), Vec::new(alloc)) {
+        Ok(mut out) => write_text(document, &mut out).is_ok() && out.written() == text,
+        Err(_) => false,
     }
-    Ok(())
+}
+
+/// Whether it is shown.
+fn is_shown(alloc: Global, document: &RawDoc<'_>, step: usize, text: &[u8]) -> bool {
+    match MemSink::new(alloc, 200, step.max(1), Vec::new(alloc)) {
+        Ok(mut out) => show_text(document, &mut out) == Shown::Written && out.written() == text,
+        Err(_) => false,
+    }
+}
+
+/// The document must have this text, however the sink cuts it.
+fn expect_text(rt: &impl Abort, alloc: Global, bytes: &[u8], text: &[u8]) {
+    assert!(rt; bytes.len() < 200);
+    let document = check_bson(bytes).expect(rt, "no document");
+    assert!(rt; first_bad_text(&document) == None);
+    for step in STEPS {
+        assert!(rt; is_written(alloc, &document, *step, text));
+        assert!(rt; is_shown(alloc, &document, *step, text));
+    }
 }
 
 // The 8 bytes of 1.0; the least int; the greatest long; 16 bytes of a decimal.
 #[test]
-fn numbers_stand_as_digits(rt: HostRuntime) -> Result<(), Fail> {
+fn numbers_stand_as_digits(rt: HostRuntime) {
     let cases: &[(&[u8], &[u8])] = &[
         (
             b"\x10\x00\x00\x00\x01a\x00\x00\x00\x00\x00\x00\x00\xF0?\x00",
@@ -60,14 +60,13 @@ fn numbers_stand_as_digits(rt: HostRuntime) -> Result<(), Fail> {
         ),
     ];
     for (bytes, text) in cases {
-        expect_text(&rt, rt.alloc(), bytes, text)?;
+        expect_text(&rt, rt.alloc(), bytes, text);
     }
-    Ok(())
 }
 
 // One millisecond before 1970; the greatest seconds, increment 42.
 #[test]
-fn times_are_longs_and_pairs(rt: HostRuntime) -> Result<(), Fail> {
+fn times_are_longs_and_pairs(rt: HostRuntime) {
     let cases: &[(&[u8], &[u8])] = &[
         (
             b"\x10\x00\x00\x00\x09a\x00\xFF\xFF\xFF\xFF\xFF\xFF\xFF\xFF\x00",
@@ -79,14 +78,13 @@ fn times_are_longs_and_pairs(rt: HostRuntime) -> Result<(), Fail> {
         ),
     ];
     for (bytes, text) in cases {
-        expect_text(&rt, rt.alloc(), bytes, text)?;
+        expect_text(&rt, rt.alloc(), bytes, text);
     }
-    Ok(())
 }
 
 // Booleans and null; undefined, the greatest and the least key.
 #[test]
-fn words_stand_for_values_without_bytes(rt: HostRuntime) -> Result<(), Fail> {
+fn words_stand_for_values_without_bytes(rt: HostRuntime) {
     let cases: &[(&[u8], &[u8])] = &[
         (
             b"\x10\x00\x00\x00\x08a\x00\x00\x08b\x00\x01\x0Ac\x00\x00",
@@ -98,14 +96,13 @@ fn words_stand_for_values_without_bytes(rt: HostRuntime) -> Result<(), Fail> {
         ),
     ];
     for (bytes, text) in cases {
-        expect_text(&rt, rt.alloc(), bytes, text)?;
+        expect_text(&rt, rt.alloc(), bytes, text);
     }
-    Ok(())
 }
 
 // A string with each kind of escape; code and a symbol; a pattern with its options; code with a scope.
 #[test]
-fn texts_are_quoted(rt: HostRuntime) -> Result<(), Fail> {
+fn texts_are_quoted(rt: HostRuntime) {
     let cases: &[(&[u8], &[u8])] = &[
         (
             b"\x16\x00\x00\x00\x02a\x00\x0A\x00\x00\x00\xC3\xA9\"\\/\x0A\x1F\x7F\x00\x00\x00",
@@ -126,14 +123,13 @@ fn texts_are_quoted(rt: HostRuntime) -> Result<(), Fail> {
         ),
     ];
     for (bytes, text) in cases {
-        expect_text(&rt, rt.alloc(), bytes, text)?;
+        expect_text(&rt, rt.alloc(), bytes, text);
     }
-    Ok(())
 }
 
 // None, three and one byte, of the subtypes 00, 80 and 06.
 #[test]
-fn binaries_are_in_base64(rt: HostRuntime) -> Result<(), Fail> {
+fn binaries_are_in_base64(rt: HostRuntime) {
     let cases: &[(&[u8], &[u8])] = &[
         (
             b"\x0D\x00\x00\x00\x05a\x00\x00\x00\x00\x00\x00\x00",
@@ -149,14 +145,13 @@ fn binaries_are_in_base64(rt: HostRuntime) -> Result<(), Fail> {
         ),
     ];
     for (bytes, text) in cases {
-        expect_text(&rt, rt.alloc(), bytes, text)?;
+        expect_text(&rt, rt.alloc(), bytes, text);
     }
-    Ok(())
 }
 
 // An object id; a pointer into a database.
 #[test]
-fn ids_are_in_hexadecimal(rt: HostRuntime) -> Result<(), Fail> {
+fn ids_are_in_hexadecimal(rt: HostRuntime) {
     let cases: &[(&[u8], &[u8])] = &[
         (
             b"\x14\x00\x00\x00\x07a\x00V\xE1\xFCr\xE0\xC9\x17\xE9\xC4qAa\x00",
@@ -168,14 +163,13 @@ fn ids_are_in_hexadecimal(rt: HostRuntime) -> Result<(), Fail> {
         ),
     ];
     for (bytes, text) in cases {
-        expect_text(&rt, rt.alloc(), bytes, text)?;
+        expect_text(&rt, rt.alloc(), bytes, text);
     }
-    Ok(())
 }
 
 // No element; a name twice, and an array whose elements have names that are left out.
 #[test]
-fn names_stand_in_documents_alone(rt: HostRuntime) -> Result<(), Fail> {
+fn names_stand_in_documents_alone(rt: HostRuntime) {
     let cases: &[(&[u8], &[u8])] = &[
         (b"\x05\x00\x00\x00\x00", b"{}"),
         (
@@ -185,14 +179,13 @@ fn names_stand_in_documents_alone(rt: HostRuntime) -> Result<(), Fail> {
         ),
     ];
     for (bytes, text) in cases {
-        expect_text(&rt, rt.alloc(), bytes, text)?;
+        expect_text(&rt, rt.alloc(), bytes, text);
     }
-    Ok(())
 }
 
 // A ping; a key id.
 #[test]
-fn commands_have_their_text(rt: HostRuntime) -> Result<(), Fail> {
+fn commands_have_their_text(rt: HostRuntime) {
     let cases: &[(&[u8], &[u8])] = &[
         (PING, br#"{"ping":{"$numberInt":"1"},"$db":"admin"}"#),
         (
@@ -201,15 +194,20 @@ fn commands_have_their_text(rt: HostRuntime) -> Result<(), Fail> {
         ),
     ];
     for (bytes, text) in cases {
-        expect_text(&rt, rt.alloc(), bytes, text)?;
+        expect_text(&rt, rt.alloc(), bytes, text);
     }
-    Ok(())
+}
+
+/// What showing a document answers to a sink with room for 200 bytes.
+fn shown(alloc: Global, document: &RawDoc<'_>) -> Option<Shown> {
+    let mut out = MemSink::new(alloc, 200, 200, Vec::new(alloc)).ok()?;
+    Some(show_text(document, &mut out))
 }
 
 // A string; a name in an array, before the string behind it; options; a scope, at the value that holds it; a surrogate
 // in a name space; a binary, which is no text.
 #[test]
-fn the_first_place_that_is_not_utf8_is_told(rt: HostRuntime) -> Result<(), Fail> {
+fn the_first_place_that_is_not_utf8_is_told(rt: HostRuntime) {
     let cases: &[(&[u8], Option<u32>)] = &[
         (
             b"\x0E\x00\x00\x00\x02s\x00\x02\x00\x00\x00\xFF\x00\x00",
@@ -239,32 +237,28 @@ fn the_first_place_that_is_not_utf8_is_told(rt: HostRuntime) -> Result<(), Fail>
     ];
     for (bytes, at) in cases {
         assert!(rt; bytes.len() < 100);
-        let document = check_bson(bytes)?;
+        let document = check_bson(bytes).expect(&rt, "no document");
         assert!(rt; first_bad_text(&document) == *at);
-        let mut out = MemSink::new(rt.alloc(), 200, 200, Vec::new(rt.alloc()))?;
-        let shown = show_text(&document, &mut out);
-        match at {
-            Some(at) => assert!(rt; shown == Shown::Bad(*at)),
-            None => assert!(rt; shown == Shown::Written),
-        }
+        let expected = match at {
+            Some(at) => Shown::Bad(*at),
+            None => Shown::Written,
+        };
+        assert!(rt; shown(rt.alloc(), &document) == Some(expected));
     }
-    Ok(())
 }
 
 #[test]
-fn a_full_sink_holds_a_front_of_the_text(rt: HostRuntime) -> Result<(), Fail> {
-    let document = check_bson(b"\x08\x00\x00\x00\x0Aa\x00\x00")?;
-    let mut out = MemSink::new(rt.alloc(), 9, 4, Vec::new(rt.alloc()))?;
+fn a_full_sink_holds_a_front_of_the_text(rt: HostRuntime) {
+    let document = check_bson(b"\x08\x00\x00\x00\x0Aa\x00\x00").expect(&rt, "no document");
+    let mut out = MemSink::new(rt.alloc(), 9, 4, Vec::new(rt.alloc())).expect(&rt, "no memory");
     assert!(rt; write_text(&document, &mut out).is_err());
     assert!(rt; out.written() == br#"{"a":null"#.as_slice());
-    Ok(())
 }
 
 #[test]
-fn a_full_sink_holds_a_front_of_what_is_shown(rt: HostRuntime) -> Result<(), Fail> {
-    let document = check_bson(b"\x08\x00\x00\x00\x0Aa\x00\x00")?;
-    let mut out = MemSink::new(rt.alloc(), 9, 4, Vec::new(rt.alloc()))?;
+fn a_full_sink_holds_a_front_of_what_is_shown(rt: HostRuntime) {
+    let document = check_bson(b"\x08\x00\x00\x00\x0Aa\x00\x00").expect(&rt, "no document");
+    let mut out = MemSink::new(rt.alloc(), 9, 4, Vec::new(rt.alloc())).expect(&rt, "no memory");
     assert!(rt; show_text(&document, &mut out) == Shown::Failed);
     assert!(rt; out.written() == br#"{"a":null"#.as_slice());
-    Ok(())
 }

@@ -6,7 +6,6 @@ use encrypt_schema::{
 };
 use sample_documents::PEOPLE;
 use std::alloc::Global;
-use std::test::Fail;
 
 /// The key's id.
 const KEY: [u8; 16] = [
@@ -34,30 +33,32 @@ const BAD_SCHEMA: &[u8] =
       \x08properties\x00\x01\x00\x00\x00";
 
 /// A file of infos, each with the elements of these parts.
-fn file_of(alloc: Global, infos: &[&[&[u8]]]) -> Result<Vec<u8>, Fail> {
+fn file_of(alloc: Global, infos: &[&[&[u8]]]) -> Option<Vec<u8>> {
     let mut file = Vec::new(alloc);
     for parts in infos {
         put_document(&mut file, &joined(alloc, parts)?)?;
     }
-    Ok(file)
+    Some(file)
 }
 
-/// The number of the faulty document of the file, and what is wrong with it; 0 where none is.
-fn fault(alloc: Global, file: &[u8]) -> Result<(u32, Option<InfoKind>), Fail> {
+/// Whether the file's faulty document has this number and this fault; without a fault, whether the file is read.
+fn has_fault(alloc: Global, file: &[u8], fault: Option<(u32, InfoKind)>) -> bool {
     if file.len() > LONGEST {
-        return Err("a test's file is too long".into());
+        return false;
     }
     match Infos::load(alloc, file) {
-        Ok(_) => Ok((0, None)),
-        Err(InfoFault::Bad { document, kind }) => Ok((document, Some(kind))),
-        Err(InfoFault::Memory) => Err("no memory".into()),
+        Ok(_) => fault.is_none(),
+        Err(InfoFault::Bad { document, kind }) => fault == Some((document, kind)),
+        Err(InfoFault::Memory) => false,
     }
 }
 
 /// The same of a file of infos, each with the elements of these parts.
-fn fault_of(alloc: Global, infos: &[&[&[u8]]]) -> Result<(u32, Option<InfoKind>), Fail> {
-    let file = file_of(alloc, infos)?;
-    fault(alloc, &file)
+fn infos_have_fault(alloc: Global, infos: &[&[&[u8]]], fault: Option<(u32, InfoKind)>) -> bool {
+    match file_of(alloc, infos) {
+        Some(file) => has_fault(alloc, &file, fault),
+        None => false,
+    }
 }
 
 /// Whether the policy has the key and this algorithm, and allows a string, and an int where the flag says so.
@@ -74,12 +75,11 @@ fn is_policy(policy: Option<&Policy>, algorithm: Algorithm, int: bool) -> bool {
 }
 
 #[test]
-fn a_collection_is_found_by_its_name(rt: HostRuntime) -> Result<(), Fail> {
-    let infos = Infos::load(rt.alloc(), PEOPLE)?;
+fn a_collection_is_found_by_its_name(rt: HostRuntime) {
+    let infos = Infos::load(rt.alloc(), PEOPLE).expect(&rt, "no infos");
     assert!(rt; infos.info_of(b"staff").is_none());
-    let info = infos.info_of(b"people").ok_or("no people")?;
+    let info = infos.info_of(b"people").expect(&rt, "no people");
     assert!(rt; !info.is_view() && info.name() == b"people".as_slice());
-    Ok(())
 }
 
 /// The class of a name.
@@ -88,9 +88,9 @@ fn class_of(rows: &Rows, name: &[u8]) -> Class {
 }
 
 #[test]
-fn two_rules_of_one_collection(rt: HostRuntime) -> Result<(), Fail> {
-    let infos = Infos::load(rt.alloc(), PEOPLE)?;
-    let rows = infos.info_of(b"people").ok_or("no people")?.rows();
+fn two_rules_of_one_collection(rt: HostRuntime) {
+    let infos = Infos::load(rt.alloc(), PEOPLE).expect(&rt, "no infos");
+    let rows = infos.info_of(b"people").expect(&rt, "no people").rows();
     assert!(rt; rows.len() == 2);
     assert!(rt; is_policy(rows.policy(0), Algorithm::Deterministic, false));
     assert!(rt; is_policy(rows.policy(1), Algorithm::Random, true));
@@ -102,17 +102,16 @@ fn two_rules_of_one_collection(rt: HostRuntime) -> Result<(), Fail> {
     for (name, class) in classes {
         assert!(rt; class_of(rows, name) == *class);
     }
-    Ok(())
 }
 
 #[test]
-fn a_file_of_no_infos_has_no_collection(rt: HostRuntime) -> Result<(), Fail> {
-    assert!(rt; Infos::load(rt.alloc(), b"")?.info_of(b"people").is_none());
-    Ok(())
+fn a_file_of_no_infos_has_no_collection(rt: HostRuntime) {
+    let infos = Infos::load(rt.alloc(), b"").expect(&rt, "no infos");
+    assert!(rt; infos.info_of(b"people").is_none());
 }
 
 #[test]
-fn an_info_has_fields_of_one_form(rt: HostRuntime) -> Result<(), Fail> {
+fn an_info_has_fields_of_one_form(rt: HostRuntime) {
     let cases: &[(&[&[u8]], bool)] = &[
         (&[], false),
         (&[NAME], true),
@@ -134,18 +133,17 @@ fn an_info_has_fields_of_one_form(rt: HostRuntime) -> Result<(), Fail> {
         (&[NAME, b"\x08info\x00\x01"], true),
     ];
     for (parts, good) in cases {
-        let expected = if *good {
-            (0, None)
+        let fault = if *good {
+            None
         } else {
-            (1, Some(InfoKind::Shape))
+            Some((1, InfoKind::Shape))
         };
-        assert!(rt; fault_of(rt.alloc(), &[*parts])? == expected);
+        assert!(rt; infos_have_fault(rt.alloc(), &[*parts], fault));
     }
-    Ok(())
 }
 
 #[test]
-fn a_form_a_name_and_a_schema_are_judged_in_order(rt: HostRuntime) -> Result<(), Fail> {
+fn a_form_a_name_and_a_schema_are_judged_in_order(rt: HostRuntime) {
     let cases: &[(&[&[&[u8]]], u32, InfoKind)] = &[
         (
             &[&[NAME, BAD_SCHEMA]],
@@ -158,44 +156,42 @@ fn a_form_a_name_and_a_schema_are_judged_in_order(rt: HostRuntime) -> Result<(),
         (&[&[NAME], &[VIEW], &[NAME, BAD_SCHEMA]], 2, InfoKind::Shape),
     ];
     for (infos, document, kind) in cases {
-        assert!(rt; fault_of(rt.alloc(), infos)? == (*document, Some(*kind)));
+        assert!(rt; infos_have_fault(rt.alloc(), infos, Some((*document, *kind))));
     }
-    Ok(())
 }
 
 /// The same of such a file, at whose end a document ends too soon.
-fn fault_before_cut(alloc: Global, infos: &[&[&[u8]]]) -> Result<(u32, Option<InfoKind>), Fail> {
-    let mut file = file_of(alloc, infos)?;
-    file.extend_from_slice(CUT)?;
-    fault(alloc, &file)
+fn cut_infos_have_fault(alloc: Global, infos: &[&[&[u8]]], fault: Option<(u32, InfoKind)>) -> bool {
+    match file_of(alloc, infos) {
+        Some(mut file) => file.extend_from_slice(CUT).is_ok() && has_fault(alloc, &file, fault),
+        None => false,
+    }
 }
 
 #[test]
-fn documents_are_judged_one_after_another(rt: HostRuntime) -> Result<(), Fail> {
+fn documents_are_judged_one_after_another(rt: HostRuntime) {
     let cases: &[(&[&[&[u8]]], u32, InfoKind)] = &[
         (&[], 1, InfoKind::Bson),
         (&[&[NAME]], 2, InfoKind::Bson),
         (&[&[VIEW]], 1, InfoKind::Shape),
     ];
     for (infos, document, kind) in cases {
-        assert!(rt; fault_before_cut(rt.alloc(), infos)? == (*document, Some(*kind)));
+        assert!(rt; cut_infos_have_fault(rt.alloc(), infos, Some((*document, *kind))));
     }
-    Ok(())
 }
 
 /// The infos of a view whose schema has a wrong form.
-fn bad_view(alloc: Global) -> Result<Infos, Fail> {
+fn bad_view(alloc: Global) -> Option<Infos> {
     let file = file_of(alloc, &[&[NAME, VIEW, BAD_SCHEMA]])?;
     if file.len() > LONGEST {
-        return Err("a test's file is too long".into());
+        return None;
     }
-    Ok(Infos::load(alloc, &file)?)
+    Infos::load(alloc, &file).ok()
 }
 
 #[test]
-fn the_schema_of_a_view_is_not_read(rt: HostRuntime) -> Result<(), Fail> {
-    let infos = bad_view(rt.alloc())?;
-    let info = infos.info_of(b"c").ok_or("no view")?;
+fn the_schema_of_a_view_is_not_read(rt: HostRuntime) {
+    let infos = bad_view(rt.alloc()).expect(&rt, "no infos");
+    let info = infos.info_of(b"c").expect(&rt, "no view");
     assert!(rt; info.is_view() && info.rows().len() == 0);
-    Ok(())
 }

@@ -3,10 +3,9 @@
 use crate::schema::test_documents::{KEY_1, KEY_2, RANDOM, rules, within};
 use encrypt_schema::{Class, KeyRef, Policy, Rows, Walk, is_dollar, is_position};
 use std::alloc::Global;
-use std::test::Fail;
 
 /// The field `a` with the fields `b`, under key 2, and `c`, whose `d` is under key 1.
-fn field_a(alloc: Global) -> Result<Vec<u8>, Fail> {
+fn field_a(alloc: Global) -> Option<Vec<u8>> {
     let b = within(alloc, &[b"b", b"encrypt"], &[KEY_2, RANDOM])?;
     let c = within(
         alloc,
@@ -17,16 +16,14 @@ fn field_a(alloc: Global) -> Result<Vec<u8>, Fail> {
 }
 
 /// The rules of [ssn], [a, b] and [a, c, d], in this order, with the keys 1, 2 and 1.
-fn three_rules(alloc: Global) -> Result<Rows, Fail> {
+fn three_rules(alloc: Global) -> Option<Rows> {
     let ssn = within(alloc, &[b"ssn", b"encrypt"], &[KEY_1, RANDOM])?;
     let a = field_a(alloc)?;
     let schema = within(alloc, &[b"properties"], &[&ssn, &a])?;
-    match rules(alloc, &schema)? {
-        Ok(rows) => Ok(rows),
-        Err(_) => Err("a schema is refused".into()),
-    }
+    rules(alloc, &schema)?.ok()
 }
 
+/// Whether the policy has the key of sixteen such bytes.
 fn has_key(policy: Option<&Policy>, key: u8) -> bool {
     match policy {
         Some(policy) => policy.key == KeyRef::Id([key; 16]),
@@ -41,27 +38,24 @@ fn seen(rows: &Rows, dotted: &[u8]) -> (Class, bool) {
 }
 
 #[test]
-fn rules_in_order(rt: HostRuntime) -> Result<(), Fail> {
-    let rows = three_rules(rt.alloc())?;
+fn rules_in_order(rt: HostRuntime) {
+    let rows = three_rules(rt.alloc()).expect(&rt, "no rules");
     assert!(rt; rows.len() == 3);
-    assert!(rt; has_key(rows.policy(0), b'1'));
-    assert!(rt; has_key(rows.policy(1), b'2'));
+    assert!(rt; has_key(rows.policy(0), b'1') && has_key(rows.policy(1), b'2'));
     assert!(rt; rows.policy(3).is_none());
-    Ok(())
 }
 
 #[test]
-fn a_name_is_a_step_from_the_root(rt: HostRuntime) -> Result<(), Fail> {
-    let rows = three_rules(rt.alloc())?;
+fn a_name_is_a_step_from_the_root(rt: HostRuntime) {
+    let rows = three_rules(rt.alloc()).expect(&rt, "no rules");
     let root = rows.root();
     assert!(rt; rows.class(root) == Class::Above);
     assert!(rt; rows.class(rows.step(root, b"ssn")) == Class::Protected(0));
-    Ok(())
 }
 
 #[test]
-fn classes_of_paths(rt: HostRuntime) -> Result<(), Fail> {
-    let rows = three_rules(rt.alloc())?;
+fn classes_of_paths(rt: HostRuntime) {
+    let rows = three_rules(rt.alloc()).expect(&rt, "no rules");
     let cases: &[(&[u8], Class)] = &[
         (b"ssn.x", Class::Below),
         (b"a", Class::Above),
@@ -74,12 +68,11 @@ fn classes_of_paths(rt: HostRuntime) -> Result<(), Fail> {
     for (dotted, class) in cases {
         assert!(rt; seen(&rows, dotted) == (*class, false));
     }
-    Ok(())
 }
 
 #[test]
-fn positions_on_the_way(rt: HostRuntime) -> Result<(), Fail> {
-    let rows = three_rules(rt.alloc())?;
+fn positions_on_the_way(rt: HostRuntime) {
+    let rows = three_rules(rt.alloc()).expect(&rt, "no rules");
     let cases: &[(&[u8], Class, bool)] = &[
         (b"a.0.b", Class::Clear, true),
         (b"0.a", Class::Clear, false),
@@ -92,7 +85,6 @@ fn positions_on_the_way(rt: HostRuntime) -> Result<(), Fail> {
     for (dotted, class, positional) in cases {
         assert!(rt; seen(&rows, dotted) == (*class, *positional));
     }
-    Ok(())
 }
 
 #[test]

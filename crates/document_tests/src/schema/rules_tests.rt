@@ -1,11 +1,10 @@
 //! The rules that schemas state.
 
 use crate::schema::test_documents::{
-    DETERMINISTIC, INT, KEY_1, KEY_2, RANDOM, fault, joined, rules, within,
+    DETERMINISTIC, INT, KEY_1, KEY_2, RANDOM, has_fault, joined, rules, within,
 };
 use encrypt_schema::{Algorithm, Class, KeyRef, Policy, Rows, SchemaFault};
 use std::alloc::Global;
-use std::test::Fail;
 
 /// `encrypt` in the schema of the field `a`.
 const ENCRYPT_A: [&[u8]; 3] = [b"properties", b"a", b"encrypt"];
@@ -27,7 +26,7 @@ const OBJECT: &[u8] = b"\x02bsonType\x00\x07\x00\x00\x00object\x00";
 const BOOL: &[u8] = b"\x02bsonType\x00\x05\x00\x00\x00bool\x00";
 
 #[test]
-fn deterministic_rules_have_one_type(rt: HostRuntime) -> Result<(), Fail> {
+fn deterministic_rules_have_one_type(rt: HostRuntime) {
     let refused = Some(SchemaFault::DeterministicType);
     let cases: &[(&[&[u8]], Option<SchemaFault>)] = &[
         (&[KEY_1, DETERMINISTIC, INT], None),
@@ -40,9 +39,8 @@ fn deterministic_rules_have_one_type(rt: HostRuntime) -> Result<(), Fail> {
         (&[KEY_1, RANDOM], None),
     ];
     for (parts, expected) in cases {
-        assert!(rt; fault(rt.alloc(), &ENCRYPT_A, parts)? == *expected);
+        assert!(rt; has_fault(rt.alloc(), &ENCRYPT_A, parts, *expected));
     }
-    Ok(())
 }
 
 /// Whether the policy is this one, which allows an int, and a string where the flag says so.
@@ -58,13 +56,10 @@ fn is_policy(policy: Option<&Policy>, algorithm: Algorithm, key: u8, string: boo
     }
 }
 
-/// The rules of the schema with these elements.
-fn rows_of(alloc: Global, parts: &[&[u8]]) -> Result<Rows, Fail> {
+/// The rules of the schema with these elements; `None` where it is refused.
+fn rows_of(alloc: Global, parts: &[&[u8]]) -> Option<Rows> {
     let elements = joined(alloc, parts)?;
-    match rules(alloc, &elements)? {
-        Ok(rows) => Ok(rows),
-        Err(_) => Err("the schema is refused".into()),
-    }
+    rules(alloc, &elements)?.ok()
 }
 
 /// The class of a dotted path.
@@ -79,50 +74,50 @@ fn is_only_policy(rows: &Rows, algorithm: Algorithm) -> bool {
 
 /// `properties: {a: {..., encryptMetadata: {...}, properties: {b: {encrypt: {bsonType: "int"}}}}}` with these elements
 /// in front and this metadata.
-fn field_a(alloc: Global, front: &[u8], metadata: &[&[u8]]) -> Result<Vec<u8>, Fail> {
+fn field_a(alloc: Global, front: &[u8], metadata: &[&[u8]]) -> Option<Vec<u8>> {
     let metadata = within(alloc, &[b"encryptMetadata"], metadata)?;
     let below = within(alloc, &[b"properties", b"b", b"encrypt"], &[INT])?;
     within(alloc, &[b"properties", b"a"], &[front, &metadata, &below])
 }
 
-/// `{encryptMetadata: {keyId: [K2], algorithm: RAND}, properties: {a: {encryptMetadata: {keyId: [K1]},
+/// The rules of `{encryptMetadata: {keyId: [K2], algorithm: RAND}, properties: {a: {encryptMetadata: {keyId: [K1]},
 /// properties: {b: {encrypt: {bsonType: "int"}}}}}}`.
+fn far_and_near(alloc: Global) -> Option<Rows> {
+    let far = within(alloc, &[b"encryptMetadata"], &[KEY_2, RANDOM])?;
+    let a = field_a(alloc, b"", &[KEY_1])?;
+    rows_of(alloc, &[&far, &a])
+}
+
 #[test]
-fn the_nearest_metadata_counts(rt: HostRuntime) -> Result<(), Fail> {
-    let far = within(rt.alloc(), &[b"encryptMetadata"], &[KEY_2, RANDOM])?;
-    let a = field_a(rt.alloc(), b"", &[KEY_1])?;
-    let rows = rows_of(rt.alloc(), &[&far, &a])?;
+fn the_nearest_metadata_counts(rt: HostRuntime) {
+    let rows = far_and_near(rt.alloc()).expect(&rt, "no rules");
     assert!(rt; is_only_policy(&rows, Algorithm::Random));
     assert!(rt; class_of(&rows, b"a.b") == Class::Protected(0));
     assert!(rt; class_of(&rows, b"a") == Class::Above);
-    Ok(())
 }
 
 /// `{properties: {a: {bsonType: "object", encryptMetadata: {keyId: [K1], algorithm: DET}, properties: {b:
 /// {encrypt: {bsonType: "int"}}}}}}`.
 #[test]
-fn a_field_of_a_field_is_protected(rt: HostRuntime) -> Result<(), Fail> {
-    let a = field_a(rt.alloc(), OBJECT, &[KEY_1, DETERMINISTIC])?;
-    let rows = rows_of(rt.alloc(), &[&a])?;
+fn a_field_of_a_field_is_protected(rt: HostRuntime) {
+    let a = field_a(rt.alloc(), OBJECT, &[KEY_1, DETERMINISTIC]).expect(&rt, "no field");
+    let rows = rows_of(rt.alloc(), &[&a]).expect(&rt, "no rules");
     assert!(rt; is_only_policy(&rows, Algorithm::Deterministic));
     assert!(rt; class_of(&rows, b"a.b") == Class::Protected(0));
-    Ok(())
 }
 
 /// What is in force beside a schema isn't in force in it: `{properties: {a: {encryptMetadata: {keyId: [K1],
 /// algorithm: RAND}}, b: {encrypt: {}}}}`.
 #[test]
-fn metadata_of_a_sibling_is_not_in_force(rt: HostRuntime) -> Result<(), Fail> {
+fn metadata_of_a_sibling_is_not_in_force(rt: HostRuntime) {
     let alloc = rt.alloc();
-    let a = within(alloc, &[b"a", b"encryptMetadata"], &[KEY_1, RANDOM])?;
-    let b = within(alloc, &[b"b", b"encrypt"], &[])?;
-    let found = fault(alloc, &[b"properties"], &[&a, &b])?;
-    assert!(rt; found == Some(SchemaFault::NoKey));
-    Ok(())
+    let a = within(alloc, &[b"a", b"encryptMetadata"], &[KEY_1, RANDOM]).expect(&rt, "no field");
+    let b = within(alloc, &[b"b", b"encrypt"], &[]).expect(&rt, "no field");
+    assert!(rt; has_fault(alloc, &[b"properties"], &[&a, &b], Some(SchemaFault::NoKey)));
 }
 
 /// So many protected fields, of names of two bytes.
-fn many_fields(alloc: Global, count: u32) -> Result<Vec<u8>, Fail> {
+fn many_fields(alloc: Global, count: u32) -> Option<Vec<u8>> {
     let mut fields = Vec::new(alloc);
     for i in 0..count {
         let name = [
@@ -130,13 +125,13 @@ fn many_fields(alloc: Global, count: u32) -> Result<Vec<u8>, Fail> {
             0x80 | ((i / 64) % 128) as u8,
         ];
         let field = within(alloc, &[&name, b"encrypt"], &[])?;
-        fields.extend_from_slice(&field)?;
+        fields.extend_from_slice(&field).ok()?;
     }
-    Ok(fields)
+    Some(fields)
 }
 
 /// The rules of `{encryptMetadata: {keyId: [K1], algorithm: RAND}, properties: {..}}` with so many such fields.
-fn many_rules(alloc: Global, count: u32) -> Result<Result<Rows, SchemaFault>, Fail> {
+fn many_rules(alloc: Global, count: u32) -> Option<Result<Rows, SchemaFault>> {
     let fields = many_fields(alloc, count)?;
     let metadata = within(alloc, &[b"encryptMetadata"], &[KEY_1, RANDOM])?;
     let properties = within(alloc, &[b"properties"], &[&fields])?;
@@ -145,17 +140,15 @@ fn many_rules(alloc: Global, count: u32) -> Result<Result<Rows, SchemaFault>, Fa
 }
 
 #[test]
-fn there_may_be_4096_rules(rt: HostRuntime) -> Result<(), Fail> {
-    let Ok(rows) = many_rules(rt.alloc(), 4096)? else {
-        return Err("the schema is refused".into());
-    };
+fn there_may_be_4096_rules(rt: HostRuntime) {
+    let answer = many_rules(rt.alloc(), 4096).expect(&rt, "no schema");
+    let rows = answer.expect(&rt, "the schema is refused");
     assert!(rt; rows.len() == 4096);
     assert!(rt; is_policy(rows.policy(4095), Algorithm::Random, b'1', true));
-    Ok(())
 }
 
 #[test]
-fn the_4097th_rule_is_one_too_many(rt: HostRuntime) -> Result<(), Fail> {
-    assert!(rt; many_rules(rt.alloc(), 4097)?.err() == Some(SchemaFault::TooMany));
-    Ok(())
+fn the_4097th_rule_is_one_too_many(rt: HostRuntime) {
+    let answer = many_rules(rt.alloc(), 4097).expect(&rt, "no schema");
+    assert!(rt; answer.err() == Some(SchemaFault::TooMany));
 }

@@ -3,7 +3,6 @@
 use bson_codec::check_bson;
 use encrypt_schema::{Rows, SchemaFault};
 use std::alloc::Global;
-use std::test::Fail;
 
 /// The longest document that a test makes.
 const LONGEST: usize = 1_000_000;
@@ -47,66 +46,67 @@ pub(crate) const NO_PROPERTIES: &[u8] = b"\x08properties\x00\x01";
 pub(crate) const NO_KEYWORD: &[u8] = b"\x08foo\x00\x01";
 
 /// Puts a document of these elements behind the bytes.
-pub(crate) fn put_document(out: &mut Vec<u8>, elements: &[u8]) -> Result<(), Fail> {
+pub(crate) fn put_document(out: &mut Vec<u8>, elements: &[u8]) -> Option<()> {
     if elements.len() > LONGEST {
-        return Err("a test's document is too long".into());
+        return None;
     }
     let width = elements.len() as u32 + 5;
-    out.extend_from_slice(&width.to_le_bytes())?;
-    out.extend_from_slice(elements)?;
-    out.push(0)?;
-    Ok(())
+    out.extend_from_slice(&width.to_le_bytes()).ok()?;
+    out.extend_from_slice(elements).ok()?;
+    out.push(0).ok()
 }
 
-/// Puts an element of this name behind the bytes, a document of these elements.
-pub(crate) fn put_within(out: &mut Vec<u8>, name: &[u8], elements: &[u8]) -> Result<(), Fail> {
-    out.push(0x03)?;
-    out.extend_from_slice(name)?;
-    out.push(0)?;
-    put_document(out, elements)
+/// An element of this name, a document of these elements.
+fn element(alloc: Global, name: &[u8], elements: &[u8]) -> Option<Vec<u8>> {
+    let mut out = Vec::from_slice(alloc, &[0x03]).ok()?;
+    out.extend_from_slice(name).ok()?;
+    out.push(0).ok()?;
+    put_document(&mut out, elements)?;
+    Some(out)
 }
 
 /// These parts one after another.
-pub(crate) fn joined(alloc: Global, parts: &[&[u8]]) -> Result<Vec<u8>, Fail> {
+pub(crate) fn joined(alloc: Global, parts: &[&[u8]]) -> Option<Vec<u8>> {
     let mut out = Vec::new(alloc);
     for part in parts {
-        out.extend_from_slice(part)?;
+        out.extend_from_slice(part).ok()?;
     }
-    Ok(out)
+    Some(out)
 }
 
 /// The elements of a document that has, under the first name, a document that has, under the next name, and so
-/// on, a document of these elements. A name that is empty counts for none.
-pub(crate) fn within(alloc: Global, path: &[&[u8]], parts: &[&[u8]]) -> Result<Vec<u8>, Fail> {
+/// on, a document of these elements.
+pub(crate) fn within(alloc: Global, path: &[&[u8]], parts: &[&[u8]]) -> Option<Vec<u8>> {
     let mut inner = joined(alloc, parts)?;
     for i in 0..path.len() {
-        let name = path[path.len() - 1 - i];
-        if !name.is_empty() {
-            let mut outer = Vec::new(alloc);
-            put_within(&mut outer, name, &inner)?;
-            inner = outer;
-        }
+        inner = element(alloc, path[path.len() - 1 - i], &inner)?;
     }
-    Ok(inner)
+    Some(inner)
 }
 
-/// The rules of the schema of these elements, or why it is refused.
-pub(crate) fn rules(alloc: Global, elements: &[u8]) -> Result<Result<Rows, SchemaFault>, Fail> {
+/// The rules of the schema of these elements, or why it is refused; `None` where it can't be made.
+pub(crate) fn rules(alloc: Global, elements: &[u8]) -> Option<Result<Rows, SchemaFault>> {
     let mut schema = Vec::new(alloc);
     put_document(&mut schema, elements)?;
     if schema.len() > LONGEST {
-        return Err("a test's document is too long".into());
+        return None;
     }
-    let schema = check_bson(&schema)?;
-    Ok(Rows::read(alloc, &schema))
+    let schema = check_bson(&schema).ok()?;
+    Some(Rows::read(alloc, &schema))
 }
 
-/// Why the schema is refused that has these elements at the end of this path; `None` where it is accepted.
-pub(crate) fn fault(
+/// Whether the schema that has these elements at the end of this path has this fault or, without one, is accepted.
+pub(crate) fn has_fault(
     alloc: Global,
     path: &[&[u8]],
     parts: &[&[u8]],
-) -> Result<Option<SchemaFault>, Fail> {
-    let elements = within(alloc, path, parts)?;
-    Ok(rules(alloc, &elements)?.err())
+    fault: Option<SchemaFault>,
+) -> bool {
+    let Some(elements) = within(alloc, path, parts) else {
+        return false;
+    };
+    match rules(alloc, &elements) {
+        Some(rows) => rows.err() == fault,
+        None => false,
+    }
 }
