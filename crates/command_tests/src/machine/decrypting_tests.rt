@@ -1,81 +1,65 @@
 //! Documents opened state by state: which keys are asked for, which are kept, and what is refused.
 
+use crate::documents::document_of;
 use crate::machine::decrypting_samples::{
     ID, OTHER_ID, is_filter_of_two, is_opened, is_three_opened, master, sealed, three_sealed,
 };
 use crate::machine::fed_keys::{Fed, keys};
 use crate::machine::filters::is_filter_of_one;
-use bson_codec::check_bson;
 use context_machine::{DecryptNeedKeys, DecryptReady, KeysStop};
 use crypto_hooks::Tables;
 use data_key::KeyDoc;
+use doc_rewrite::Spot;
 use encrypt_schema::{MarkFault, Reason};
 use key_vault::KeyCache;
 use std::alloc::Global;
-use std::test::Fail;
 
-/// The state in which a document asks for its keys, with these fed.
-fn fed<'a>(
-    alloc: Global,
-    bytes: &'a [u8],
-    keys: &'a [KeyDoc],
-) -> Result<DecryptNeedKeys<'a>, Fail> {
-    if bytes.len() > 1000 {
-        return Err("too long".into());
-    }
-    let Ok(mut asking) = DecryptNeedKeys::begin(alloc, check_bson(bytes)?) else {
-        return Err("not begun".into());
-    };
+/// The state in which a document asks for its keys, with these fed; `None` where it isn't reached.
+fn fed<'a>(alloc: Global, bytes: &'a [u8], keys: &'a [KeyDoc]) -> Option<DecryptNeedKeys<'a>> {
+    let mut asking = DecryptNeedKeys::begin(alloc, document_of(bytes)?).ok()?;
     for key in keys {
         asking.feed(key);
     }
-    Ok(asking)
+    Some(asking)
 }
 
-/// Why the keys that were kept don't do, with the state that comes back.
+/// Why the keys that were kept don't do, with the state that comes back; `None` where they do.
 fn stopped<'a>(
     alloc: Global,
     asking: DecryptNeedKeys<'a>,
-) -> Result<(DecryptNeedKeys<'a>, KeysStop), Fail> {
-    match asking.done(alloc, &master(), &Tables) {
-        Ok(_) => Err("ready".into()),
-        Err(back) => Ok(back),
-    }
+) -> Option<(DecryptNeedKeys<'a>, KeysStop)> {
+    asking.done(alloc, &master(), &Tables).err()
 }
 
-/// The state in which the keys are there.
-fn ready<'a>(alloc: Global, asking: DecryptNeedKeys<'a>) -> Result<DecryptReady<'a>, Fail> {
-    match asking.done(alloc, &master(), &Tables) {
-        Ok(ready) => Ok(ready),
-        Err(_) => Err("not ready".into()),
-    }
+/// The state in which the keys are there; `None` where it isn't reached.
+fn ready<'a>(alloc: Global, asking: DecryptNeedKeys<'a>) -> Option<DecryptReady<'a>> {
+    asking.done(alloc, &master(), &Tables).ok()
 }
 
-/// The bytes of the opened document.
-fn opened(alloc: Global, asking: DecryptNeedKeys<'_>) -> Result<Vec<u8>, Fail> {
+/// The bytes of the opened document; `None` where it isn't opened.
+fn opened(alloc: Global, asking: DecryptNeedKeys<'_>) -> Option<Vec<u8>> {
     match ready(alloc, asking)?.finalize(&Tables) {
-        Ok(done) => Ok(done.into_bytes()),
-        Err(_) => Err("not opened".into()),
+        Ok(done) => Some(done.into_bytes()),
+        Err(_) => None,
     }
 }
 
-/// The bytes of a document that is opened under these keys.
-fn opened_by(alloc: Global, bytes: &[u8], fed_keys: &[Fed]) -> Result<Vec<u8>, Fail> {
+/// The bytes of a document that is opened under these keys; `None` where it isn't.
+fn opened_by(alloc: Global, bytes: &[u8], fed_keys: &[Fed]) -> Option<Vec<u8>> {
     let keys = keys(alloc, fed_keys)?;
     opened(alloc, fed(alloc, bytes, &keys)?)
 }
 
-/// Whether these keys don't do for a document, for this reason at this offset.
-fn stops(
-    alloc: Global,
-    bytes: &[u8],
-    fed_keys: &[Fed],
-    reason: Reason,
-    at: u32,
-) -> Result<bool, Fail> {
+/// Why these keys don't do for a document; `None` where they do, or are never asked for.
+fn stop(alloc: Global, bytes: &[u8], fed_keys: &[Fed]) -> Option<KeysStop> {
     let keys = keys(alloc, fed_keys)?;
     let (_, stop) = stopped(alloc, fed(alloc, bytes, &keys)?)?;
-    Ok(stop == KeysStop::Refused { reason, at })
+    Some(stop)
+}
+
+/// Whether these keys don't do for a document, for this reason at this offset.
+fn stops(alloc: Global, bytes: &[u8], fed_keys: &[Fed], reason: Reason, at: u32) -> bool {
+    stop(alloc, bytes, fed_keys) == Some(KeysStop::Refused { reason, at })
 }
 
 /// Whether the keys of these ids are asked for, in this order, and no others.
@@ -88,50 +72,42 @@ fn needs(asking: &DecryptNeedKeys<'_>, ids: &[[u8; 16]]) -> bool {
     asking.needed(ids.len()).is_none()
 }
 
-/// The filter for these keys.
-fn filter(alloc: Global, asking: &DecryptNeedKeys<'_>) -> Result<Vec<u8>, Fail> {
-    match asking.op(alloc) {
-        Ok(filter) => Ok(filter),
-        Err(_) => Err("no memory".into()),
-    }
-}
-
 #[test]
-fn a_document_asks_for_its_key(rt: HostRuntime) -> Result<(), Fail> {
+fn a_document_asks_for_its_key(rt: HostRuntime) {
     let bytes = sealed();
-    let asking = fed(rt.alloc(), &bytes, &[])?;
+    let asking = fed(rt.alloc(), &bytes, &[]).expect(&rt, "no keys are asked for");
     assert!(rt; needs(&asking, &[ID]));
-    assert!(rt; is_filter_of_one(&filter(rt.alloc(), &asking)?));
-    Ok(())
+    assert!(rt; matches!(&asking.op(rt.alloc()), Ok(f) if is_filter_of_one(f)));
 }
 
 #[test]
-fn a_document_asks_once_for_each_key_in_order_of_first_use(rt: HostRuntime) -> Result<(), Fail> {
+fn a_document_asks_once_for_each_key_in_order_of_first_use(rt: HostRuntime) {
     let bytes = three_sealed();
-    let asking = fed(rt.alloc(), &bytes, &[])?;
+    let asking = fed(rt.alloc(), &bytes, &[]).expect(&rt, "no keys are asked for");
     assert!(rt; needs(&asking, &[OTHER_ID, ID]));
-    assert!(rt; is_filter_of_two(&filter(rt.alloc(), &asking)?));
-    Ok(())
+    assert!(rt; matches!(&asking.op(rt.alloc()), Ok(f) if is_filter_of_two(f)));
 }
 
-/// Why the keys that were kept don't do, and what the document opens to once these are fed, too.
+/// Why the keys that were kept don't do, and what the document opens to once these are fed, too; `None` where they do
+/// or nothing is opened.
 fn fed_again<'a>(
     alloc: Global,
     asking: DecryptNeedKeys<'a>,
     keys: &'a [KeyDoc],
-) -> Result<(KeysStop, Vec<u8>), Fail> {
+) -> Option<(KeysStop, Vec<u8>)> {
     let (mut again, stop) = stopped(alloc, asking)?;
     for key in keys {
         again.feed(key);
     }
-    Ok((stop, opened(alloc, again)?))
+    Some((stop, opened(alloc, again)?))
 }
 
 #[test]
-fn after_a_missing_key_the_same_state_is_fed_and_opens(rt: HostRuntime) -> Result<(), Fail> {
+fn after_a_missing_key_the_same_state_is_fed_and_opens(rt: HostRuntime) {
     let bytes = sealed();
-    let right = keys(rt.alloc(), &[Fed::Right])?;
-    let (stop, out) = fed_again(rt.alloc(), fed(rt.alloc(), &bytes, &[])?, &right)?;
+    let right = keys(rt.alloc(), &[Fed::Right]).expect(&rt, "no memory");
+    let asking = fed(rt.alloc(), &bytes, &[]).expect(&rt, "no keys are asked for");
+    let (stop, out) = fed_again(rt.alloc(), asking, &right).expect(&rt, "it isn't opened");
     assert!(rt;
         matches!(
             stop,
@@ -142,11 +118,10 @@ fn after_a_missing_key_the_same_state_is_fed_and_opens(rt: HostRuntime) -> Resul
         )
     );
     assert!(rt; is_opened(&out));
-    Ok(())
 }
 
 #[test]
-fn a_key_of_another_provider_is_told(rt: HostRuntime) -> Result<(), Fail> {
+fn a_key_of_another_provider_is_told(rt: HostRuntime) {
     assert!(rt;
         stops(
             rt.alloc(),
@@ -154,33 +129,39 @@ fn a_key_of_another_provider_is_told(rt: HostRuntime) -> Result<(), Fail> {
             &[Fed::Foreign],
             Reason::KeyNotLocal,
             50
-        )?
+        )
     );
-    Ok(())
 }
 
 #[test]
-fn the_first_key_of_an_id_stays(rt: HostRuntime) -> Result<(), Fail> {
-    let right_first = opened_by(rt.alloc(), &sealed(), &[Fed::Right, Fed::Damaged])?;
-    assert!(rt; is_opened(&right_first));
+fn the_first_key_of_an_id_stays(rt: HostRuntime) {
+    let right_first = opened_by(rt.alloc(), &sealed(), &[Fed::Right, Fed::Damaged]);
+    assert!(rt; matches!(&right_first, Some(out) if is_opened(out)));
     let damaged_first = &[Fed::Damaged, Fed::Right];
-    assert!(rt; stops(rt.alloc(), &sealed(), damaged_first, Reason::KeyDamaged, 50)?);
-    Ok(())
+    assert!(rt; stops(rt.alloc(), &sealed(), damaged_first, Reason::KeyDamaged, 50));
 }
 
 #[test]
-fn keys_are_fed_in_any_order(rt: HostRuntime) -> Result<(), Fail> {
+fn keys_are_fed_in_any_order(rt: HostRuntime) {
     let fed_keys = &[Fed::Unneeded, Fed::Right, Fed::Other];
-    assert!(rt; is_three_opened(&opened_by(rt.alloc(), &three_sealed(), fed_keys)?));
-    Ok(())
+    let out = opened_by(rt.alloc(), &three_sealed(), fed_keys);
+    assert!(rt; matches!(&out, Some(out) if is_three_opened(out)));
 }
 
 #[test]
-fn the_first_payload_without_a_key_is_told(rt: HostRuntime) -> Result<(), Fail> {
-    for (key, at) in [(Fed::Right, 7u32), (Fed::Other, 97)] {
-        assert!(rt; stops(rt.alloc(), &three_sealed(), &[key], Reason::KeyMissing, at)?);
+fn the_first_payload_without_a_key_is_told(rt: HostRuntime) {
+    let cases: &[(Fed, u32)] = &[(Fed::Right, 7), (Fed::Other, 97)];
+    for (key, at) in cases {
+        assert!(rt;
+            stops(
+                rt.alloc(),
+                &three_sealed(),
+                &[*key],
+                Reason::KeyMissing,
+                *at
+            )
+        );
     }
-    Ok(())
 }
 
 /// Whether a state is ready by a cache.
@@ -188,25 +169,26 @@ fn is_ready(alloc: Global, cache: &mut KeyCache, asking: DecryptNeedKeys<'_>) ->
     asking.done_cached(alloc, cache, &Tables).is_ok()
 }
 
-/// Whether this key does for the document of one payload, by a cache.
-fn does(alloc: Global, cache: &mut KeyCache, key: Fed) -> Result<bool, Fail> {
+/// Whether this key does for the document of one payload, by a cache; `None` where it is never asked for.
+fn does(alloc: Global, cache: &mut KeyCache, key: Fed) -> Option<bool> {
     let keys = keys(alloc, &[key])?;
-    Ok(is_ready(alloc, cache, fed(alloc, &sealed(), &keys)?))
+    let bytes = sealed();
+    Some(is_ready(alloc, cache, fed(alloc, &bytes, &keys)?))
 }
 
 #[test]
-fn a_cache_answers_for_the_material_that_is_fed(rt: HostRuntime) -> Result<(), Fail> {
-    let mut cache = KeyCache::new(rt.alloc(), master()).map_err(|_| "no memory")?;
-    assert!(rt; does(rt.alloc(), &mut cache, Fed::Right)?);
+fn a_cache_answers_for_the_material_that_is_fed(rt: HostRuntime) {
+    let mut cache = KeyCache::new(rt.alloc(), master()).expect(&rt, "no cache");
+    assert!(rt; does(rt.alloc(), &mut cache, Fed::Right) == Some(true));
     assert!(rt; cache.len() == 1);
-    assert!(rt; !does(rt.alloc(), &mut cache, Fed::Damaged)?);
-    Ok(())
+    assert!(rt; does(rt.alloc(), &mut cache, Fed::Damaged) == Some(false));
 }
 
 #[test]
-fn a_payload_too_short_is_told_before_any_key(rt: HostRuntime) -> Result<(), Fail> {
+fn a_payload_too_short_is_told_before_any_key(rt: HostRuntime) {
     let bytes = b"\x11\x00\x00\x00\x05a\x00\x04\x00\x00\x00\x06\x01\x02\x03\x04\x00";
-    let fault = DecryptNeedKeys::begin(rt.alloc(), check_bson(bytes)?).err();
+    let document = document_of(bytes).expect(&rt, "no document");
+    let fault = DecryptNeedKeys::begin(rt.alloc(), document).err();
     assert!(rt;
         matches!(
             fault,
@@ -216,16 +198,19 @@ fn a_payload_too_short_is_told_before_any_key(rt: HostRuntime) -> Result<(), Fai
             })
         )
     );
-    Ok(())
+}
+
+/// Which payload of a document isn't opened, once its keys are there; `None` where they aren't, or it is opened.
+fn unopened(alloc: Global, bytes: &[u8], fed_keys: &[Fed]) -> Option<Spot> {
+    let keys = keys(alloc, fed_keys)?;
+    let ready = ready(alloc, fed(alloc, bytes, &keys)?)?;
+    ready.finalize(&Tables).err()
 }
 
 #[test]
-fn a_changed_byte_is_told_by_the_tag(rt: HostRuntime) -> Result<(), Fail> {
+fn a_changed_byte_is_told_by_the_tag(rt: HostRuntime) {
     let mut bytes = sealed();
     bytes[100] ^= 1;
-    let right = keys(rt.alloc(), &[Fed::Right])?;
-    let ready = ready(rt.alloc(), fed(rt.alloc(), &bytes, &right)?)?;
-    let spot = ready.finalize(&Tables).err();
+    let spot = unopened(rt.alloc(), &bytes, &[Fed::Right]);
     assert!(rt; matches!(spot, Some(s) if s.reason == Reason::TagMismatch && s.at == 50));
-    Ok(())
 }

@@ -4,8 +4,7 @@ use crate::machine::decrypting_samples::{ID, OTHER_ID, material, other_material}
 use crate::machine::sealing_samples::SECOND_ID;
 use bson_tree::{Bytes, Names};
 use data_key::{KeyDoc, Provider};
-use std::alloc::{AllocError, Global};
-use std::test::Fail;
+use std::alloc::Global;
 
 /// Which key is fed.
 #[derive(Clone, Copy)]
@@ -55,10 +54,10 @@ impl Fed {
         }
     }
 
-    /// The key that a vault has of it.
-    fn key(&self, alloc: Global) -> Result<KeyDoc, AllocError> {
-        let material = Vec::from_slice(alloc, &self.material())?;
-        Ok(KeyDoc {
+    /// The key that a vault has of it; `None` where there was no memory.
+    fn key(&self, alloc: Global) -> Option<KeyDoc> {
+        let material = Vec::from_slice(alloc, &self.material()).ok()?;
+        Some(KeyDoc {
             id: self.id(),
             names: Names::new(alloc),
             material: Bytes::from_vec(material),
@@ -67,13 +66,13 @@ impl Fed {
     }
 }
 
-/// These keys.
-pub(crate) fn keys(alloc: Global, fed: &[Fed]) -> Result<Vec<KeyDoc>, Fail> {
+/// These keys; `None` where there was no memory.
+pub(crate) fn keys(alloc: Global, fed: &[Fed]) -> Option<Vec<KeyDoc>> {
     let mut keys = Vec::new(alloc);
     for each in fed {
         if keys.push(each.key(alloc)?).is_err() {
-            return Err("no memory".into());
+            return None;
         }
     }
-    Ok(keys)
+    Some(keys)
 }

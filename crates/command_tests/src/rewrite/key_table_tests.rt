@@ -3,7 +3,6 @@
 use doc_rewrite::KeyTable;
 use fle_aead::{DataKey, SharedKey};
 use std::alloc::Global;
-use std::test::Fail;
 
 /// The id of this number.
 fn id_of(number: u8) -> [u8; 16] {
@@ -13,30 +12,34 @@ fn id_of(number: u8) -> [u8; 16] {
     ]
 }
 
-/// A table of keys whose ids have these numbers, those of even numbers shared.
-fn table_of(alloc: Global, numbers: &[u8]) -> Result<KeyTable, Fail> {
-    let mut keys = KeyTable::new(alloc);
-    for number in numbers {
-        let key = DataKey::new([*number; 96]);
-        if number % 2 == 0 {
-            keys.add_shared(id_of(*number), SharedKey::new(alloc, key)?)?;
-        } else {
-            keys.add(id_of(*number), key)?;
-        }
+/// Adds a key whose id has this number, shared where the number is even; whether there was memory.
+fn add(alloc: Global, keys: &mut KeyTable, number: u8) -> bool {
+    let key = DataKey::new([number; 96]);
+    if number % 2 != 0 {
+        return keys.add(id_of(number), key).is_ok();
     }
-    Ok(keys)
+    match SharedKey::new(alloc, key) {
+        Ok(key) => keys.add_shared(id_of(number), key).is_ok(),
+        Err(_) => false,
+    }
+}
+
+/// Whether a key whose id has this number is found.
+fn has(keys: &KeyTable, number: u8) -> bool {
+    keys.find(&id_of(number)).is_some()
 }
 
 #[test]
-fn keys_are_found_wherever_they_stand(rt: HostRuntime) -> Result<(), Fail> {
+fn keys_are_found_wherever_they_stand(rt: HostRuntime) {
     let numbers: &[u8] = &[
         1, 2, 3, 4, 5, 6, 7, 8, 9, 10, 11, 12, 13, 14, 15, 16, 17, 18, 19, 9, 1,
     ];
-    let keys = table_of(rt.alloc(), numbers)?;
+    let mut keys = KeyTable::new(rt.alloc());
     for number in numbers {
-        assert!(rt; keys.find(&id_of(*number)).is_some());
+        assert!(rt; add(rt.alloc(), &mut keys, *number));
     }
-    assert!(rt; keys.find(&id_of(0)).is_none());
-    assert!(rt; keys.find(&id_of(20)).is_none());
-    Ok(())
+    for number in numbers {
+        assert!(rt; has(&keys, *number));
+    }
+    assert!(rt; !has(&keys, 0) && !has(&keys, 20));
 }

@@ -1,5 +1,6 @@
 //! Commands that were sealed outside this repository.
 
+use crate::documents::{document_of, whole};
 use crate::rewrite::deep_samples::UNDER_47_NAMES;
 use crate::rewrite::payload_samples::{OF_A_DOCUMENT, TWO_DOCUMENTS_ANEW};
 use crate::rewrite::sample_bytes::INFOS;
@@ -8,39 +9,45 @@ use crate::rewrite::samples::{
     TWO_DOCUMENTS,
 };
 use crate::rewrite::standing::{keys_there, stand};
-use bson_codec::{RawDoc, check_bson};
+use bson_codec::RawDoc;
 use crypto_hooks::Tables;
 use doc_rewrite::{KeyTable, plan_clear, plan_seal, seal_through};
-use encrypt_schema::{Infos, Marks, Rows};
+use encrypt_schema::{Infos, Mark, Marks, Rows};
 use fle_aead::DataKey;
-use fle_outside::MemEntropy;
+use fle_outside::{Failed, MemEntropy};
 use fle_vectors::DATA_KEY;
-use std::alloc::{AllocError, Global};
-use std::test::Fail;
+use std::alloc::Global;
 
 /// The id of the data key, the UUID 00112233-4455-4677-8899-aabbccddeeff.
 const ID: [u8; 16] = [
     0x00, 0x11, 0x22, 0x33, 0x44, 0x55, 0x46, 0x77, 0x88, 0x99, 0xaa, 0xbb, 0xcc, 0xdd, 0xee, 0xff,
 ];
 
-/// Parts one behind the other.
-fn joined(alloc: Global, parts: &[&[u8]]) -> Result<Vec<u8>, AllocError> {
-    let mut bytes = Vec::new(alloc);
-    for part in parts {
-        bytes.extend_from_slice(part)?;
-    }
-    Ok(bytes)
-}
-
 /// The data key of the tests behind another one.
-fn keys_of_tests(alloc: Global) -> Result<KeyTable, Fail> {
+fn keys_of_tests(alloc: Global) -> Option<KeyTable> {
     let mut keys = KeyTable::new(alloc);
-    keys.add([7; 16], DataKey::new([0; 96]))?;
-    keys.add(ID, DataKey::new(DATA_KEY))?;
-    Ok(keys)
+    keys.add([7; 16], DataKey::new([0; 96])).ok()?;
+    keys.add(ID, DataKey::new(DATA_KEY)).ok()?;
+    Some(keys)
 }
 
-/// The document sealed at these marks; `None` where a draw failed.
+/// The marks of a sample.
+fn marks_of(alloc: Global, list: &[Mark]) -> Option<Marks> {
+    let mut marks = Marks::new(alloc);
+    for mark in list {
+        marks.add(*mark).ok()?;
+    }
+    Some(marks)
+}
+
+/// A source of these blocks, of which the draws of these numbers fail.
+fn entropy_of(alloc: Global, blocks: &[[u8; 16]], failing: &[u64]) -> Option<MemEntropy> {
+    let blocks = Vec::from_slice(alloc, blocks).ok()?;
+    let failing = Vec::from_slice(alloc, failing).ok()?;
+    Some(MemEntropy::new(blocks, failing))
+}
+
+/// The document sealed at these marks, or that a draw failed; `None` where that couldn't be tried.
 fn seal(
     alloc: Global,
     rows: &Rows,
@@ -48,76 +55,91 @@ fn seal(
     marks: &Marks,
     keys: &KeyTable,
     entropy: &mut MemEntropy,
-) -> Result<Option<Vec<u8>>, Fail> {
+) -> Option<Result<Vec<u8>, Failed>> {
     if !stand(document, marks, rows) {
-        return Err("marks".into());
+        return None;
     }
-    let plan = match plan_seal(document, marks, rows) {
-        Ok(plan) => plan,
-        Err(_) => return Err("no plan".into()),
+    let Ok(plan) = plan_seal(document, marks, rows) else {
+        return None;
     };
     if !keys_there(&plan, keys) {
-        return Err("keys".into());
+        return None;
     }
-    let mut out = vec![in alloc; 0; plan.output_len()]?;
+    let Ok(mut out) = vec![in alloc; 0; plan.output_len()] else {
+        return None;
+    };
     match seal_through(&plan, document, keys, &Tables, entropy, &mut out) {
-        Ok(()) => Ok(Some(out)),
-        Err(_) => Ok(None),
+        Ok(()) => Some(Ok(out)),
+        Err(failed) => Some(Err(failed)),
     }
 }
 
-/// What a sample is sealed to; `None` where a draw failed.
+/// The same of a sample whose rules and bytes these are.
+fn seal_sample(
+    alloc: Global,
+    rows: &Rows,
+    document: &RawDoc<'_>,
+    sample: &Sample,
+    entropy: &mut MemEntropy,
+) -> Option<Result<Vec<u8>, Failed>> {
+    let marks = marks_of(alloc, sample.marks)?;
+    let keys = keys_of_tests(alloc)?;
+    seal(alloc, rows, document, &marks, &keys, entropy)
+}
+
+/// What a sample is sealed to, or that a draw failed; `None` where that couldn't be tried.
 fn sealed_by(
     alloc: Global,
     sample: &Sample,
     entropy: &mut MemEntropy,
-) -> Result<Option<Vec<u8>>, Fail> {
-    let infos = Infos::load(alloc, INFOS)?;
-    let info = infos.info_of(sample.collection).ok_or("no info")?;
-    let bytes = joined(alloc, sample.command)?;
-    if bytes.len() > 1000 {
-        return Err("too long".into());
-    }
-    let document = check_bson(&bytes)?;
-    let mut marks = Marks::new(alloc);
-    for mark in sample.marks {
-        marks.add(*mark)?;
-    }
-    let keys = keys_of_tests(alloc)?;
-    seal(alloc, info.rows(), &document, &marks, &keys, entropy)
+) -> Option<Result<Vec<u8>, Failed>> {
+    let infos = Infos::load(alloc, INFOS).ok()?;
+    let info = infos.info_of(sample.collection)?;
+    let bytes = whole(alloc, sample.command)?;
+    let document = document_of(&bytes)?;
+    seal_sample(alloc, info.rows(), &document, sample, entropy)
 }
 
-/// The same with these blocks; `None` where they are too few.
-fn sealed(alloc: Global, sample: &Sample, blocks: &[[u8; 16]]) -> Result<Option<Vec<u8>>, Fail> {
-    let mut entropy = MemEntropy::new(Vec::from_slice(alloc, blocks)?, Vec::new(alloc));
-    sealed_by(alloc, sample, &mut entropy)
+/// Whether a sample is sealed to these parts, with blocks from this source.
+fn seals_to(alloc: Global, sample: &Sample, entropy: &mut MemEntropy, parts: &[&[u8]]) -> bool {
+    match whole(alloc, parts) {
+        Some(sealed) => sealed_by(alloc, sample, entropy) == Some(Ok(sealed)),
+        None => false,
+    }
+}
+
+/// Whether a sample isn't sealed, since a draw from this source fails.
+fn falls_short(alloc: Global, sample: &Sample, entropy: &mut MemEntropy) -> bool {
+    sealed_by(alloc, sample, entropy) == Some(Err(Failed))
 }
 
 /// Whether a sample is sealed as elsewhere, with the blocks of 01 and of 02.
-fn is_sealed(alloc: Global, sample: &Sample) -> Result<bool, Fail> {
-    let out = sealed(alloc, sample, &[[1; 16], [2; 16]])?;
-    let whole = joined(alloc, sample.sealed)?;
-    Ok(out == Some(whole))
+fn is_sealed(alloc: Global, sample: &Sample) -> bool {
+    match entropy_of(alloc, &[[1; 16], [2; 16]], &[]) {
+        Some(mut entropy) => seals_to(alloc, sample, &mut entropy, sample.sealed),
+        None => false,
+    }
 }
 
 /// What a document becomes of which nothing is sealed.
-fn copied(alloc: Global, bytes: &[u8]) -> Result<Vec<u8>, Fail> {
-    if bytes.len() > 1000 {
-        return Err("too long".into());
-    }
-    let document = check_bson(bytes)?;
-    let plan = plan_clear(&document).map_err(|_| "no plan")?;
+fn copied(alloc: Global, bytes: &[u8]) -> Option<Vec<u8>> {
+    let document = document_of(bytes)?;
+    let Ok(plan) = plan_clear(&document) else {
+        return None;
+    };
+    let Ok(mut out) = vec![in alloc; 0; plan.output_len()] else {
+        return None;
+    };
     let keys = KeyTable::new(alloc);
-    let mut entropy = MemEntropy::new(Vec::new(alloc), Vec::new(alloc));
-    let mut out = vec![in alloc; 0; plan.output_len()]?;
-    match seal_through(&plan, &document, &keys, &Tables, &mut entropy, &mut out) {
-        Ok(()) => Ok(out),
-        Err(_) => Err("a block was drawn".into()),
+    let mut none = MemEntropy::new(Vec::new(alloc), Vec::new(alloc));
+    match seal_through(&plan, &document, &keys, &Tables, &mut none, &mut out) {
+        Ok(()) => Some(out),
+        Err(_) => None,
     }
 }
 
 #[test]
-fn commands_are_sealed_as_elsewhere(rt: HostRuntime) -> Result<(), Fail> {
+fn commands_are_sealed_as_elsewhere(rt: HostRuntime) {
     let samples: &[&Sample] = &[
         &ONE_STRING,
         &ONE_INT,
@@ -129,59 +151,45 @@ fn commands_are_sealed_as_elsewhere(rt: HostRuntime) -> Result<(), Fail> {
         &FROM_A_DRIVER,
     ];
     for sample in samples {
-        assert!(rt; is_sealed(rt.alloc(), sample)?);
+        assert!(rt; is_sealed(rt.alloc(), sample));
     }
-    Ok(())
 }
 
 #[test]
-fn documents_and_values_at_many_levels_are_sealed_as_elsewhere(
-    rt: HostRuntime,
-) -> Result<(), Fail> {
-    let alloc = rt.alloc();
-    assert!(rt; is_sealed(alloc, &OF_A_DOCUMENT)?);
-    assert!(rt; is_sealed(alloc, &UNDER_47_NAMES)?);
-    assert!(rt; is_sealed(alloc, &EMPTY_LIST)?);
-    Ok(())
+fn documents_and_values_at_many_levels_are_sealed_as_elsewhere(rt: HostRuntime) {
+    let samples: &[&Sample] = &[&OF_A_DOCUMENT, &UNDER_47_NAMES, &EMPTY_LIST];
+    for sample in samples {
+        assert!(rt; is_sealed(rt.alloc(), sample));
+    }
 }
 
 /// Whether a sample isn't sealed where the draw of this number fails, and then, by the blocks that are left, to these
 /// parts.
-fn is_sealed_anew(
-    alloc: Global,
-    sample: &Sample,
-    failing: u64,
-    parts: &[&[u8]],
-) -> Result<bool, Fail> {
-    let blocks = Vec::from_slice(alloc, &[[1; 16], [2; 16], [3; 16]])?;
-    let mut entropy = MemEntropy::new(blocks, vec![in alloc; failing]?);
-    if sealed_by(alloc, sample, &mut entropy)?.is_some() {
-        return Ok(false);
+fn is_sealed_anew(alloc: Global, sample: &Sample, failing: u64, parts: &[&[u8]]) -> bool {
+    match entropy_of(alloc, &[[1; 16], [2; 16], [3; 16]], &[failing]) {
+        Some(mut entropy) => {
+            falls_short(alloc, sample, &mut entropy) && seals_to(alloc, sample, &mut entropy, parts)
+        }
+        None => false,
     }
-    let whole = joined(alloc, parts)?;
-    Ok(sealed_by(alloc, sample, &mut entropy)? == Some(whole))
 }
 
 #[test]
-fn sealing_after_a_failed_draw_draws_anew(rt: HostRuntime) -> Result<(), Fail> {
-    let alloc = rt.alloc();
-    assert!(rt; is_sealed_anew(alloc, &ONE_INT, 0, ONE_INT.sealed)?);
-    assert!(rt; is_sealed_anew(alloc, &TWO_DOCUMENTS, 1, TWO_DOCUMENTS_ANEW)?);
-    Ok(())
+fn sealing_after_a_failed_draw_draws_anew(rt: HostRuntime) {
+    assert!(rt; is_sealed_anew(rt.alloc(), &ONE_INT, 0, ONE_INT.sealed));
+    assert!(rt; is_sealed_anew(rt.alloc(), &TWO_DOCUMENTS, 1, TWO_DOCUMENTS_ANEW));
 }
 
 #[test]
-fn two_random_values_need_two_blocks(rt: HostRuntime) -> Result<(), Fail> {
-    let alloc = rt.alloc();
-    assert!(rt; sealed(alloc, &TWO_DOCUMENTS, &[[1; 16]])?.is_none());
-    assert!(rt; sealed(alloc, &TWO_DOCUMENTS, &[[1; 16], [2; 16]])?.is_some());
-    Ok(())
+fn two_random_values_need_two_blocks(rt: HostRuntime) {
+    let mut one = entropy_of(rt.alloc(), &[[1; 16]], &[]).expect(&rt, "no memory");
+    assert!(rt; falls_short(rt.alloc(), &TWO_DOCUMENTS, &mut one));
+    let mut two = entropy_of(rt.alloc(), &[[1; 16], [2; 16]], &[]).expect(&rt, "no memory");
+    assert!(rt; seals_to(rt.alloc(), &TWO_DOCUMENTS, &mut two, TWO_DOCUMENTS.sealed));
 }
 
 #[test]
-fn a_document_of_which_nothing_is_sealed_is_copied(rt: HostRuntime) -> Result<(), Fail> {
-    let alloc = rt.alloc();
-    let whole = joined(alloc, FROM_A_DRIVER.command)?;
-    assert!(rt; copied(alloc, &whole)? == whole);
-    Ok(())
+fn a_document_of_which_nothing_is_sealed_is_copied(rt: HostRuntime) {
+    let whole = whole(rt.alloc(), FROM_A_DRIVER.command).expect(&rt, "no memory");
+    assert!(rt; matches!(&copied(rt.alloc(), &whole), Some(copy) if *copy == whole));
 }
