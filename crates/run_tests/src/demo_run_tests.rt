@@ -1,9 +1,8 @@
 //! Whole runs of the verb `demo`. What each line has to be is from a program in Python, over the AES of its package
 //! `cryptography` and its own HMAC.
 
-use crate::runs::{Run, expect, marking};
+use crate::runs::{Run, marking, stops, writes};
 use fle_stream::Status;
-use std::test::Fail;
 
 /// The line of one command.
 const LINE: &str =
@@ -18,7 +17,7 @@ fn words<'a>(words: &'a [&'a str]) -> Run<'a> {
 }
 
 #[test]
-fn one_command_and_ten_come_back_equal(rt: HostRuntime) -> Result<(), Fail> {
+fn one_command_and_ten_come_back_equal(rt: HostRuntime) {
     let cases: &[(&[&str], &str)] = &[
         (&["demo", "hr", "1"], LINE),
         (
@@ -31,24 +30,21 @@ fn one_command_and_ten_come_back_equal(rt: HostRuntime) -> Result<(), Fail> {
         ),
     ];
     for (form, line) in cases {
-        let run = words(form);
-        expect(&rt, rt.alloc(), run, Status::Done, line.as_bytes(), "")?;
+        writes(&rt, rt.alloc(), words(form), line.as_bytes());
     }
-    Ok(())
 }
 
 #[test]
-fn a_write_that_fails_ends_the_demo(rt: HostRuntime) -> Result<(), Fail> {
-    let alloc = rt.alloc();
+fn a_write_that_fails_ends_the_demo(rt: HostRuntime) {
     let run = Run {
         sink: &[0],
         ..words(&["demo", "hr", "1"])
     };
-    expect(&rt, alloc, run, Status::WriteFault, b"", "fle: 6 0 0 -\n")
+    stops(&rt, rt.alloc(), run, Status::WriteFault, "fle: 6 0 0 -\n");
 }
 
 #[test]
-fn n_is_a_number_as_it_is_printed(rt: HostRuntime) -> Result<(), Fail> {
+fn n_is_a_number_as_it_is_printed(rt: HostRuntime) {
     let numbers: &[&str] = &[
         "",
         "0",
@@ -63,13 +59,12 @@ fn n_is_a_number_as_it_is_printed(rt: HostRuntime) -> Result<(), Fail> {
     for n in numbers {
         let form = ["demo", "hr", n];
         let run = words(&form);
-        expect(&rt, rt.alloc(), run, Status::Words, b"", "fle: 2 0 0 -\n")?;
+        stops(&rt, rt.alloc(), run, Status::Words, "fle: 2 0 0 -\n");
     }
-    Ok(())
 }
 
 #[test]
-fn two_words_stand_behind_demo(rt: HostRuntime) -> Result<(), Fail> {
+fn two_words_stand_behind_demo(rt: HostRuntime) {
     let forms: &[&[&str]] = &[
         &["demo", "hr"],
         &["demo", "hr", "1", "2"],
@@ -77,15 +72,14 @@ fn two_words_stand_behind_demo(rt: HostRuntime) -> Result<(), Fail> {
     ];
     for form in forms {
         let run = words(form);
-        expect(&rt, rt.alloc(), run, Status::Words, b"", "fle: 2 0 0 -\n")?;
+        stops(&rt, rt.alloc(), run, Status::Words, "fle: 2 0 0 -\n");
     }
-    Ok(())
 }
 
 #[test]
-fn the_database_has_at_most_63_bytes(rt: HostRuntime) -> Result<(), Fail> {
+fn the_database_has_at_most_63_bytes(rt: HostRuntime) {
     let long = "0123456789abcdef0123456789abcdef0123456789abcdef0123456789abcdef";
     let form = ["demo", long, "1"];
     let run = words(&form);
-    expect(&rt, rt.alloc(), run, Status::Words, b"", "fle: 2 0 0 -\n")
+    stops(&rt, rt.alloc(), run, Status::Words, "fle: 2 0 0 -\n");
 }

@@ -1,17 +1,16 @@
 //! Whole runs over two updates in which one call of an object outside fails: each read of the input, each read of a
 //! file, each write. What was written is whole outputs, or the front of them where the output failed.
 
-use crate::runs::{Run, expect, joined, marking, sealing};
+use crate::runs::{Run, expect, joined, marking, sealing, stops, writes};
 use crate::update_tests::{SEALED_SET, SEALED_SET_INSIDE, SET_INSIDE};
 use fle_stream::Status;
 use sample_documents::{NULL, SET};
-use std::test::Fail;
 
 #[test]
-fn a_read_that_fails_ends_the_run_there(rt: HostRuntime) -> Result<(), Fail> {
+fn a_read_that_fails_ends_the_run_there(rt: HostRuntime) {
     let alloc = rt.alloc();
-    let input = joined(alloc, &[SET, SET_INSIDE])?;
-    let sealed = joined(alloc, &[SEALED_SET, SEALED_SET_INSIDE])?;
+    let input = joined(&rt, alloc, &[SET, SET_INSIDE]);
+    let sealed = joined(&rt, alloc, &[SEALED_SET, SEALED_SET_INSIDE]);
     // One byte a read: 93 of the first command, 99 of the second, and one read that finds the end.
     let cases: [(u64, u64, &[u8], &str); 3] = [
         (0, 93, b"", "fle: 5 1 0 -\n"),
@@ -25,7 +24,7 @@ fn a_read_that_fails_ends_the_run_there(rt: HostRuntime) -> Result<(), Fail> {
                 source: &[call],
                 ..sealing(&input)
             };
-            expect(&rt, alloc, run, Status::ReadFault, out, line)?;
+            expect(&rt, alloc, run, Status::ReadFault, out, line);
         }
     }
     let run = Run {
@@ -33,11 +32,11 @@ fn a_read_that_fails_ends_the_run_there(rt: HostRuntime) -> Result<(), Fail> {
         source: &[193],
         ..sealing(&input)
     };
-    expect(&rt, alloc, run, Status::Done, &sealed, "")
+    writes(&rt, alloc, run, &sealed);
 }
 
 #[test]
-fn a_file_that_fails_ends_the_run_before_any_input(rt: HostRuntime) -> Result<(), Fail> {
+fn a_file_that_fails_ends_the_run_before_any_input(rt: HostRuntime) {
     let alloc = rt.alloc();
     // Each of the three files is read in two calls, the second of which finds its end.
     for call in 0..6 {
@@ -45,20 +44,20 @@ fn a_file_that_fails_ends_the_run_before_any_input(rt: HostRuntime) -> Result<()
             folder: &[call],
             ..sealing(SET)
         };
-        expect(&rt, alloc, run, Status::ReadFault, b"", "fle: 5 0 0 -\n")?;
+        stops(&rt, alloc, run, Status::ReadFault, "fle: 5 0 0 -\n");
     }
     let run = Run {
         folder: &[6],
         ..sealing(SET)
     };
-    expect(&rt, alloc, run, Status::Done, SEALED_SET, "")
+    writes(&rt, alloc, run, SEALED_SET);
 }
 
 #[test]
-fn an_output_that_is_full_has_the_front_of_what_was_to_come(rt: HostRuntime) -> Result<(), Fail> {
+fn an_output_that_is_full_has_the_front_of_what_was_to_come(rt: HostRuntime) {
     let alloc = rt.alloc();
-    let input = joined(alloc, &[SET, SET_INSIDE])?;
-    let sealed = joined(alloc, &[SEALED_SET, SEALED_SET_INSIDE])?;
+    let input = joined(&rt, alloc, &[SET, SET_INSIDE]);
+    let sealed = joined(&rt, alloc, &[SEALED_SET, SEALED_SET_INSIDE]);
     for room in 0..sealed.len() {
         let line = if room < 176 {
             "fle: 6 1 0 -\n"
@@ -69,16 +68,15 @@ fn an_output_that_is_full_has_the_front_of_what_was_to_come(rt: HostRuntime) -> 
             room,
             ..sealing(&input)
         };
-        expect(&rt, alloc, run, Status::WriteFault, &sealed[..room], line)?;
+        expect(&rt, alloc, run, Status::WriteFault, &sealed[..room], line);
     }
-    Ok(())
 }
 
 #[test]
-fn a_write_that_fails_ends_the_run_there(rt: HostRuntime) -> Result<(), Fail> {
+fn a_write_that_fails_ends_the_run_there(rt: HostRuntime) {
     let alloc = rt.alloc();
-    let input = joined(alloc, &[SET, SET_INSIDE])?;
-    let sealed = joined(alloc, &[SEALED_SET, SEALED_SET_INSIDE])?;
+    let input = joined(&rt, alloc, &[SET, SET_INSIDE]);
+    let sealed = joined(&rt, alloc, &[SEALED_SET, SEALED_SET_INSIDE]);
     // At most 100 bytes a write.
     let cases: &[(u64, usize, &str)] = &[
         (0, 0, "fle: 6 1 0 -\n"),
@@ -92,22 +90,22 @@ fn a_write_that_fails_ends_the_run_there(rt: HostRuntime) -> Result<(), Fail> {
             ..sealing(&input)
         };
         let front = &sealed[..(*written).min(sealed.len())];
-        expect(&rt, alloc, run, Status::WriteFault, front, line)?;
+        expect(&rt, alloc, run, Status::WriteFault, front, line);
     }
     let run = Run {
         sink: &[4],
         ..sealing(&input)
     };
-    expect(&rt, alloc, run, Status::Done, &sealed, "")
+    writes(&rt, alloc, run, &sealed);
 }
 
 #[test]
-fn a_line_that_fails_leaves_the_status(rt: HostRuntime) -> Result<(), Fail> {
+fn a_line_that_fails_leaves_the_status(rt: HostRuntime) {
     let run = Run {
         diag: &[0],
         ..sealing(NULL)
     };
-    expect(&rt, rt.alloc(), run, Status::Refused, b"", "")?;
+    stops(&rt, rt.alloc(), run, Status::Refused, "");
     let lines: &[(u64, &str)] = &[
         (1, "fle: "),
         (2, "fle: 1"),
@@ -121,7 +119,6 @@ fn a_line_that_fails_leaves_the_status(rt: HostRuntime) -> Result<(), Fail> {
             diag: &[*call],
             ..marking(NULL)
         };
-        expect(&rt, rt.alloc(), run, Status::Refused, b"", line)?;
+        stops(&rt, rt.alloc(), run, Status::Refused, line);
     }
-    Ok(())
 }

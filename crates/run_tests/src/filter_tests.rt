@@ -2,7 +2,6 @@
 
 use crate::runs::{accepts, refuses};
 use crate::verdict_tests::passes;
-use std::test::Fail;
 
 /// `{find: "people", filter: {ssn: {$in: ["x", "y", "x"]}}, $db: "hr"}`.
 const IN: &[u8] =
@@ -169,29 +168,27 @@ const EMPTY: &[u8] =
 \x03ssn\x00\x05\x00\x00\x00\x00\x00\x02$db\x00\x03\x00\x00\x00hr\x00\x00";
 
 #[test]
-fn what_a_filter_compares_is_sealed(rt: HostRuntime) -> Result<(), Fail> {
+fn what_a_filter_compares_is_sealed(rt: HostRuntime) {
     let cases: &[(&[u8], &[u8], &[u8])] = &[
         (IN, IN_REPLY, SEALED_IN),
         (OR, OR_REPLY, SEALED_OR),
         (NOT, NOT_REPLY, SEALED_NOT),
     ];
     for (command, reply, sealed) in cases {
-        accepts(&rt, rt.alloc(), command, reply, sealed)?;
+        accepts(&rt, rt.alloc(), command, reply, sealed);
     }
-    Ok(())
 }
 
 #[test]
-fn filters_without_a_protected_value_pass(rt: HostRuntime) -> Result<(), Fail> {
+fn filters_without_a_protected_value_pass(rt: HostRuntime) {
     let commands: &[&[u8]] = &[IN_NOTHING, EXISTS, SHOWN];
     for command in commands {
-        passes(&rt, rt.alloc(), command, b"\x01")?;
+        passes(&rt, rt.alloc(), command, b"\x01");
     }
-    Ok(())
 }
 
 #[test]
-fn what_a_filter_cannot_compare_is_refused(rt: HostRuntime) -> Result<(), Fail> {
+fn what_a_filter_cannot_compare_is_refused(rt: HostRuntime) {
     let cases: &[(&[u8], &str)] = &[
         (RANDOM, "fle: 1 1 10 1.0\n"),
         (GREATER, "fle: 1 1 11 1.0.0.0.0\n"),
@@ -205,7 +202,6 @@ fn what_a_filter_cannot_compare_is_refused(rt: HostRuntime) -> Result<(), Fail> 
         (EMPTY, "fle: 1 1 5 1.0\n"),
     ];
     for (command, line) in cases {
-        refuses(&rt, rt.alloc(), command, line)?;
+        refuses(&rt, rt.alloc(), command, line);
     }
-    Ok(())
 }

@@ -2,14 +2,14 @@
 
 ghost use Rattle.std.specs.Prelude.{⊤};
 
-use crate::runs::{expect_with, joined, opening, sealing};
+use crate::runs::{Run, expect_with, joined, opening, sealing};
 use aes_block::{Schedule, cipher, inv_cipher};
 use crypto_hooks::Block256;
 use fle_stream::Status;
 use sample_documents::{INSERT, SEALED_INSERT};
+use std::alloc::Global;
 use std::cell::Cell;
 use std::process::Abort;
-use std::test::Fail;
 
 /// The cipher of FIPS 197, and how many blocks it encrypted and decrypted.
 #[derive(Drop)]
@@ -42,39 +42,27 @@ impl Block256 for Counted {
     }
 }
 
-/// The calls must have been so many.
-fn expect_calls(rt: &impl Abort, hooks: &Counted, sealed: u32, opened: u32) {
+/// The run must end well, with this output and no line, and encrypt and decrypt so many blocks.
+fn expect_calls(
+    rt: &impl Abort,
+    alloc: Global,
+    run: Run<'_>,
+    out: &[u8],
+    sealed: u32,
+    opened: u32,
+) {
+    let hooks = Counted::new();
+    expect_with(rt, alloc, run, &hooks, Status::Done, out, "");
     assert!(rt; hooks.sealed.get() == sealed, "sealed");
     assert!(rt; hooks.opened.get() == opened, "opened");
 }
 
 #[test]
-fn a_key_is_opened_once_a_run(rt: HostRuntime) -> Result<(), Fail> {
+fn a_key_is_opened_once_a_run(rt: HostRuntime) {
     let alloc = rt.alloc();
-    let input = joined(alloc, &[INSERT, INSERT])?;
-    let sealed = joined(alloc, &[SEALED_INSERT, SEALED_INSERT])?;
+    let input = joined(&rt, alloc, &[INSERT, INSERT]);
+    let sealed = joined(&rt, alloc, &[SEALED_INSERT, SEALED_INSERT]);
     // The key has seven sealed blocks, each payload two.
-    let hooks = Counted::new();
-    expect_with(
-        &rt,
-        alloc,
-        sealing(&input),
-        &hooks,
-        Status::Done,
-        &sealed,
-        "",
-    )?;
-    expect_calls(&rt, &hooks, 4, 7);
-    let hooks = Counted::new();
-    expect_with(
-        &rt,
-        alloc,
-        opening(&sealed),
-        &hooks,
-        Status::Done,
-        &input,
-        "",
-    )?;
-    expect_calls(&rt, &hooks, 0, 11);
-    Ok(())
+    expect_calls(&rt, alloc, sealing(&input), &sealed, 4, 7);
+    expect_calls(&rt, alloc, opening(&sealed), &input, 0, 11);
 }

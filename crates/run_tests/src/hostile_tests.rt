@@ -1,11 +1,11 @@
 //! Whole runs of `decrypt` over input that is cut, changed or nested too deep, and of `encrypt` over commands that
 //! differ in what is protected alone.
 
-use crate::runs::{document, expect, joined, opening, output, sealing};
+use crate::runs::{document, joined, opening, output, sealing, stops, writes};
 use fle_stream::Status;
 use sample_documents::{INSERT, SEALED_INSERT};
 use std::alloc::Global;
-use std::test::Fail;
+use std::process::Abort;
 
 /// `INSERT` with another number.
 const OTHER: &[u8] =
@@ -76,7 +76,7 @@ fn turned_line(at: usize) -> &'static str {
 }
 
 #[test]
-fn what_spells_no_document_is_told_by_kind_and_offset(rt: HostRuntime) -> Result<(), Fail> {
+fn what_spells_no_document_is_told_by_kind_and_offset(rt: HostRuntime) {
     let cases: &[(&[u8], &str)] = &[
         (b"\x05\x00\x00", "fle: 3 1 1 3\n"),
         (b"\x05\x00\x00\x00", "fle: 3 1 1 4\n"),
@@ -97,103 +97,94 @@ fn what_spells_no_document_is_told_by_kind_and_offset(rt: HostRuntime) -> Result
         ),
     ];
     for (input, line) in cases {
-        let run = opening(input);
-        expect(&rt, rt.alloc(), run, Status::Malformed, b"", line)?;
+        stops(&rt, rt.alloc(), opening(input), Status::Malformed, line);
     }
-    Ok(())
 }
 
 #[test]
-fn a_front_of_a_document_ends_too_early(rt: HostRuntime) -> Result<(), Fail> {
+fn a_front_of_a_document_ends_too_early(rt: HostRuntime) {
     let alloc = rt.alloc();
     for n in 1..SEALED_INSERT.len() {
-        let line = format!(in alloc; "fle: 3 1 1 {n}\n")?;
+        let line = format!(in alloc; "fle: 3 1 1 {n}\n").expect(&rt, "memory");
         let run = opening(&SEALED_INSERT[..n]);
-        expect(&rt, alloc, run, Status::Malformed, b"", &line)?;
+        stops(&rt, alloc, run, Status::Malformed, &line);
     }
-    Ok(())
 }
 
 #[test]
-fn a_turned_bit_is_told_or_leaves_a_document(rt: HostRuntime) -> Result<(), Fail> {
+fn a_turned_bit_is_told_or_leaves_a_document(rt: HostRuntime) {
     let alloc = rt.alloc();
     for at in 0..INSERT.len() {
-        let mut turned = Vec::from_slice(alloc, INSERT)?;
+        let mut turned = *INSERT;
         turned[at] ^= 1;
+        let run = opening(&turned);
         let line = turned_line(at);
-        let (status, out, line): (Status, &[u8], &str) = if at == 3 {
+        if at == 3 {
             // The length is above 16,777,216 bytes.
-            (Status::Limit, b"", "fle: 9 1 1 -\n")
+            stops(&rt, alloc, run, Status::Limit, "fle: 9 1 1 -\n");
         } else if line.is_empty() {
-            (Status::Done, &turned, "")
+            writes(&rt, alloc, run, &turned);
         } else {
-            (Status::Malformed, b"", line)
-        };
-        expect(&rt, alloc, opening(&turned), status, out, line)?;
+            stops(&rt, alloc, run, Status::Malformed, line);
+        }
     }
-    Ok(())
 }
 
 /// This many documents named `a`, each in the one before.
-fn nested(alloc: Global, levels: usize) -> Result<Vec<u8>, Fail> {
-    let mut inner = document(alloc, &[])?;
+fn nested(rt: &impl Abort, alloc: Global, levels: usize) -> Vec<u8> {
+    let mut inner = document(rt, alloc, &[]);
     for _ in 1..levels {
-        inner = document(alloc, &[b"\x03a\x00", &inner])?;
+        inner = document(rt, alloc, &[b"\x03a\x00", &inner]);
     }
-    Ok(inner)
+    inner
 }
 
 #[test]
-fn a_document_has_at_most_100_levels(rt: HostRuntime) -> Result<(), Fail> {
+fn a_document_has_at_most_100_levels(rt: HostRuntime) {
     let alloc = rt.alloc();
-    let deepest = nested(alloc, 100)?;
-    let deeper = nested(alloc, 101)?;
+    let deepest = nested(&rt, alloc, 100);
+    let deeper = nested(&rt, alloc, 101);
     assert!(rt; deepest.len() == 797 && deeper.len() == 805, "lengths");
-    expect(&rt, alloc, opening(&deepest), Status::Done, &deepest, "")?;
+    writes(&rt, alloc, opening(&deepest), &deepest);
     let run = opening(&deeper);
-    expect(&rt, alloc, run, Status::Malformed, b"", "fle: 3 1 6 700\n")
+    stops(&rt, alloc, run, Status::Malformed, "fle: 3 1 6 700\n");
 }
 
 /// The bytes of a sealed `INSERT` outside the value at 1.0.0, which ends at `end`, and outside the lengths around it.
-fn beside(alloc: Global, sealed: &[u8], end: usize) -> Result<Vec<u8>, Fail> {
-    if sealed.len() < 50 || sealed.len() < end {
-        return Err("a test's output is too short".into());
-    }
+fn beside(rt: &impl Abort, alloc: Global, sealed: &[u8], end: usize) -> Vec<u8> {
+    assert!(rt;
+        50 <= sealed.len() && end <= sealed.len(),
+        "a test's output is too short"
+    );
     let parts = [
         &sealed[4..34],
         &sealed[38..41],
         &sealed[45..50],
         &sealed[end..],
     ];
-    joined(alloc, &parts)
+    joined(rt, alloc, &parts)
 }
 
 /// The same of a command that is sealed first.
-fn beside_sealed(alloc: Global, command: &[u8], end: usize) -> Result<Vec<u8>, Fail> {
-    let sealed = output(alloc, sealing(command))?;
-    beside(alloc, &sealed, end)
+fn beside_sealed(rt: &impl Abort, alloc: Global, command: &[u8], end: usize) -> Vec<u8> {
+    let sealed = output(rt, alloc, sealing(command));
+    beside(rt, alloc, &sealed, end)
 }
 
 #[test]
-fn what_is_protected_shows_in_its_own_place_alone(rt: HostRuntime) -> Result<(), Fail> {
-    let one = beside_sealed(rt.alloc(), INSERT, 153)?;
-    let other = beside_sealed(rt.alloc(), OTHER, 153)?;
-    let shorter = beside_sealed(rt.alloc(), SHORTER, 137)?;
+fn what_is_protected_shows_in_its_own_place_alone(rt: HostRuntime) {
+    let one = beside_sealed(&rt, rt.alloc(), INSERT, 153);
+    let other = beside_sealed(&rt, rt.alloc(), OTHER, 153);
+    let shorter = beside_sealed(&rt, rt.alloc(), SHORTER, 137);
     assert!(rt; one == other && one == shorter);
-    Ok(())
 }
 
 #[test]
-fn a_shorter_value_is_sealed_to_fewer_bytes_and_an_equally_long_one_to_others(
-    rt: HostRuntime,
-) -> Result<(), Fail> {
-    let one = output(rt.alloc(), sealing(INSERT))?;
-    let other = output(rt.alloc(), sealing(OTHER))?;
+fn a_shorter_value_is_sealed_to_fewer_bytes_and_an_equally_long_one_to_others(rt: HostRuntime) {
+    let one = output(&rt, rt.alloc(), sealing(INSERT));
+    let other = output(&rt, rt.alloc(), sealing(OTHER));
+    let shorter = output(&rt, rt.alloc(), sealing(SHORTER));
     assert!(rt; one.len() == 175 && other.len() == 175, "lengths");
     assert!(rt; one != other, "values");
-    assert!(rt;
-        output(rt.alloc(), sealing(SHORTER))?.len() == 159,
-        "length"
-    );
-    Ok(())
+    assert!(rt; shorter.len() == 159, "length");
 }

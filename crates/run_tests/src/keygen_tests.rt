@@ -1,10 +1,9 @@
 //! Whole runs over master keys and blocks in memory: the verb `keygen`.
 
 use crate::keys_tests::VAULT;
-use crate::runs::{Run, expect, marking};
+use crate::runs::{Run, marking, stops, writes};
 use fle_stream::Status;
 use sample_documents::TWO_KEYS;
-use std::test::Fail;
 
 /// How many bytes the first key has.
 const FIRST: usize = 331;
@@ -48,39 +47,38 @@ fn making<'a>(words: &'a [&'a str], blocks: &'a [[u8; 16]]) -> Run<'a> {
 }
 
 #[test]
-fn eight_blocks_make_a_key(rt: HostRuntime) -> Result<(), Fail> {
+fn eight_blocks_make_a_key(rt: HostRuntime) {
     let alloc = rt.alloc();
     let first = first_blocks();
     let second = blocks(counted(0x10), 0x20, 0x80);
     let keys = TWO_KEYS.as_slice();
     let run = making(&["keygen", "master"], &first);
-    expect(&rt, alloc, run, Status::Done, VAULT, "")?;
+    writes(&rt, alloc, run, VAULT);
     let run = making(&["keygen", "master", "hr-key"], &first);
-    expect(&rt, alloc, run, Status::Done, &keys[..FIRST], "")?;
+    writes(&rt, alloc, run, &keys[..FIRST]);
     let words = ["keygen", "master", "finance", "audit"];
-    let run = making(&words, &second);
-    expect(&rt, alloc, run, Status::Done, &keys[FIRST..], "")
+    writes(&rt, alloc, making(&words, &second), &keys[FIRST..]);
 }
 
 #[test]
-fn a_master_key_has_96_bytes(rt: HostRuntime) -> Result<(), Fail> {
+fn a_master_key_has_96_bytes(rt: HostRuntime) {
     let alloc = rt.alloc();
     let blocks = first_blocks();
-    let words = ["keygen", "master"];
-    let short = Run {
-        master: &[0; 95],
-        ..making(&words, &blocks)
-    };
-    expect(&rt, alloc, short, Status::Setup, b"", "fle: 4 1 10 0\n")?;
-    let text = Run {
-        master: &[b'='; 128],
-        ..making(&words, &blocks)
-    };
-    expect(&rt, alloc, text, Status::Setup, b"", "fle: 4 1 11 0\n")
+    let cases: &[(&[u8], &str)] = &[
+        (&[0; 95], "fle: 4 1 10 0\n"),
+        (&[b'='; 128], "fle: 4 1 11 0\n"),
+    ];
+    for (master, line) in cases {
+        let run = Run {
+            master,
+            ..making(&["keygen", "master"], &blocks)
+        };
+        stops(&rt, alloc, run, Status::Setup, line);
+    }
 }
 
 #[test]
-fn a_failing_draw_makes_no_key(rt: HostRuntime) -> Result<(), Fail> {
+fn a_failing_draw_makes_no_key(rt: HostRuntime) {
     let alloc = rt.alloc();
     let blocks = first_blocks();
     for call in 0..8 {
@@ -88,7 +86,6 @@ fn a_failing_draw_makes_no_key(rt: HostRuntime) -> Result<(), Fail> {
             draws: &[call],
             ..making(&["keygen", "master"], &blocks)
         };
-        expect(&rt, alloc, run, Status::EntropyFault, b"", "fle: 7 0 0 -\n")?;
+        stops(&rt, alloc, run, Status::EntropyFault, "fle: 7 0 0 -\n");
     }
-    Ok(())
 }

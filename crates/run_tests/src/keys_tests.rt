@@ -1,12 +1,11 @@
 //! Whole runs over vaults in memory: the verb `keys`.
 
-use crate::runs::{Run, expect, joined, marking};
+use crate::runs::{Run, joined, marking, stops, writes};
 use fle_stream::Status;
-use std::test::Fail;
 
 /// A vault of one key, made outside this repository: sealed by Python's hmac and `cryptography`, written by a plain
 /// program of BSON's grammar.
-pub(crate) const VAULT: &[u8] =
+pub(crate) const VAULT: &[u8; 299] =
     b"+\x01\x00\x00\x05_id\x00\x10\x00\x00\x00\x04\x00\x11\"3DUFw\x88\x99\xaa\xbb\xcc\xdd\xee\xff\
     \x05keyMaterial\x00\xa0\x00\x00\x00\x00\xf0\xf1\xf2\xf3\xf4\xf5\xf6\xf7\xf8\xf9\xfa\xfb\xfc\xfd\
     \xfe\xff\xeb\x1b\xd9^L\x87\xa6\x0e\xd8P\xb5W\x90-U(\x88vkf\xbdJ)\xac.\xad't<\x08=\x9aP\x9a\x9b\
@@ -27,15 +26,15 @@ fn listing(keys: &[u8]) -> Run<'_> {
 }
 
 #[test]
-fn a_key_is_told_in_one_line_and_an_id_once(rt: HostRuntime) -> Result<(), Fail> {
+fn a_key_is_told_in_one_line_and_an_id_once(rt: HostRuntime) {
     let cases: &[(&[u8], &[u8])] = &[
         (b"", b""),
         (VAULT, b"00112233-4455-4677-8899-aabbccddeeff local 0\n"),
     ];
     for (keys, out) in cases {
-        expect(&rt, rt.alloc(), listing(keys), Status::Done, out, "")?;
+        writes(&rt, rt.alloc(), listing(keys), out);
     }
-    let twice = joined(rt.alloc(), &[VAULT, VAULT])?;
-    let line = "fle: 4 1 25 2\n";
-    expect(&rt, rt.alloc(), listing(&twice), Status::Setup, b"", line)
+    let twice = joined(&rt, rt.alloc(), &[VAULT, VAULT]);
+    let run = listing(&twice);
+    stops(&rt, rt.alloc(), run, Status::Setup, "fle: 4 1 25 2\n");
 }

@@ -1,11 +1,10 @@
 //! Whole runs over sealed documents: what `decrypt` passes on as it is, and for which reason and at which place it
 //! refuses a payload.
 
-use crate::runs::{Run, expect, opening};
+use crate::runs::{Run, opening, stops, writes};
 use crate::seal_tests::SEALED_RANDOM;
 use fle_stream::Status;
 use sample_documents::{REPLY, SEALED_INSERT};
-use std::test::Fail;
 
 /// `{insert: "notes", documents: [{s: a payload}], $db: "hr"}`; the payload is deterministic, of the text `x`, and
 /// its vector, sixteen bytes 05, is of another client.
@@ -49,77 +48,69 @@ const PADDING: &[u8] =
      \x08\x18\x80\x0a\xc0X\xba'\xb6\x00\x00\x02$db\x00\x03\x00\x00\x00hr\x00\x00";
 
 #[test]
-fn what_is_no_payload_or_of_another_client_is_no_fault(rt: HostRuntime) -> Result<(), Fail> {
+fn what_is_no_payload_or_of_another_client_is_no_fault(rt: HostRuntime) {
     let cases: &[(&[u8], &[u8])] = &[(REPLY, REPLY), (FOREIGN, FOREIGN_OPENED)];
     for (document, opened) in cases {
-        expect(&rt, rt.alloc(), opening(document), Status::Done, opened, "")?;
+        writes(&rt, rt.alloc(), opening(document), opened);
     }
-    Ok(())
 }
 
 #[test]
-fn shapes_come_before_tags_and_tags_before_contents(rt: HostRuntime) -> Result<(), Fail> {
+fn shapes_come_before_tags_and_tags_before_contents(rt: HostRuntime) {
     let cases: &[(&[u8], &str)] = &[
         (SHAPES, "fle: 1 1 19 1.0.1\n"),
         (PLAIN, "fle: 1 1 22 1.0.0\n"),
         (PADDING, "fle: 1 1 21 1.0.0\n"),
     ];
     for (document, line) in cases {
-        let run = opening(document);
-        expect(&rt, rt.alloc(), run, Status::Refused, b"", line)?;
+        stops(&rt, rt.alloc(), opening(document), Status::Refused, line);
     }
-    Ok(())
 }
 
 #[test]
-fn a_key_under_another_master_key_is_damaged(rt: HostRuntime) -> Result<(), Fail> {
-    let alloc = rt.alloc();
+fn a_key_under_another_master_key_is_damaged(rt: HostRuntime) {
     let run = Run {
         master: &[0x40; 96],
         ..opening(SEALED_INSERT)
     };
-    expect(&rt, alloc, run, Status::Refused, b"", "fle: 1 1 18 1.0.0\n")
+    stops(&rt, rt.alloc(), run, Status::Refused, "fle: 1 1 18 1.0.0\n");
 }
 
 #[test]
-fn the_type_of_a_payload_is_under_its_tag(rt: HostRuntime) -> Result<(), Fail> {
-    let alloc = rt.alloc();
-    let mut changed = Vec::from_slice(alloc, SEALED_INSERT)?;
+fn the_type_of_a_payload_is_under_its_tag(rt: HostRuntime) {
+    let mut changed = *SEALED_INSERT;
     changed[72] = 0x0e;
     let run = opening(&changed);
-    expect(&rt, alloc, run, Status::Refused, b"", "fle: 1 1 20 1.0.0\n")
+    stops(&rt, rt.alloc(), run, Status::Refused, "fle: 1 1 20 1.0.0\n");
 }
 
 /// The payload of `SEALED_RANDOM` begins at byte 58: its kind, the key's id, the value's type, then what is sealed.
 #[test]
-fn each_byte_of_a_payload_is_watched(rt: HostRuntime) -> Result<(), Fail> {
-    let alloc = rt.alloc();
+fn each_byte_of_a_payload_is_watched(rt: HostRuntime) {
     let cases: &[(usize, usize, &str)] = &[
         (59, 75, "fle: 1 1 16 1.0.0\n"),
         (75, 140, "fle: 1 1 20 1.0.0\n"),
     ];
     for (from, to, line) in cases {
         for at in *from..*to {
-            let mut changed = Vec::from_slice(alloc, SEALED_RANDOM)?;
+            let mut changed = *SEALED_RANDOM;
             if let Some(byte) = changed.get_mut(at) {
                 *byte ^= 1;
             }
-            expect(&rt, alloc, opening(&changed), Status::Refused, b"", line)?;
+            stops(&rt, rt.alloc(), opening(&changed), Status::Refused, line);
         }
     }
-    Ok(())
 }
 
 #[test]
-fn a_payload_of_no_kind_that_is_sealed_here_passes(rt: HostRuntime) -> Result<(), Fail> {
+fn a_payload_of_no_kind_that_is_sealed_here_passes(rt: HostRuntime) {
     let alloc = rt.alloc();
-    let mut changed = Vec::from_slice(alloc, SEALED_RANDOM)?;
+    let mut changed = *SEALED_RANDOM;
     changed[58] = 1;
     let run = opening(&changed);
-    expect(&rt, alloc, run, Status::Refused, b"", "fle: 1 1 20 1.0.0\n")?;
+    stops(&rt, alloc, run, Status::Refused, "fle: 1 1 20 1.0.0\n");
     for kind in [0, 3] {
         changed[58] = kind;
-        expect(&rt, alloc, opening(&changed), Status::Done, &changed, "")?;
+        writes(&rt, alloc, opening(&changed), &changed);
     }
-    Ok(())
 }

@@ -1,6 +1,7 @@
 use bson_codec::check_bson;
 use fle_runner::place_at;
-use std::test::Fail;
+use std::alloc::Global;
+use std::process::Abort;
 
 // {a: 1, b: {c: 2, d: [3]}, e: null}
 const DOCUMENT: [u8; 45] = [
@@ -15,9 +16,15 @@ const DOCUMENT: [u8; 45] = [
     0x00,
 ];
 
+/// The value that begins at this offset must have this place.
+fn expect_place(rt: &impl Abort, alloc: Global, at: u32, steps: &[u32]) {
+    let document = check_bson(&DOCUMENT).expect(rt, "a document");
+    let place = place_at(alloc, &document, at).expect(rt, "memory");
+    assert!(rt; place.as_slice() == steps);
+}
+
 #[test]
-fn each_value_is_found_by_the_offset_at_which_it_begins(rt: HostRuntime) -> Result<(), Fail> {
-    let document = check_bson(&DOCUMENT)?;
+fn each_value_is_found_by_the_offset_at_which_it_begins(rt: HostRuntime) {
     let cases: &[(u32, &[u32])] = &[
         (7, &[0]),
         (14, &[1]),
@@ -27,19 +34,14 @@ fn each_value_is_found_by_the_offset_at_which_it_begins(rt: HostRuntime) -> Resu
         (44, &[2]),
     ];
     for (at, steps) in cases {
-        let place = place_at(rt.alloc(), &document, *at)?;
-        assert!(rt; place.as_slice() == *steps);
+        expect_place(&rt, rt.alloc(), *at, steps);
     }
-    Ok(())
 }
 
 #[test]
-fn an_offset_at_which_no_value_begins_is_that_of_the_document(rt: HostRuntime) -> Result<(), Fail> {
-    let document = check_bson(&DOCUMENT)?;
+fn an_offset_at_which_no_value_begins_is_that_of_the_document(rt: HostRuntime) {
     let offsets: &[u32] = &[0, 4, 18, 36, 45];
     for at in offsets {
-        let place = place_at(rt.alloc(), &document, *at)?;
-        assert!(rt; place.as_slice().is_empty());
+        expect_place(&rt, rt.alloc(), *at, &[]);
     }
-    Ok(())
 }

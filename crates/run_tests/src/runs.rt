@@ -10,7 +10,6 @@ use fle_stream::Status;
 use sample_documents::PEOPLE;
 use std::alloc::Global;
 use std::process::Abort;
-use std::test::Fail;
 
 /// The master key: the bytes 00 to 5F.
 pub(crate) const MASTER: &[u8] =
@@ -52,12 +51,12 @@ pub(crate) struct Run<'a> {
     pub(crate) draws: &'a [u64],
 }
 
-/// What a run left.
+/// What a run left: its status, its output and its line.
 #[derive(Drop)]
 struct Seen {
     status: Status,
-    out: Vec<u8>,
-    line: Vec<u8>,
+    out: MemSink,
+    diag: MemSink,
 }
 
 /// A run of `mark` over this input, in which nothing fails.
@@ -96,88 +95,81 @@ pub(crate) fn opening(input: &[u8]) -> Run<'_> {
 }
 
 /// The pieces one after the other.
-pub(crate) fn joined(alloc: Global, pieces: &[&[u8]]) -> Result<Vec<u8>, Fail> {
+pub(crate) fn joined(rt: &impl Abort, alloc: Global, pieces: &[&[u8]]) -> Vec<u8> {
     let mut bytes = Vec::new(alloc);
     for piece in pieces {
-        bytes.extend_from_slice(piece)?;
+        bytes.extend_from_slice(piece).expect(rt, "memory");
     }
-    Ok(bytes)
+    bytes
 }
 
 /// The document of these elements.
-pub(crate) fn document(alloc: Global, elements: &[&[u8]]) -> Result<Vec<u8>, Fail> {
-    let inside = joined(alloc, elements)?;
-    if inside.len() > 20_000_000 {
-        return Err("a test's document is too long".into());
-    }
-    let size = inside.len() as u32 + 5;
-    let mut bytes = Vec::new(alloc);
-    bytes.extend_from_slice(&size.to_le_bytes())?;
-    bytes.extend_from_slice(&inside)?;
-    bytes.push(0)?;
-    Ok(bytes)
+pub(crate) fn document(rt: &impl Abort, alloc: Global, elements: &[&[u8]]) -> Vec<u8> {
+    let inside = joined(rt, alloc, elements);
+    assert!(rt; inside.len() <= 20_000_000, "a test's document is too long");
+    let size = (inside.len() as u32 + 5).to_le_bytes();
+    joined(rt, alloc, &[&size, &inside, b"\x00"])
 }
 
 /// The words as the program gets them.
-fn words_of(alloc: Global, words: &[&str]) -> Result<Vec<String>, Fail> {
+fn words_of(rt: &impl Abort, alloc: Global, words: &[&str]) -> Vec<String> {
     let mut all = Vec::new(alloc);
     for word in words {
-        all.push(String::from_str(alloc, word)?)?;
+        let word = String::from_str(alloc, word).expect(rt, "memory");
+        all.push(word).expect(rt, "memory");
     }
-    Ok(all)
+    all
 }
 
 /// The folder of a run.
-fn folder_of(alloc: Global, run: Run<'_>) -> Result<MemFolder, Fail> {
+fn folder_of(rt: &impl Abort, alloc: Global, run: Run<'_>) -> MemFolder {
     let keys = (
-        String::from_str(alloc, "keys")?,
-        Vec::from_slice(alloc, run.keys)?,
+        String::from_str(alloc, "keys").expect(rt, "memory"),
+        Vec::from_slice(alloc, run.keys).expect(rt, "memory"),
     );
-    let infos = (String::from_str(alloc, "infos")?, joined(alloc, run.infos)?);
+    let infos = (
+        String::from_str(alloc, "infos").expect(rt, "memory"),
+        joined(rt, alloc, run.infos),
+    );
     let master = (
-        String::from_str(alloc, "master")?,
-        Vec::from_slice(alloc, run.master)?,
+        String::from_str(alloc, "master").expect(rt, "memory"),
+        Vec::from_slice(alloc, run.master).expect(rt, "memory"),
     );
-    let files = vec![in alloc; keys, infos, master]?;
-    Ok(MemFolder::new(files, Vec::from_slice(alloc, run.folder)?))
+    let files = vec![in alloc; keys, infos, master].expect(rt, "memory");
+    let failing = Vec::from_slice(alloc, run.folder).expect(rt, "memory");
+    MemFolder::new(files, failing)
 }
 
 /// A sink with this room that takes at most 100 bytes a call.
-pub(crate) fn sink_of(alloc: Global, room: usize, failing: &[u64]) -> Result<MemSink, Fail> {
-    let failing = Vec::from_slice(alloc, failing)?;
-    match MemSink::new(alloc, room, 100, failing) {
-        Ok(sink) => Ok(sink),
-        Err(_) => Err(Fail::from("memory")),
-    }
+pub(crate) fn sink_of(rt: &impl Abort, alloc: Global, room: usize, failing: &[u64]) -> MemSink {
+    let failing = Vec::from_slice(alloc, failing).expect(rt, "memory");
+    MemSink::new(alloc, room, 100, failing).expect(rt, "memory")
 }
 
-/// The input of a run, and the blocks to come.
-fn sources_of(alloc: Global, run: Run<'_>) -> Result<(MemSource, MemEntropy), Fail> {
-    let bytes = Vec::from_slice(alloc, run.input)?;
-    let input = MemSource::new(bytes, run.step.max(1), Vec::from_slice(alloc, run.source)?);
-    let blocks = Vec::from_slice(alloc, run.blocks)?;
-    Ok((
-        input,
-        MemEntropy::new(blocks, Vec::from_slice(alloc, run.draws)?),
-    ))
+/// The input of a run.
+fn source_of(rt: &impl Abort, alloc: Global, run: Run<'_>) -> MemSource {
+    let input = Vec::from_slice(alloc, run.input).expect(rt, "memory");
+    let failing = Vec::from_slice(alloc, run.source).expect(rt, "memory");
+    MemSource::new(input, run.step.max(1), failing)
 }
 
-/// What was left, with this status.
-fn left(alloc: Global, status: Status, out: &MemSink, diag: &MemSink) -> Result<Seen, Fail> {
-    let out = Vec::from_slice(alloc, out.written())?;
-    let line = Vec::from_slice(alloc, diag.written())?;
-    Ok(Seen { status, out, line })
+/// The blocks to come in a run.
+fn entropy_of(rt: &impl Abort, alloc: Global, run: Run<'_>) -> MemEntropy {
+    let blocks = Vec::from_slice(alloc, run.blocks).expect(rt, "memory");
+    let failing = Vec::from_slice(alloc, run.draws).expect(rt, "memory");
+    MemEntropy::new(blocks, failing)
 }
 
 /// Runs the program over this block cipher, at the time 1,700,000,000,000.
-fn look<B: Block256>(alloc: Global, run: Run<'_>, hooks: &B) -> Result<Seen, Fail>
+fn look<B: Block256>(rt: &impl Abort, alloc: Global, run: Run<'_>, hooks: &B) -> Seen
     requires hooks { B.answers hooks.now }
 {
-    let words = words_of(alloc, run.words)?;
-    let mut files = folder_of(alloc, run)?;
-    let (mut input, mut entropy) = sources_of(alloc, run)?;
-    let mut out = sink_of(alloc, run.room, run.sink)?;
-    let mut diag = sink_of(alloc, 100, run.diag)?;
+    let words = words_of(rt, alloc, run.words);
+    let mut input = source_of(rt, alloc, run);
+    let mut files = folder_of(rt, alloc, run);
+    let mut out = sink_of(rt, alloc, run.room, run.sink);
+    let mut diag = sink_of(rt, alloc, 100, run.diag);
+    let mut entropy = entropy_of(rt, alloc, run);
     let status = fle(
         alloc,
         &words,
@@ -189,12 +181,13 @@ fn look<B: Block256>(alloc: Global, run: Run<'_>, hooks: &B) -> Result<Seen, Fai
         &mut entropy,
         hooks,
     );
-    left(alloc, status, &out, &diag)
+    Seen { status, out, diag }
 }
 
 /// What a run writes.
-pub(crate) fn output(alloc: Global, run: Run<'_>) -> Result<Vec<u8>, Fail> {
-    Ok(look(alloc, run, &Tables)?.out)
+pub(crate) fn output(rt: &impl Abort, alloc: Global, run: Run<'_>) -> Vec<u8> {
+    let seen = look(rt, alloc, run, &Tables);
+    Vec::from_slice(alloc, seen.out.written()).expect(rt, "memory")
 }
 
 /// The run must leave this status, this output and this line.
@@ -205,8 +198,8 @@ pub(crate) fn expect(
     status: Status,
     out: &[u8],
     line: &str,
-) -> Result<(), Fail> {
-    expect_with(rt, alloc, run, &Tables, status, out, line)
+) {
+    expect_with(rt, alloc, run, &Tables, status, out, line);
 }
 
 /// The same of a run over this block cipher.
@@ -218,46 +211,39 @@ pub(crate) fn expect_with<B: Block256>(
     status: Status,
     out: &[u8],
     line: &str,
-) -> Result<(), Fail>
+)
     requires hooks { B.answers hooks.now }
 {
-    let seen = look(alloc, run, hooks)?;
+    let seen = look(rt, alloc, run, hooks);
     assert!(rt; seen.status == status, "status");
-    assert!(rt; seen.out.as_slice() == out, "output");
-    assert!(rt; seen.line.as_slice() == line.as_bytes(), "line");
-    Ok(())
+    assert!(rt; seen.out.written() == out, "output");
+    assert!(rt; seen.diag.written() == line.as_bytes(), "line");
+}
+
+/// The run must end well, with this output and no line.
+pub(crate) fn writes(rt: &impl Abort, alloc: Global, run: Run<'_>, out: &[u8]) {
+    expect(rt, alloc, run, Status::Done, out, "");
+}
+
+/// The run must write nothing, and end with this status and this line.
+pub(crate) fn stops(rt: &impl Abort, alloc: Global, run: Run<'_>, status: Status, line: &str) {
+    expect(rt, alloc, run, status, b"", line);
 }
 
 /// The run writes the command of its input sealed so, and `decrypt` opens that again.
-pub(crate) fn seals(
-    rt: &impl Abort,
-    alloc: Global,
-    run: Run<'_>,
-    sealed: &[u8],
-) -> Result<(), Fail> {
-    expect(rt, alloc, run, Status::Done, sealed, "")?;
-    expect(rt, alloc, opening(sealed), Status::Done, run.input, "")
+pub(crate) fn seals(rt: &impl Abort, alloc: Global, run: Run<'_>, sealed: &[u8]) {
+    writes(rt, alloc, run, sealed);
+    writes(rt, alloc, opening(sealed), run.input);
 }
 
 /// `mark` gives a command this reply; `encrypt` seals it so without a block, and `decrypt` opens that again.
-pub(crate) fn accepts(
-    rt: &impl Abort,
-    alloc: Global,
-    command: &[u8],
-    reply: &[u8],
-    sealed: &[u8],
-) -> Result<(), Fail> {
-    expect(rt, alloc, marking(command), Status::Done, reply, "")?;
-    seals(rt, alloc, sealing(command), sealed)
+pub(crate) fn accepts(rt: &impl Abort, alloc: Global, command: &[u8], reply: &[u8], sealed: &[u8]) {
+    writes(rt, alloc, marking(command), reply);
+    seals(rt, alloc, sealing(command), sealed);
 }
 
 /// `mark` and `encrypt` refuse a command with this line.
-pub(crate) fn refuses(
-    rt: &impl Abort,
-    alloc: Global,
-    command: &[u8],
-    line: &str,
-) -> Result<(), Fail> {
-    expect(rt, alloc, marking(command), Status::Refused, b"", line)?;
-    expect(rt, alloc, sealing(command), Status::Refused, b"", line)
+pub(crate) fn refuses(rt: &impl Abort, alloc: Global, command: &[u8], line: &str) {
+    stops(rt, alloc, marking(command), Status::Refused, line);
+    stops(rt, alloc, sealing(command), Status::Refused, line);
 }

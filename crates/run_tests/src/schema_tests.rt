@@ -1,10 +1,9 @@
 //! Whole runs over files: vaults, collection infos and master keys that are read, or whose fault is told.
 
 use crate::keys_tests::VAULT;
-use crate::runs::{Run, expect, joined, marking, sealing, seals};
+use crate::runs::{Run, joined, marking, sealing, seals, stops, writes};
 use fle_stream::Status;
 use sample_documents::{INSERT, PEOPLE, SEALED_INSERT};
-use std::test::Fail;
 
 /// The info of `staff`: `a.b` deterministic and an int, its key and algorithm stated by `encryptMetadata` of `a`.
 pub(crate) const STAFF: &[u8] =
@@ -54,7 +53,7 @@ const MASTER_AS_TEXT: &[u8] =
      UZHSElKS0xNTk9QUVJTVFVWV1hZWltcXV5f\x0a";
 
 #[test]
-fn the_first_faulty_info_is_told_with_its_fault(rt: HostRuntime) -> Result<(), Fail> {
+fn the_first_faulty_info_is_told_with_its_fault(rt: HostRuntime) {
     let cases: &[(&[&[u8]], &str, &str)] = &[
         (&[PEOPLE, b"\x01"], "fle: 4 1 30 2\n", "fle: 4 2 30 2\n"),
         (
@@ -71,24 +70,22 @@ fn the_first_faulty_info_is_told_with_its_fault(rt: HostRuntime) -> Result<(), F
             infos,
             ..marking(INSERT)
         };
-        expect(&rt, rt.alloc(), run, Status::Setup, b"", first)?;
+        stops(&rt, rt.alloc(), run, Status::Setup, first);
         let run = Run {
             infos,
             ..sealing(INSERT)
         };
-        expect(&rt, rt.alloc(), run, Status::Setup, b"", second)?;
+        stops(&rt, rt.alloc(), run, Status::Setup, second);
     }
-    Ok(())
 }
 
 #[test]
-fn the_reply_says_whether_the_collection_has_rules(rt: HostRuntime) -> Result<(), Fail> {
-    let run = marking(BESIDE);
-    expect(&rt, rt.alloc(), run, Status::Done, BESIDE_REPLY, "")
+fn the_reply_says_whether_the_collection_has_rules(rt: HostRuntime) {
+    writes(&rt, rt.alloc(), marking(BESIDE), BESIDE_REPLY);
 }
 
 #[test]
-fn files_that_are_missing_are_told_in_the_order_of_the_words(rt: HostRuntime) -> Result<(), Fail> {
+fn files_that_are_missing_are_told_in_the_order_of_the_words(rt: HostRuntime) {
     let forms: &[(&[&str], &str)] = &[
         (&["mark", "hr", "none"], "fle: 4 1 1 0\n"),
         (&["encrypt", "hr", "none", "none", "none"], "fle: 4 1 1 0\n"),
@@ -106,38 +103,37 @@ fn files_that_are_missing_are_told_in_the_order_of_the_words(rt: HostRuntime) ->
             words,
             ..marking(INSERT)
         };
-        expect(&rt, rt.alloc(), run, Status::Setup, b"", line)?;
+        stops(&rt, rt.alloc(), run, Status::Setup, line);
     }
-    Ok(())
 }
 
 #[test]
-fn files_at_fault_are_told_in_the_order_of_the_words(rt: HostRuntime) -> Result<(), Fail> {
+fn files_at_fault_are_told_in_the_order_of_the_words(rt: HostRuntime) {
     let alloc = rt.alloc();
-    let twice = joined(alloc, &[VAULT, VAULT])?;
+    let twice = joined(&rt, alloc, &[VAULT, VAULT]);
     let run = Run {
         keys: &twice,
         master: &[0; 95],
         ..sealing(INSERT)
     };
-    expect(&rt, alloc, run, Status::Setup, b"", "fle: 4 1 25 2\n")?;
+    stops(&rt, alloc, run, Status::Setup, "fle: 4 1 25 2\n");
     let run = Run {
         master: &[0; 95],
         ..sealing(INSERT)
     };
-    expect(&rt, alloc, run, Status::Setup, b"", "fle: 4 3 10 0\n")?;
+    stops(&rt, alloc, run, Status::Setup, "fle: 4 3 10 0\n");
     let run = Run {
         master: &[b'='; 128],
         ..sealing(INSERT)
     };
-    expect(&rt, alloc, run, Status::Setup, b"", "fle: 4 3 11 0\n")
+    stops(&rt, alloc, run, Status::Setup, "fle: 4 3 11 0\n");
 }
 
 #[test]
-fn a_master_key_may_be_a_line_of_base64(rt: HostRuntime) -> Result<(), Fail> {
+fn a_master_key_may_be_a_line_of_base64(rt: HostRuntime) {
     let run = Run {
         master: MASTER_AS_TEXT,
         ..sealing(INSERT)
     };
-    seals(&rt, rt.alloc(), run, SEALED_INSERT)
+    seals(&rt, rt.alloc(), run, SEALED_INSERT);
 }

@@ -1,11 +1,10 @@
 //! Whole runs over inserts: what `encrypt` seals, `decrypt` opens again; the random blocks of a stream, and the keys.
 
 use crate::keys_tests::VAULT;
-use crate::runs::{Run, expect, joined, marking, opening, sealing, seals};
+use crate::runs::{Run, expect, joined, marking, opening, sealing, seals, stops, writes};
 use crate::verdict_tests::unmarked;
 use fle_stream::Status;
 use sample_documents::{BOTH, INSERT, NOTES, SEALED_BOTH, SEALED_INSERT};
-use std::test::Fail;
 
 /// An insert of `{salary: int 7}`.
 pub(crate) const RANDOM: &[u8] =
@@ -14,7 +13,7 @@ pub(crate) const RANDOM: &[u8] =
      \x00";
 
 /// The same, sealed.
-pub(crate) const SEALED_RANDOM: &[u8] =
+pub(crate) const SEALED_RANDOM: &[u8; 155] =
     b"\x9b\x00\x00\x00\x02insert\x00\x07\x00\x00\x00people\x00\x04documents\x00l\x00\x00\x00\x030\
      \x00d\x00\x00\x00\x05salary\x00R\x00\x00\x00\x06\x02\x00\x11\"3DUFw\x88\x99\xaa\xbb\xcc\xdd\
      \xee\xff\x10\x01\x01\x01\x01\x01\x01\x01\x01\x01\x01\x01\x01\x01\x01\x01\x01\xb8\x11\xbf\xe9\
@@ -88,7 +87,7 @@ const SHORT: &[u8] =
 const BLOCKS: [[u8; 16]; 2] = [[1; 16], [2; 16]];
 
 #[test]
-fn inserts_are_sealed_and_opened_again(rt: HostRuntime) -> Result<(), Fail> {
+fn inserts_are_sealed_and_opened_again(rt: HostRuntime) {
     let cases: &[(&[u8], &[u8], usize)] = &[
         (b"", b"", 0),
         (INSERT, SEALED_INSERT, 0),
@@ -103,91 +102,81 @@ fn inserts_are_sealed_and_opened_again(rt: HostRuntime) -> Result<(), Fail> {
             blocks: &BLOCKS[..(*draws).min(2)],
             ..sealing(command)
         };
-        seals(&rt, rt.alloc(), run, sealed)?;
+        seals(&rt, rt.alloc(), run, sealed);
     }
-    Ok(())
 }
 
 #[test]
-fn a_binary_of_subtype_6_that_no_rule_concerns_is_no_value_to_seal(
-    rt: HostRuntime,
-) -> Result<(), Fail> {
+fn a_binary_of_subtype_6_that_no_rule_concerns_is_no_value_to_seal(rt: HostRuntime) {
     let alloc = rt.alloc();
-    let reply = unmarked(alloc, b"\x00", SHORT)?;
-    expect(&rt, alloc, marking(SHORT), Status::Done, &reply, "")?;
-    expect(&rt, alloc, sealing(SHORT), Status::Done, SHORT, "")?;
+    let reply = unmarked(&rt, alloc, b"\x00", SHORT);
+    writes(&rt, alloc, marking(SHORT), &reply);
+    writes(&rt, alloc, sealing(SHORT), SHORT);
     let run = opening(SHORT);
-    expect(&rt, alloc, run, Status::Refused, b"", "fle: 1 1 19 1.0.0\n")
+    stops(&rt, alloc, run, Status::Refused, "fle: 1 1 19 1.0.0\n");
 }
 
 #[test]
-fn blocks_are_drawn_over_the_whole_stream(rt: HostRuntime) -> Result<(), Fail> {
+fn blocks_are_drawn_over_the_whole_stream(rt: HostRuntime) {
     let alloc = rt.alloc();
-    let input = joined(alloc, &[RANDOM, INSERT])?;
-    let sealed = joined(alloc, &[SEALED_RANDOM, SEALED_INSERT])?;
+    let input = joined(&rt, alloc, &[RANDOM, INSERT]);
+    let sealed = joined(&rt, alloc, &[SEALED_RANDOM, SEALED_INSERT]);
     let run = Run {
         blocks: &BLOCKS[..1],
         ..sealing(&input)
     };
-    seals(&rt, alloc, run, &sealed)
+    seals(&rt, alloc, run, &sealed);
 }
 
 #[test]
-fn a_draw_that_fails_writes_nothing_of_its_command(rt: HostRuntime) -> Result<(), Fail> {
+fn a_draw_that_fails_writes_nothing_of_its_command(rt: HostRuntime) {
     let alloc = rt.alloc();
-    let input = joined(alloc, &[INSERT, RANDOM])?;
+    let input = joined(&rt, alloc, &[INSERT, RANDOM]);
     let line = "fle: 7 2 0 -\n";
     let run = sealing(&input);
-    expect(&rt, alloc, run, Status::EntropyFault, SEALED_INSERT, line)?;
+    expect(&rt, alloc, run, Status::EntropyFault, SEALED_INSERT, line);
     for call in [0, 1] {
         let run = Run {
             blocks: &BLOCKS,
             draws: &[call],
             ..sealing(BOTH)
         };
-        expect(&rt, alloc, run, Status::EntropyFault, b"", "fle: 7 1 0 -\n")?;
+        stops(&rt, alloc, run, Status::EntropyFault, "fle: 7 1 0 -\n");
     }
-    Ok(())
 }
 
 #[test]
-fn a_key_of_another_provider_is_told_at_its_value(rt: HostRuntime) -> Result<(), Fail> {
+fn a_key_of_another_provider_is_told_at_its_value(rt: HostRuntime) {
     let alloc = rt.alloc();
     let line = "fle: 1 1 17 1.0.0\n";
     // The provider `vocal` in the place of `local`.
-    let mut keys = Vec::from_slice(alloc, VAULT)?;
+    let mut keys = *VAULT;
     keys[291] = b'v';
     let run = Run {
         keys: &keys,
         ..sealing(INSERT)
     };
-    expect(&rt, alloc, run, Status::Refused, b"", line)?;
+    stops(&rt, alloc, run, Status::Refused, line);
     let run = Run {
         keys: &keys,
         ..opening(SEALED_INSERT)
     };
-    expect(&rt, alloc, run, Status::Refused, b"", line)
+    stops(&rt, alloc, run, Status::Refused, line);
 }
 
 #[test]
-fn a_key_that_is_missing_is_told_at_its_value(rt: HostRuntime) -> Result<(), Fail> {
+fn a_key_that_is_missing_is_told_at_its_value(rt: HostRuntime) {
     let alloc = rt.alloc();
-    let input = joined(alloc, &[NOTES, INSERT])?;
+    let input = joined(&rt, alloc, &[NOTES, INSERT]);
     let run = Run {
         keys: b"",
         ..sealing(&input)
     };
-    expect(
-        &rt,
-        alloc,
-        run,
-        Status::Refused,
-        NOTES,
-        "fle: 1 2 16 1.0.0\n",
-    )?;
+    let line = "fle: 1 2 16 1.0.0\n";
+    expect(&rt, alloc, run, Status::Refused, NOTES, line);
     let run = Run {
         keys: b"",
         ..opening(SEALED_INSERT)
     };
-    expect(&rt, alloc, run, Status::Refused, b"", "fle: 1 1 16 1.0.0\n")
+    stops(&rt, alloc, run, Status::Refused, "fle: 1 1 16 1.0.0\n");
 }

@@ -1,16 +1,15 @@
 //! Whole runs of `mark` and of words without a form: the worked commands of an insert, each way to cut a stream.
 
-use crate::runs::{Run, expect, joined, marking, sink_of};
+use crate::runs::{Run, expect, joined, marking, sink_of, stops};
 use fle_runner::{VERSION, tell};
 use fle_stream::Status;
 use sample_documents::{INSERT, NOTES, NOTES_REPLY, REPLY};
-use std::test::Fail;
 
 /// `{aggregate: int 1}`.
 const UNKNOWN: &[u8] = b"\x14\x00\x00\x00\x10aggregate\x00\x01\x00\x00\x00\x00";
 
 #[test]
-fn each_input_has_its_end(rt: HostRuntime) -> Result<(), Fail> {
+fn each_input_has_its_end(rt: HostRuntime) {
     let cases: &[(&[u8], Status, &[u8], &str)] = &[
         (b"", Status::Done, b"", ""),
         (INSERT, Status::Done, REPLY, ""),
@@ -38,28 +37,26 @@ fn each_input_has_its_end(rt: HostRuntime) -> Result<(), Fail> {
         (b"\x01\x00\x00\x01", Status::Limit, b"", "fle: 9 1 1 -\n"),
     ];
     for (input, status, out, line) in cases {
-        expect(&rt, rt.alloc(), marking(input), *status, out, line)?;
+        expect(&rt, rt.alloc(), marking(input), *status, out, line);
     }
-    Ok(())
 }
 
 #[test]
-fn a_stream_may_come_in_any_pieces(rt: HostRuntime) -> Result<(), Fail> {
+fn a_stream_may_come_in_any_pieces(rt: HostRuntime) {
     let alloc = rt.alloc();
-    let three = joined(alloc, &[INSERT, NOTES, UNKNOWN])?;
-    let replies = joined(alloc, &[REPLY, NOTES_REPLY])?;
+    let three = joined(&rt, alloc, &[INSERT, NOTES, UNKNOWN]);
+    let replies = joined(&rt, alloc, &[REPLY, NOTES_REPLY]);
     for step in 1..=three.len() {
         let run = Run {
             step,
             ..marking(&three)
         };
-        expect(&rt, alloc, run, Status::Refused, &replies, "fle: 1 3 1 0\n")?;
+        expect(&rt, alloc, run, Status::Refused, &replies, "fle: 1 3 1 0\n");
     }
-    Ok(())
 }
 
 #[test]
-fn words_of_no_known_form_are_told_before_any_input(rt: HostRuntime) -> Result<(), Fail> {
+fn words_of_no_known_form_are_told_before_any_input(rt: HostRuntime) {
     let forms: &[&[&str]] = &[
         &[],
         &["seal", "hr", "infos"],
@@ -80,20 +77,18 @@ fn words_of_no_known_form_are_told_before_any_input(rt: HostRuntime) -> Result<(
             words,
             ..marking(INSERT)
         };
-        expect(&rt, rt.alloc(), run, Status::Words, b"", "fle: 2 0 0 -\n")?;
+        stops(&rt, rt.alloc(), run, Status::Words, "fle: 2 0 0 -\n");
     }
-    Ok(())
 }
 
 #[test]
-fn the_version_is_told_or_its_failure(rt: HostRuntime) -> Result<(), Fail> {
+fn the_version_is_told_or_its_failure(rt: HostRuntime) {
     let alloc = rt.alloc();
-    let mut out = sink_of(alloc, 100, &[])?;
-    let mut full = sink_of(alloc, 100, &[0])?;
-    let mut diag = sink_of(alloc, 100, &[])?;
+    let mut out = sink_of(&rt, alloc, 100, &[]);
+    let mut full = sink_of(&rt, alloc, 100, &[0]);
+    let mut diag = sink_of(&rt, alloc, 100, &[]);
     assert!(rt; tell(&mut out, &mut diag, VERSION) == Status::Done);
     assert!(rt; out.written() == b"fle 0.1.0\n".as_slice());
     assert!(rt; tell(&mut full, &mut diag, VERSION) == Status::WriteFault);
     assert!(rt; diag.written() == b"fle: 6 0 0 -\n".as_slice());
-    Ok(())
 }

@@ -3,7 +3,6 @@
 use crate::runs::{accepts, refuses};
 use crate::verdict_tests::passes;
 use sample_documents::SET;
-use std::test::Fail;
 
 /// `{update: "staff", updates: [{q: {}, u: {$set: {"a.0.b": int 1}}}], $db: "hr"}`.
 const POSITION: &[u8] =
@@ -175,29 +174,27 @@ tring\x00\x00\x00\x03z\x00k\x00\x00\x00\x03encrypt\x00]\x00\x00\x00\x04keyId\x00
 \x00\x00\x00\x00\x00\x00";
 
 #[test]
-fn what_an_update_stores_is_sealed(rt: HostRuntime) -> Result<(), Fail> {
+fn what_an_update_stores_is_sealed(rt: HostRuntime) {
     let cases: &[(&[u8], &[u8], &[u8])] = &[
         (SET, SET_REPLY, SEALED_SET),
         (SET_INSIDE, SET_INSIDE_REPLY, SEALED_SET_INSIDE),
         (REPLACE, REPLACE_REPLY, SEALED_REPLACE),
     ];
     for (command, reply, sealed) in cases {
-        accepts(&rt, rt.alloc(), command, reply, sealed)?;
+        accepts(&rt, rt.alloc(), command, reply, sealed);
     }
-    Ok(())
 }
 
 #[test]
-fn updates_without_a_protected_value_pass(rt: HostRuntime) -> Result<(), Fail> {
+fn updates_without_a_protected_value_pass(rt: HostRuntime) {
     let commands: &[&[u8]] = &[UNSET, RENAME_ALIKE];
     for command in commands {
-        passes(&rt, rt.alloc(), command, b"\x01")?;
+        passes(&rt, rt.alloc(), command, b"\x01");
     }
-    Ok(())
 }
 
 #[test]
-fn what_an_update_cannot_do_is_refused(rt: HostRuntime) -> Result<(), Fail> {
+fn what_an_update_cannot_do_is_refused(rt: HostRuntime) {
     let cases: &[(&[u8], &str)] = &[
         (POSITION, "fle: 1 1 9 1.0.1.0.0\n"),
         (RENAME, "fle: 1 1 15 1.0.1.0.0\n"),
@@ -211,7 +208,6 @@ fn what_an_update_cannot_do_is_refused(rt: HostRuntime) -> Result<(), Fail> {
         (RENAME_MIXED, "fle: 1 1 15 1.0.1.0.0\n"),
     ];
     for (command, line) in cases {
-        refuses(&rt, rt.alloc(), command, line)?;
+        refuses(&rt, rt.alloc(), command, line);
     }
-    Ok(())
 }
