@@ -9,7 +9,7 @@ use local_kms::{
     MasterFault, MasterKey, NewFault, UnwrapFault, new_key, read_master, unwrap_key, wrap_key,
 };
 use std::alloc::Global;
-use std::test::Fail;
+use std::process::Abort;
 
 /// A master key, the bytes 00 to 5F.
 const MASTER: [u8; 96] = [
@@ -202,25 +202,22 @@ fn a_wrong_tag_is_told_with_the_right_one(rt: HostRuntime) {
 }
 
 /// A new key of these blocks, where the draws of these numbers fail.
-fn made(alloc: Global, failing: &[u64]) -> Result<Result<KeyDoc, NewFault>, Fail> {
-    let blocks = Vec::from_slice(alloc, &BLOCKS)?;
-    let mut entropy = MemEntropy::new(blocks, Vec::from_slice(alloc, failing)?);
+fn made(rt: &impl Abort, alloc: Global, failing: &[u64]) -> Result<KeyDoc, NewFault> {
+    let blocks = Vec::from_slice(alloc, &BLOCKS).expect(rt, "memory");
+    let failing = Vec::from_slice(alloc, failing).expect(rt, "memory");
+    let mut entropy = MemEntropy::new(blocks, failing);
     let master = MasterKey::new(MASTER);
-    Ok(new_key(alloc, &mut entropy, &Tables, &master, Names::new(alloc)))
+    new_key(alloc, &mut entropy, &Tables, &master, Names::new(alloc))
 }
 
 #[test]
-fn a_new_key_is_made_of_eight_blocks(rt: HostRuntime) -> Result<(), Fail> {
-    let Ok(key) = made(rt.alloc(), &[])? else {
-        return Err("no key".into());
-    };
+fn a_new_key_is_made_of_eight_blocks(rt: HostRuntime) {
+    let key = made(&rt, rt.alloc(), &[]).expect(&rt, "a key");
     assert!(rt; key.id == ID && key.provider == Provider::Local);
     assert!(rt; key.material.as_slice() == MATERIAL.as_slice());
-    Ok(())
 }
 
 #[test]
-fn a_failing_draw_makes_no_key(rt: HostRuntime) -> Result<(), Fail> {
-    assert!(rt; made(rt.alloc(), &[3])?.err() == Some(NewFault::EntropyFailed));
-    Ok(())
+fn a_failing_draw_makes_no_key(rt: HostRuntime) {
+    assert!(rt; made(&rt, rt.alloc(), &[3]).err() == Some(NewFault::EntropyFailed));
 }

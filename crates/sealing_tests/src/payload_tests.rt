@@ -10,7 +10,7 @@ use payload6::{
     payload_len, seal_payload_into,
 };
 use std::alloc::Global;
-use std::test::Fail;
+use std::process::Abort;
 
 /// The id of the data key, the UUID 00112233-4455-4677-8899-aabbccddeeff.
 const ID: [u8; 16] = [
@@ -152,20 +152,18 @@ const MARKING: &[u8] =
 const PERSON: &[u8] = b"\x1a\x00\x00\x00\x02ssn\x00\x0c\x00\x00\x00123-45-6789\x00\x00";
 
 /// The marking of the only value of a document, under the first rule of a collection.
-fn marked(alloc: Global, info: &Info, document: &RawDoc<'_>) -> Result<Bytes, Fail> {
-    let policy = info.rows().policy(0).ok_or("no policy")?;
-    let item = document.items().next().ok_or("no element")?;
-    if item.value().len() >= 100 {
-        return Err("a test's value is too long".into());
-    }
-    Ok(marking(alloc, &item, policy)?)
+fn marked(rt: &impl Abort, alloc: Global, info: &Info, document: &RawDoc<'_>) -> Bytes {
+    let policy = info.rows().policy(0).expect(rt, "a policy");
+    let item = document.items().next().expect(rt, "an element");
+    assert!(rt; item.value().len() < 100, "a test's value is too long");
+    marking(alloc, &item, policy).expect(rt, "memory")
 }
 
 #[test]
-fn a_string_is_marked(rt: HostRuntime) -> Result<(), Fail> {
-    let infos = Infos::load(rt.alloc(), PEOPLE)?;
-    let info = infos.info_of(b"people").ok_or("no info")?;
-    let bytes = marked(rt.alloc(), info, &check_bson(PERSON)?)?;
+fn a_string_is_marked(rt: HostRuntime) {
+    let infos = Infos::load(rt.alloc(), PEOPLE).expect(&rt, "infos");
+    let info = infos.info_of(b"people").expect(&rt, "an info");
+    let document = check_bson(PERSON).expect(&rt, "a document");
+    let bytes = marked(&rt, rt.alloc(), info, &document);
     assert!(rt; bytes.as_slice() == MARKING);
-    Ok(())
 }

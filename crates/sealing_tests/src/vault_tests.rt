@@ -5,7 +5,7 @@ use key_vault::{Keyless, Vault, VaultFault, VaultKind, open_key};
 use local_kms::MasterKey;
 use sample_documents::TWO_KEYS;
 use std::alloc::Global;
-use std::test::Fail;
+use std::process::Abort;
 
 /// The first key's id, the UUID 00112233-4455-4677-8899-aabbccddeeff.
 const ID: &[u8; 16] = b"\x00\x11\x22\x33\x44\x55\x46\x77\x88\x99\xaa\xbb\xcc\xdd\xee\xff";
@@ -39,31 +39,28 @@ fn master() -> MasterKey {
 }
 
 /// The number of the faulty document of a file of two parts, and what is wrong with it.
-fn fault_of(alloc: Global, front: &[u8], back: &[u8]) -> Result<Option<(u32, VaultKind)>, Fail> {
-    let mut file = Vec::from_slice(alloc, front)?;
-    file.extend_from_slice(back)?;
-    if file.len() > 10_000 {
-        return Err("a test's file is too long".into());
-    }
+fn fault_of(rt: &impl Abort, alloc: Global, front: &[u8], back: &[u8]) -> Option<(u32, VaultKind)> {
+    let mut file = Vec::from_slice(alloc, front).expect(rt, "memory");
+    file.extend_from_slice(back).expect(rt, "memory");
+    assert!(rt; file.len() <= 10_000, "a test's file is too long");
     match Vault::load(alloc, &file) {
-        Ok(_) => Ok(None),
-        Err(VaultFault::Bad { document, kind }) => Ok(Some((document, kind))),
-        Err(VaultFault::Memory) => Err("no memory".into()),
+        Ok(_) => None,
+        Err(VaultFault::Bad { document, kind }) => Some((document, kind)),
+        Err(VaultFault::Memory) => panic!(rt; "memory"),
     }
 }
 
 #[test]
-fn keys_are_found_by_id_and_by_name(rt: HostRuntime) -> Result<(), Fail> {
-    let vault = Vault::load(rt.alloc(), TWO_KEYS)?;
+fn keys_are_found_by_id_and_by_name(rt: HostRuntime) {
+    let vault = Vault::load(rt.alloc(), TWO_KEYS).expect(&rt, "a vault");
     assert!(rt; vault.len() == 2);
     assert!(rt; matches!(vault.by_id(ID), Some(k) if k.names.len() == 1));
     assert!(rt; matches!(vault.by_name(b"audit"), Some(k) if k.names.len() == 2));
     assert!(rt; vault.by_name(b"hr").is_none());
-    Ok(())
 }
 
 #[test]
-fn documents_are_judged_in_order(rt: HostRuntime) -> Result<(), Fail> {
+fn documents_are_judged_in_order(rt: HostRuntime) {
     let cases: &[(&[u8], &[u8], Option<(u32, VaultKind)>)] = &[
         (TWO_KEYS, b"", None),
         (TWO_KEYS, TWO_KEYS, Some((3, VaultKind::IdTwice))),
@@ -71,13 +68,12 @@ fn documents_are_judged_in_order(rt: HostRuntime) -> Result<(), Fail> {
         (TWO_KEYS, b"\x05", Some((3, VaultKind::Bson))),
     ];
     for (front, back, fault) in cases {
-        assert!(rt; fault_of(rt.alloc(), front, back)? == *fault);
+        assert!(rt; fault_of(&rt, rt.alloc(), front, back) == *fault);
     }
-    Ok(())
 }
 
 #[test]
-fn a_name_stands_once(rt: HostRuntime) -> Result<(), Fail> {
+fn a_name_stands_once(rt: HostRuntime) {
     let cases: &[(u8, Option<(u32, VaultKind)>)] = &[
         (b'd', None),
         (b'b', Some((2, VaultKind::NameTwice))),
@@ -85,24 +81,21 @@ fn a_name_stands_once(rt: HostRuntime) -> Result<(), Fail> {
     ];
     for (name, fault) in cases {
         let keys = (named(1, b'a', b'b'), named(2, b'c', *name));
-        assert!(rt; fault_of(rt.alloc(), &keys.0, &keys.1)? == *fault);
+        assert!(rt; fault_of(&rt, rt.alloc(), &keys.0, &keys.1) == *fault);
     }
-    Ok(())
 }
 
 #[test]
-fn a_key_is_opened(rt: HostRuntime) -> Result<(), Fail> {
-    let vault = Vault::load(rt.alloc(), TWO_KEYS)?;
+fn a_key_is_opened(rt: HostRuntime) {
+    let vault = Vault::load(rt.alloc(), TWO_KEYS).expect(&rt, "a vault");
     let key = open_key(&Tables, &master(), vault.by_id(ID));
     assert!(rt; matches!(&key, Ok(k) if k.bytes()[0] == 0x80 && k.bytes()[95] == 0xdf));
-    Ok(())
 }
 
 #[test]
-fn a_key_that_isnt_opened_is_told_why(rt: HostRuntime) -> Result<(), Fail> {
-    let vault = Vault::load(rt.alloc(), TWO_KEYS)?;
+fn a_key_that_isnt_opened_is_told_why(rt: HostRuntime) {
+    let vault = Vault::load(rt.alloc(), TWO_KEYS).expect(&rt, "a vault");
     let other = MasterKey::new([0; 96]);
     assert!(rt; open_key(&Tables, &other, vault.by_id(ID)).err() == Some(Keyless::Damaged));
     assert!(rt; open_key(&Tables, &other, None).err() == Some(Keyless::Missing));
-    Ok(())
 }
