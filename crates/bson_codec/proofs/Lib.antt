@@ -6,6 +6,7 @@ pub mod Frames
 pub mod Pieces
 pub mod Lengths
 pub mod Names
+pub mod NearZeros
 pub mod Readers
 pub mod Raws
 pub mod Elements

@@ -1,13 +1,17 @@
 //! Lengths, names and raw values, each judged from its first byte on. `bytes` begins at the offset `at`
 //! and ends before the last byte of the document that it stands in.
 
-ghost use Rattle.std.specs.Prelude.{◌≡◌, ◌+◌, ◌<◌, ◌≤◌, ◌^◌, length, IfOk, IfSome};
+ghost use Rattle.std.specs.Prelude.{◌≡◌, ◌+◌, ◌<◌, ◌≤◌, ◌^◌, length, IfOk, IfSome, Some};
 ghost use Rattle.bson_codec.specs.Reading.{signed_below, int32_at, length_at, zero_at, before_zero, cstring_at};
 ghost use Rattle.bson_codec.specs.Reading.{bytes_at, bool_at, string_at, binary_at, regex_at, pointer_at, type_at};
 ghost use Rattle.bson_codec.specs.Reading.{inside_length_at};
 
 use crate::fault::{BsonFault, BsonKind};
 use crate::table::{ValueLayout, layout_of};
+use memchr::memchr;
+
+/// How many bytes are looked at together: few names are longer.
+const NEAR: usize = 32;
 
 /// Whether a number of 32 bits stands for a signed number below `least`.
 pub fn is_signed_below(n: u32, least: u32) -> bool
@@ -72,8 +76,19 @@ pub fn zero_of(i: usize, bytes: &[u8], at: usize) -> Result<(), BsonFault>
     Ok(())
 }
 
-/// How many bytes stand before the first 00.
-pub fn zero_position(bytes: &[u8]) -> Option<usize>
+/// How many bytes stand before the first 00, where it is one of the first 32.
+fn near_zero(bytes: &[u8]) -> Option<usize>
+    ensures found { IfSome result (λ n. before_zero bytes.now ≡ Some n) }
+    ensures inside { IfSome result (λ n. n < length bytes.now) }
+{
+    if bytes.len() < NEAR {
+        return None;
+    }
+    memchr(0, &bytes[..NEAR])
+}
+
+/// How many bytes stand before the first 00, looked at one by one.
+fn zero_by_one(bytes: &[u8]) -> Option<usize>
     ensures found { result ≡ before_zero bytes.now }
     ensures inside { IfSome result (λ n. n < length bytes.now) }
 {
@@ -83,6 +98,17 @@ pub fn zero_position(bytes: &[u8]) -> Option<usize>
         }
     }
     None
+}
+
+/// How many bytes stand before the first 00.
+pub fn zero_position(bytes: &[u8]) -> Option<usize>
+    ensures found { result ≡ before_zero bytes.now }
+    ensures inside { IfSome result (λ n. n < length bytes.now) }
+{
+    match near_zero(bytes) {
+        Some(n) => Some(n),
+        None => zero_by_one(bytes),
+    }
 }
 
 /// The length of a name that 00 follows.
