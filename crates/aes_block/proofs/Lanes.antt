@@ -36,7 +36,7 @@ place_ok j h = go (leb 128 j || ltb j 16) refl
     go true p = tt
     go false p = absurd (grind (arith, nat_tests))
 
-each_place : (js : List ℕ) → all_places js ≡ true → Each1 (λ j. T (leb 128 j || ltb j 16)) js
+pub each_place : (js : List ℕ) → all_places js ≡ true → Each1 (λ j. T (leb 128 j || ltb j 16)) js
 each_place [] h = tt
 each_place (j ∷ js) h = (
   place_ok j (first_true (is_place j) (all_places js) h),

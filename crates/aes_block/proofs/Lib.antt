@@ -20,3 +20,5 @@ pub mod Bytes
 pub mod OpenBoxes
 pub mod OpenLanes
 pub mod Published
+pub mod WideLanes
+pub mod OpenPair

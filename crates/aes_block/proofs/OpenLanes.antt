@@ -73,7 +73,7 @@ abbrev pub turned_sum : List ℕ → List ℕ → List ℕ → List ℕ → List
 turned_sum n b d f once twice =
     zip2 bit_xor (zip2 bit_xor f (map (entry d) twice)) (map (entry (zip2 bit_xor b (map (entry n) twice))) once)
 
-abbrev OpensTo : List ℕ → List ℕ → List ℕ → List ℕ → List ℕ → List ℕ → Type 0
+abbrev pub OpensTo : List ℕ → List ℕ → List ℕ → List ℕ → List ℕ → List ℕ → Type 0
 OpensTo from to once twice s k =
     let x = placed (map into_open s) from in
     turned_sum (map (at_halves INVERSE RATIO NINE_U NINE_V) x) (map (at_halves INVERSE RATIO ELEVEN_U ELEVEN_V) x)

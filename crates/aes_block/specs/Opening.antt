@@ -1,5 +1,5 @@
 -- The state and the round keys of opening by shuffles.
-use Rattle.std.specs.Prelude.{◌≡◌, ℕ, List, [], ◌∷◌, map, slice_index_or, bit_xor}
+use Rattle.std.specs.Prelude.{◌≡◌, ℕ, ◌-◌, List, [], ◌∷◌, ◌++◌, map, slice_index_or, bit_xor}
 use Rattle.aes_block.specs.Steps.{inv_sub_bytes, inv_shift_rows, inv_mix_columns, add_round_key, round_key}
 use Rattle.aes_block.specs.Substitution.{inv_affine}
 use Rattle.aes_block.specs.Sealing.{into, placed, places}
@@ -19,6 +19,10 @@ open_round s k = add_round_key (inv_mix_columns (inv_sub_bytes (inv_shift_rows s
 -- the last round, which has no InvMixColumns (FIPS 197, 5.3.5)
 abbrev pub open_last : List ℕ → List ℕ → List ℕ
 open_last s k = add_round_key (inv_sub_bytes (inv_shift_rows s)) k
+
+-- the states of two blocks behind round r, side by side, each at the places of its bytes
+abbrev pub both_at : ℕ → List ℕ → List ℕ → List ℕ
+both_at r s t = placed (map into_open s) (places (16 - r)) ++ placed (map into_open t) (places (16 - r))
 
 -- the positions of the shuffles
 abbrev pub open_turns : List (List ℕ)

@@ -20,6 +20,7 @@ mod lookups;
 mod open_tables;
 mod opening;
 mod opening_keys;
+mod opening_pair;
 mod plain_form;
 mod schedule;
 mod sealing;
@@ -28,6 +29,7 @@ mod steps;
 mod substitution;
 mod table_form;
 mod tables;
+mod wide_lookups;
 mod words;
 
 pub use plain_form::{cipher, inv_cipher};

@@ -1,5 +1,5 @@
-// InvCipher of one block, and of two side by side, by look-ups in tables of 16 entries, in the order of the
-// equivalent inverse cipher (FIPS 197, 5.3 and 5.3.5).
+// InvCipher of one block by look-ups in tables of 16 entries, in the order of the equivalent inverse cipher
+// (FIPS 197, 5.3 and 5.3.5).
 //
 // The state is kept after the affine map of InvSubBytes, so that a round begins with the inverse. InvShiftRows is
 // never done, as ShiftRows in encryption.
@@ -161,44 +161,4 @@ pub(crate) fn opened(keys: &OpeningKeys, block: [u8; 16]) -> [u8; 16]
     let s12 = open_round_0(s11, keys, keys.key(12));
     let s13 = open_round_1(s12, keys, keys.key(13));
     open_round_14(s13, keys, keys.key(14)).to_array()
-}
-
-// Two blocks side by side: the processor works at one where it waits for the other.
-#[inline(never)]
-pub(crate) fn opened_two(keys: &OpeningKeys, a: [u8; 16], b: [u8; 16]) -> ([u8; 16], [u8; 16])
-    ensures first { (w : List ℕ) → AreOpeningKeys keys.now.keys w → result.0 ≡ inv_cipher w a }
-    ensures second { (w : List ℕ) → AreOpeningKeys keys.now.keys w → result.1 ≡ inv_cipher w b }
-{
-    let s0 = open_begin(u8x16::from_array(a), keys.key(0));
-    let t0 = open_begin(u8x16::from_array(b), keys.key(0));
-    let s1 = open_round_1(s0, keys, keys.key(1));
-    let t1 = open_round_1(t0, keys, keys.key(1));
-    let s2 = open_round_2(s1, keys, keys.key(2));
-    let t2 = open_round_2(t1, keys, keys.key(2));
-    let s3 = open_round_3(s2, keys, keys.key(3));
-    let t3 = open_round_3(t2, keys, keys.key(3));
-    let s4 = open_round_0(s3, keys, keys.key(4));
-    let t4 = open_round_0(t3, keys, keys.key(4));
-    let s5 = open_round_1(s4, keys, keys.key(5));
-    let t5 = open_round_1(t4, keys, keys.key(5));
-    let s6 = open_round_2(s5, keys, keys.key(6));
-    let t6 = open_round_2(t5, keys, keys.key(6));
-    let s7 = open_round_3(s6, keys, keys.key(7));
-    let t7 = open_round_3(t6, keys, keys.key(7));
-    let s8 = open_round_0(s7, keys, keys.key(8));
-    let t8 = open_round_0(t7, keys, keys.key(8));
-    let s9 = open_round_1(s8, keys, keys.key(9));
-    let t9 = open_round_1(t8, keys, keys.key(9));
-    let s10 = open_round_2(s9, keys, keys.key(10));
-    let t10 = open_round_2(t9, keys, keys.key(10));
-    let s11 = open_round_3(s10, keys, keys.key(11));
-    let t11 = open_round_3(t10, keys, keys.key(11));
-    let s12 = open_round_0(s11, keys, keys.key(12));
-    let t12 = open_round_0(t11, keys, keys.key(12));
-    let s13 = open_round_1(s12, keys, keys.key(13));
-    let t13 = open_round_1(t12, keys, keys.key(13));
-    (
-        open_round_14(s13, keys, keys.key(14)).to_array(),
-        open_round_14(t13, keys, keys.key(14)).to_array(),
-    )
 }

@@ -4,7 +4,8 @@
 ghost use Rattle.std.specs.Prelude.{◌≡◌};
 ghost use Rattle.aes_block.specs.Cipher.{cipher, inv_cipher};
 
-use crate::opening::{opened, opened_two};
+use crate::opening::opened;
+use crate::opening_pair::opened_two;
 use crate::schedule::Schedule;
 use crate::sealing::sealed;
 
@@ -22,8 +23,8 @@ pub fn inv_cipher_tables(schedule: &Schedule, block: [u8; 16]) -> [u8; 16]
     opened(schedule.opening(), block)
 }
 
-/// Decrypts two blocks side by side, each as [`inv_cipher_tables`] does: the processor works at one where it waits
-/// for the other.
+/// Decrypts two blocks, each as [`inv_cipher_tables`] does, side by side in one vector of 32 lanes: a processor whose
+/// vectors are that wide takes about the time of one.
 pub fn inv_cipher_tables_pair(
     schedule: &Schedule,
     first: [u8; 16],

@@ -40,14 +40,23 @@ impl KeyedMac {
     pub fn code(&self, first: &[u8], second: &[u8], third: &[u8]) -> [u8; 64]
         ensures code { (k : List ℕ) → HasKey self.now k → result ≡ hmac k ((first.now ++ second.now) ++ third.now) }
     {
-        let mut inner = copy_of(&self.inner);
-        inner.update(first);
-        inner.update(second);
-        inner.update(third);
-        let digest: [u8; 64] = inner.finalize();
-        let mut outer = copy_of(&self.outer);
-        outer.update(digest.as_slice());
-        outer.finalize()
+        // A copy is used in the arm that takes it out: handed out first, as by `copy_of`, it is copied once more.
+        let digest: [u8; 64] = match self.inner.clone() {
+            Ok(mut inner) => {
+                inner.update(first);
+                inner.update(second);
+                inner.update(third);
+                inner.finalize()
+            }
+            Err(_) => unreachable!(),
+        };
+        match self.outer.clone() {
+            Ok(mut outer) => {
+                outer.update(digest.as_slice());
+                outer.finalize()
+            }
+            Err(_) => unreachable!(),
+        }
     }
 }
 
