@@ -5,10 +5,10 @@ import subprocess
 
 def fle_bench():
     """The path of the program that FLE_BENCH names, or of the one that is built in crates/fle_bench, with its proof,
-    for the processor that ./fle builds for; and what it is built for, as a sentence has it."""
+    for the processor that ./fle builds for; and which program it is, as a sentence has it."""
     if "FLE_BENCH" in os.environ:
-        return os.environ["FLE_BENCH"], "as FLE_BENCH was"
+        return os.environ["FLE_BENCH"], "the program of FLE_BENCH"
     processor = subprocess.run(["bench/processor"], stdout=subprocess.PIPE, check=True, text=True).stdout.strip()
     subprocess.run(["rt", "run", "--cpu", processor, "--", "cbc-seal-tables", "16", "1"], cwd="crates/fle_bench",
                    check=True, stdout=subprocess.DEVNULL, stderr=subprocess.DEVNULL)
-    return "crates/fle_bench/out/fle_bench", f"for {processor}"
+    return "crates/fle_bench/out/fle_bench", f"a program built for {processor}"
