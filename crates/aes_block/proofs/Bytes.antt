@@ -11,16 +11,13 @@ use Rattle.aes_block.specs.Steps.{sub_bytes, shift_rows, mix_columns, add_round_
 use Rattle.aes_block.specs.Substitution.{sub_byte}
 use Rattle.aes_block.proofs.Blocks.{byte_of, IsBlock-sub_bytes, IsBlock-shift_rows, IsBlock-mix_columns}
 use Rattle.aes_block.proofs.Blocks.{IsBlock-add_round_key, IsBlock-round_key}
-use Rattle.aes_block.proofs.Entries.{sixteen, state_equal}
+use Rattle.aes_block.proofs.Entries.{cons_equal, sixteen, state_equal}
 use Rattle.aes_block.specs.declared.tables.TheConstants.{INVERSE, RATIO, INTO_LOW, INTO_HIGH, LAST_U, LAST_V, PLACES_0}
 use Rattle.aes_block.specs.declared.tables.TheConstants.{PLACES_1, TURN_4, LAST_KEY, LAST_PLACES}
 use Rattle.aes_block.specs.Nibbles.{by_nibbles}
 use Rattle.aes_block.specs.Sealing.{into, at_halves, placed, others, keyed, last_round}
 use Rattle.aes_block.proofs.Boxes.{into_is, into-xor, last_is}
 use Rattle.aes_block.proofs.Sums.{last_sum, last_cancelled}
-
-cons_equal : {a b : ℕ} {xs ys : List ℕ} → a ≡ b → xs ≡ ys → a ∷ xs ≡ b ∷ ys
-cons_equal e f = cc
 
 pub map_into : (x : List ℕ) → Each1 (Fits w8) x → map (by_nibbles INTO_LOW INTO_HIGH) x ≡ map into x
 map_into [] h = refl

@@ -1,5 +1,5 @@
 -- A list of 16 as its entries, and the steps on it entry by entry.
-use Rattle.std.proofs.Common.{◌≡◌, ℕ, List, [], ◌∷◌, length, arith, refl, ap, ◌∙◌}
+use Rattle.std.proofs.Common.{◌≡◌, ℕ, List, [], ◌∷◌, ◌++◌, length, arith, refl, ap, ◌∙◌}
 use Rattle.std.specs.Prelude.{bit_xor}
 use Rattle.aes_block.specs.Substitution.{sub_byte, inv_sub_byte}
 use Rattle.aes_block.specs.Steps.{cell, state, sub_bytes, inv_sub_bytes, add_round_key}
@@ -38,6 +38,13 @@ pub add_round_key-entries : (s k : List ℕ) → length s ≡ 16 → length k �
 unfolding add_round_key
 add_round_key-entries s k l m = ap (λ x. add_round_key x k) (sixteen s l)
     ∙ ap (add_round_key (state (cell s))) (sixteen k m)
+
+-- equal parts make equal lists
+pub cons_equal : {a b : ℕ} {xs ys : List ℕ} → a ≡ b → xs ≡ ys → a ∷ xs ≡ b ∷ ys
+cons_equal e f = cc
+
+pub append_equal : {a b c d : List ℕ} → a ≡ c → b ≡ d → a ++ b ≡ c ++ d
+append_equal e f = rw (e, f) refl
 
 -- two states are equal if their bytes are
 pub state_equal :

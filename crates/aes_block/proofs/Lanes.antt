@@ -6,7 +6,8 @@ use Rattle.std.proofs.lemmas.Bool.Decides.{nat_tests}
 use Rattle.std.proofs.lemmas.Simd.{swz_l, SwzOk, SwzOk-from_Each1, map-map, zip2_of_maps}
 use lib.Lanes.{zip2, Each1}
 use Rattle.aes_block.specs.Nibbles.{entry, is_place, all_places}
-use Rattle.aes_block.proofs.Computed.{passes_below, passes_at, first_true, second_true}
+use Rattle.aes_block.proofs.Computed.{passes_below, passes_at, first_true, second_true, both_true}
+use Rattle.aes_block.proofs.Entries.{cons_equal}
 
 entry_chosen : (a : ℕ) (j : ℕ) → cond (leb 128 j) 0 a ≡ cond (nat_lt j 128) a 0
 entry_chosen a j = go (leb 128 j) (nat_lt j 128) refl refl
@@ -20,9 +21,6 @@ entry_chosen a j = go (leb 128 j) (nat_lt j 128) refl refl
 entry_at : (t : List ℕ) (i j : ℕ) → 16 * (i / 16) + j ≡ j
     → cond (leb 128 j) 0 (get_or t (16 * (i / 16) + j) 0) ≡ entry t j
 entry_at t i j e = rw e (entry_chosen (get_or t j 0) j)
-
-cons_equal : {a b : ℕ} {xs ys : List ℕ} → a ≡ b → xs ≡ ys → a ∷ xs ≡ b ∷ ys
-cons_equal e f = cc
 
 -- a shuffle of 16 lanes reads its table at each lane
 pub shuffled : (t js : List ℕ) (i : ℕ) → i + length js ≤ 16 → swz_l w8 16 t i js ≡ map (entry t) js
@@ -45,9 +43,6 @@ each_place (j ∷ js) h = (
 
 pub places_ok : (js : List ℕ) → length js ≡ 16 → all_places js ≡ true → SwzOk w8 16 16 0 js
 places_ok js l h = SwzOk-from_Each1 w8 16 1 16 0 js refl (omega arith) (each_place js h)
-
-both_true : (a b : Bool) → a ≡ true → b ≡ true → (a && b) ≡ true
-both_true a b p q = grind (arith, nat_tests)
 
 -- bytes become places, if each of the 256 does
 pub mapped_places : (f : ℕ → ℕ) → passes_below 256 (λ b. is_place (f b)) ≡ true → (x : List ℕ) → Each1 (Fits w8) x

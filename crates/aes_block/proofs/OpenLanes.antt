@@ -17,7 +17,7 @@ use Rattle.aes_block.specs.Steps.{sum4, inv_sub_bytes, inv_shift_rows, inv_mix_c
 use Rattle.aes_block.specs.Substitution.{inv_sub_byte}
 use Rattle.aes_block.proofs.Blocks.{byte_of, inv_sub_byte_fits, IsBlock-inv_sub_bytes, IsBlock-inv_shift_rows}
 use Rattle.aes_block.proofs.Blocks.{IsBlock-inv_mix_columns, IsBlock-add_round_key, IsBlock-round_key}
-use Rattle.aes_block.proofs.Entries.{sixteen, state_equal}
+use Rattle.aes_block.proofs.Entries.{cons_equal, sixteen, state_equal}
 use Rattle.aes_block.proofs.Linear.{product_fits, sum4_fits}
 use Rattle.aes_block.specs.declared.tables.TheConstants.{INVERSE, RATIO, PLACES_0, PLACES_1, PLACES_2, PLACES_3}
 use Rattle.aes_block.specs.declared.open_tables.TheConstants.{OPEN_LOW, OPEN_HIGH, FIVE, ONE_BELOW, TWO_BELOW}
@@ -414,9 +414,6 @@ open_begun s k bs bk ea ek =
     rw (ea, ek) h
 
 -- the keys
-cons_equal : {a b : ℕ} {xs ys : List ℕ} → a ≡ b → xs ≡ ys → a ∷ xs ≡ b ∷ ys
-cons_equal e f = cc
-
 map_five : (x : List ℕ) → Each1 (Fits w8) x → map (λ b. bit_xor (by_nibbles OPEN_LOW OPEN_HIGH b) FIVE) x
     ≡ map into_open x
 map_five [] h = refl

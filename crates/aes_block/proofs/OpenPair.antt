@@ -19,6 +19,7 @@ use Rattle.aes_block.specs.Opening.{open_turns}
 use Rattle.aes_block.proofs.Bytes.{zip2-xor_bytes}
 use Rattle.aes_block.proofs.Blocks.{IsBlock-add_round_key, IsBlock-inv_sub_bytes, IsBlock-inv_shift_rows}
 use Rattle.aes_block.proofs.Computed.{passes_at}
+use Rattle.aes_block.proofs.Entries.{append_equal}
 use Rattle.aes_block.proofs.OpenLanes.{all_placed, open_begun, open_ended, open_next}
 use Rattle.aes_block.proofs.OpenLanes.{OpensTo, open_round_0-is, open_round_1-is, open_round_2-is, open_round_3-is}
 use Rattle.aes_block.proofs.WideLanes.{zip2-append}
@@ -195,9 +196,6 @@ key_at keys w h (suc (suc (suc (suc (suc (suc (suc (suc (suc (suc (suc (suc (suc
 pub turns_ok : (i : ℕ) → i < 9 → all_places (slice_index_or open_turns i []) ≡ true
 turns_ok = passes_at 9 (λ i. all_places (slice_index_or open_turns i [])) refl
 
-joined : {a b c d : List ℕ} → a ≡ c → b ≡ d → a ++ b ≡ c ++ d
-joined e f = rw (e, f) refl
-
 -- the beginning
 pub begun_both : (a b k : List ℕ) → IsBlock a → IsBlock b → IsBlock k → {v key z o : List ℕ} → v ≡ a ++ b
     → key ≡ map into_open k → z ≡ map (by_nibbles OPEN_LOW OPEN_HIGH) v → o ≡ key ++ key
@@ -207,7 +205,8 @@ begun_both a b k ba bb bk {v} {key} {z} {o} ev ek ez eo =
     both_summed (map (by_nibbles OPEN_LOW OPEN_HIGH) a) (map (by_nibbles OPEN_LOW OPEN_HIGH) b) key key
     (both_mapped (by_nibbles OPEN_LOW OPEN_HIGH) a b ez ev) eo (mapped_length _ a ba.len)
     (ap length ek ∙ mapped_length into_open k bk.len)
-    ∙ joined (open_begun a k ba bk refl ek ∙ all_placed into_open (xor_bytes a k) (IsBlock-add_round_key a k ba bk))
+    ∙ append_equal
+    (open_begun a k ba bk refl ek ∙ all_placed into_open (xor_bytes a k) (IsBlock-add_round_key a k ba bk))
     (open_begun b k bb bk refl ek ∙ all_placed into_open (xor_bytes b k) (IsBlock-add_round_key b k bb bk))
 
 -- the end
@@ -223,11 +222,11 @@ end_both s t k bs bt bk {x} {key} {a} {o} {r} ex ek ea eo h =
     let e : a ≡ xor_bytes (map last xs) key ++ xor_bytes (map last xt) key =
     ea ∙ sym (zip2-xor_bytes (map last x) (key ++ key))
     ∙ both_summed (map last xs) (map last xt) key key (ap (map last) ex ∙ map-append last xs xt) refl refl lk
-    ∙ joined (zip2-xor_bytes (map last xs) key) (zip2-xor_bytes (map last xt) key) in
+    ∙ append_equal (zip2-xor_bytes (map last xs) key) (zip2-xor_bytes (map last xt) key) in
     h (xor_bytes (map last xs) key) (xor_bytes (map last xt) key)
     (ap length (sym (zip2-xor_bytes (map last xs) key)) ∙ summed_length (map last xs) key refl lk)
     (ap length (sym (zip2-xor_bytes (map last xt) key)) ∙ summed_length (map last xt) key refl lk) e
-    ∙ joined (open_ended s k bs bk refl ek refl eo) (open_ended t k bt bk refl ek refl eo)
+    ∙ append_equal (open_ended s k bs bk refl ek refl eo) (open_ended t k bt bk refl ek refl eo)
 
 -- one round more of InvCipher
 pub next_both : (w a b : List ℕ) (r m : ℕ) → 1 ≤ r → r ≤ 13 → m ≡ r → IsBlock a → IsBlock b

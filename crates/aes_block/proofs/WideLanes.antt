@@ -9,12 +9,9 @@ use Rattle.std.proofs.Math.ListN.{get_or-append}
 use Rattle.std.proofs.lemmas.Simd.{swz_l, SwzOk, SwzOk-from_Each1}
 use lib.Lanes.{zip2, pick_l}
 use Rattle.aes_block.specs.Nibbles.{entry, is_place, all_places}
-use Rattle.aes_block.proofs.Computed.{first_true, second_true}
-use Rattle.aes_block.proofs.Entries.{sixteen}
+use Rattle.aes_block.proofs.Computed.{first_true, second_true, both_true}
+use Rattle.aes_block.proofs.Entries.{append_equal, cons_equal, sixteen}
 use Rattle.aes_block.proofs.Lanes.{each_place}
-
-cons_equal : {a b : ℕ} {xs ys : List ℕ} → a ≡ b → xs ≡ ys → a ∷ xs ≡ b ∷ ys
-cons_equal e f = cc
 
 -- the entry that a lane reads, if the vector has t's entries in its block
 entry_read : (x t : List ℕ) (i j : ℕ) → (j < 16 → get_or x (16 * (i / 16) + j) 0 ≡ get_or t j 0) → is_place j ≡ true
@@ -68,23 +65,17 @@ swz_l-append x [] ks i = ap (λ n. swz_l w8 16 x n ks) (omega arith)
 swz_l-append x (j ∷ js) ks i = cons_equal refl (swz_l-append x js ks (suc i)
     ∙ ap (λ n. swz_l w8 16 x (suc i) js ++ swz_l w8 16 x n ks) (omega arith))
 
-joined : {a b c d : List ℕ} → a ≡ c → b ≡ d → a ++ b ≡ c ++ d
-joined e f = rw (e, f) refl
-
 -- two blocks at the same positions
 pub shuffled_both : (a b js : List ℕ) → length a ≡ 16 → length b ≡ 16 → length js ≡ 16 → all_places js ≡ true
     → swz_l w8 16 (a ++ b) 0 (js ++ js) ≡ map (entry a) js ++ map (entry b) js
 shuffled_both a b js la lb l h =
     swz_l-append (a ++ b) js js 0
-    ∙ joined (shuffled_from (a ++ b) a js 0 16 (λ p j z lp lj. read_first a b la p j lp lj) (omega arith) h)
+    ∙ append_equal (shuffled_from (a ++ b) a js 0 16 (λ p j z lp lj. read_first a b la p j lp lj) (omega arith) h)
     (ap (λ n. swz_l w8 16 (a ++ b) n js) (omega arith)
     ∙ shuffled_from (a ++ b) b js 16 32 (λ p j z lp lj. read_second a b la p j z lp lj) (omega arith) h)
 
 pub wide_places_ok : (js : List ℕ) → length js ≡ 32 → all_places js ≡ true → SwzOk w8 16 32 0 js
 wide_places_ok js l h = SwzOk-from_Each1 w8 16 2 32 0 js refl (omega arith) (each_place js h)
-
-both_true : (a b : Bool) → a ≡ true → b ≡ true → (a && b) ≡ true
-both_true a b p q = grind (arith, nat_tests)
 
 pub places_of_two : (js ks : List ℕ) → all_places js ≡ true → all_places ks ≡ true → all_places (js ++ ks) ≡ true
 places_of_two [] ks h g = g

@@ -1,8 +1,7 @@
 // InvCipher of two blocks side by side in one vector of 32 lanes, in the order of the equivalent inverse cipher
 // (FIPS 197, 5.3 and 5.3.5), as `opening` has it for one.
 //
-// Where the processor's vectors have 16 lanes each step is done for one block and then for the other, and the
-// processor works at one where it waits for the other.
+// Where the processor's vectors have 16 lanes the compiler does each step for one block and then for the other.
 
 ghost use Rattle.std.specs.Prelude.{◌≡◌, ◌++◌, ◌-◌, ◌≤◌, [], ℕ, List, length, map, slice_index_or};
 ghost use Rattle.aes_block.specs.Block.{IsBlock, xor_bytes};
