@@ -211,7 +211,8 @@ pub fn pointer_length(bytes: &[u8], at: usize) -> Result<usize, BsonFault>
     Ok(n + m)
 }
 
-/// The layout behind the type byte at `at`.
+/// The layout behind the type byte at `at`. Inline, as the table is.
+#[inline(always)]
 #[tactic(auto, unfolding(crate::specs::Reading::type_at))]
 pub fn layout_behind(tag: u8, at: usize) -> Result<ValueLayout, BsonFault>
     requires { at < 2 ^ 63 }

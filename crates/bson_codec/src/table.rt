@@ -33,7 +33,9 @@ pub enum RawLayout {
     Scope,
 }
 
-/// The layout of a value of this type; `None` where the byte is no type.
+/// The layout of a value of this type; `None` where the byte is no type. Inline, since who walks elements asks it of
+/// each, and a call took as long as the table.
+#[inline(always)]
 #[tactic(auto, unfolding(crate::specs::Table::layout_of))]
 pub fn layout_of(tag: u8) -> Option<ValueLayout>
     ensures row { result ≡ layout_of_type tag }

@@ -48,17 +48,28 @@ pub fn seal_payload_into<B: Block256>(
         → IsPayload algorithm key_id key.now tag plain.now out.new }
 {
     let (front, sealed) = out.split_at_mut(HEAD);
-    let head = head_of(kind, key_id, tag);
-    front.copy_from_slice(&head);
-    seal_into(hooks, key, &head, iv, plain, sealed);
+    put_head(kind, key_id, tag, front);
+    seal_into(hooks, key, front, iv, plain, sealed);
 }
 
 /// The first 18 bytes of a payload.
 fn head_of(kind: u8, key_id: [u8; 16], tag: u8) -> [u8; 18]
     ensures { result ≡ head kind key_id tag }
 {
-    let mut head = [tag; HEAD];
-    head[0] = kind;
-    head[1..17].copy_from_slice(&key_id);
+    let mut head = [0; HEAD];
+    put_head(kind, key_id, tag, &mut head);
     head
+}
+
+/// Writes them where they are to stand. Put together elsewhere and copied at once, they would be read by wider loads
+/// than they were stored by, and the processor would wait for all that was stored before.
+fn put_head(kind: u8, key_id: [u8; 16], tag: u8, out: &mut [u8])
+    requires room { length out.old ≡ 18 }
+    ensures { out.new ≡ head kind key_id tag }
+{
+    let (first, behind) = out.split_at_mut(1);
+    let (id, last) = behind.split_at_mut(16);
+    first.copy_from_slice(&[kind]);
+    id.copy_from_slice(&key_id);
+    last.copy_from_slice(&[tag]);
 }
