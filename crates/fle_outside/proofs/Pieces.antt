@@ -1,7 +1,7 @@
 -- A buffer that is filled from its front, piece by piece.
 use Rattle.std.proofs.Common.{◌≡◌, ℕ, ◌+◌, ◌≤◌, Option, Some, List, [], ◌++◌, length, take, drop, sym, ◌∙◌, ap, subst}
 use Rattle.std.proofs.Common.{arith, append_assoc, append-nil, length-append, length-take-le}
-use Rattle.std.proofs.lemmas.List.{take-append-le, drop-drop}
+use Rattle.std.proofs.lemmas.List.{take-append-le, drop-drop, take_at}
 use Rattle.std.proofs.Math.Seq.{take-append-add, take-length}
 use Rattle.fle_outside.specs.Reads.{ReadTakes}
 use Rattle.fle_outside.specs.declared.answers.ReadAnswer.TheVariants as reads
@@ -44,14 +44,18 @@ filled_more at k n piece new told after within some filled takes =
       takes.1 ∙ ap (λ (x : List ℕ). Some x) dropped,
     )
 
--- the source ended after `at` bytes
-pub filled_end : (at : ℕ) (piece told : List ℕ) (after : Option (List ℕ))
-    → at ≤ length piece → told ≡ take at piece ++ drop at told → ReadTakes (Some (drop at told)) after reads.End piece
-    → (length told ≡ at) × (after ≡ Some [])
-filled_end at piece told after within filled takes =
+-- the source ended after `at` bytes; what its last call left behind them in the buffer is anything
+pub filled_end : (at k : ℕ) (piece new told : List ℕ) (after : Option (List ℕ))
+    → at ≤ length piece → told ≡ take at piece ++ drop at told → ReadTakes (Some (drop at told)) after reads.End new
+    → (length told ≡ at) × (told ≡ take at (put_mid at k piece new)) × (after ≡ Some [])
+filled_end at k piece new told after within filled takes =
     let all : told ≡ take at piece = filled ∙ (ap (λ (x : List ℕ). take at piece ++ x) takes.0
     ∙ append-nil (take at piece)) in
-    (ap length all ∙ length-take-le at piece within, takes.1 ∙ ap (λ (x : List ℕ). Some x) takes.0)
+    let size : length (take at piece) ≡ at = length-take-le at piece within in (
+      ap length all ∙ size,
+      all ∙ sym (take_at (take at piece) (new ++ drop k (drop at piece)) at size),
+      takes.1 ∙ ap (λ (x : List ℕ). Some x) takes.0,
+    )
 
 -- the buffer is filled
 pub filled_whole : (at : ℕ) (piece told : List ℕ) (after : Option (List ℕ))

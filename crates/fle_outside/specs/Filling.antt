@@ -1,5 +1,5 @@
 -- What filling a piece takes from a source that tells what it has left.
-use Rattle.std.specs.Prelude.{◌≡◌, ℕ, ◌+◌, ◌-◌, ◌^◌, ◌<◌, ◌≤◌, min, Option, Some, List, [], ◌++◌, length, drop}
+use Rattle.std.specs.Prelude.{◌≡◌, ℕ, ◌+◌, ◌-◌, ◌^◌, ◌<◌, ◌≤◌, min, Option, Some, List, [], ◌++◌, length, take, drop}
 use Rattle.fle_outside.specs.declared.filling.Fill.{Fill}
 use Rattle.fle_outside.specs.declared.filling.Fill.TheVariants as fills
 
@@ -8,7 +8,7 @@ use Rattle.fle_outside.specs.declared.filling.Fill.TheVariants as fills
 abbrev pub FillTakes : List ℕ → Option (List ℕ) → Fill → List ℕ → Type 0
 FillTakes told after fills.Whole piece = (told ≡ piece ++ drop (length piece) told)
     × (after ≡ Some (drop (length piece) told))
-FillTakes told after (fills.Ended n) piece = (length told ≡ n) × (after ≡ Some [])
+FillTakes told after (fills.Ended n) piece = (length told ≡ n) × (told ≡ take n piece) × (after ≡ Some [])
 FillTakes told after fills.Failed piece = (m : ℕ) × (m ≤ length piece) × (after ≡ Some (drop m told))
 
 -- a source that ended gave fewer bytes than the piece has

@@ -3,6 +3,7 @@ use Rattle.std.proofs.Common.{◌≡◌, ℕ, ◌+◌, ◌^◌, ◌<◌, ◌≤�
 use Rattle.std.proofs.Common.{drop, min, refl, sym, ◌∙◌, ap, subst, arith, append_assoc, length-append}
 use Rattle.std.specs.Int.{from_le_bytes, w32}
 use Rattle.std.proofs.lemmas.List.{drop_all, drop_min, drop_at, drop-drop, take_at}
+use Rattle.std.proofs.Math.Seq.{take-append-add}
 use Rattle.bson_tree.specs.Tree.{Items}
 use Rattle.bson_codec.specs.Reading.{document}
 use Rattle.bson_codec.specs.declared.fault.BsonFault.{BsonFault}
@@ -80,7 +81,7 @@ pub ended_head : (told piece : List ℕ) (after : Option (List ℕ)) (n : ℕ) �
 ended_head told piece after n takes some few = (
   subst (λ (x : ℕ). documents told ≡ ends (short x)) takes.0
       (short_head told (omega (arith, takes.0, some)) (omega (arith, takes.0, few))),
-  all_read told after n takes.0 takes.1,
+  all_read told after n takes.0 takes.2,
 )
 
 -- there was no memory for the document, whose length alone is read
@@ -99,7 +100,7 @@ pub ended_body : (told piece : List ℕ) (after : Option (List ℕ)) (m n : ℕ)
     → FillTakes told after (fills.Ended n) piece → n < m → EndsShort told after n
 ended_body told piece after m n size takes less = (
   subst (λ (x : ℕ). documents told ≡ ends (short x)) takes.0 (short_body told m size (omega (arith, takes.0, less))),
-  all_read told after n takes.0 takes.1,
+  all_read told after n takes.0 takes.2,
 )
 
 -- the document's bytes are read
@@ -159,7 +160,11 @@ fill_whole head told rest after takes =
 
 pub fill_ended : (head told rest : List ℕ) (after : Option (List ℕ)) (n : ℕ) → FillTakes told after (fills.Ended n) rest
     → FillTakes (head ++ told) after (fills.Ended (length head + n)) (head ++ rest)
-fill_ended head told rest after n takes = (length-append head told ∙ ap (λ (x : ℕ). length head + x) takes.0, takes.1)
+fill_ended head told rest after n takes = (
+  length-append head told ∙ ap (λ (x : ℕ). length head + x) takes.0,
+  ap (λ (x : List ℕ). head ++ x) takes.1 ∙ sym (take-append-add head rest n),
+  takes.2,
+)
 
 pub fill_failed : (head told rest : List ℕ) (after : Option (List ℕ)) → FillTakes told after fills.Failed rest
     → FillTakes (head ++ told) after fills.Failed (head ++ rest)

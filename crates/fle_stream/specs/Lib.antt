@@ -7,6 +7,7 @@ pub mod Run
 pub mod Turn
 pub mod Judge
 pub mod Line
+pub mod Held
 pub mod Task
 pub mod Files
 pub mod Did

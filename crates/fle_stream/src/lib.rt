@@ -14,6 +14,7 @@ pub mod end;
 pub mod file;
 pub mod judging;
 pub mod line;
+mod line_buffer;
 pub mod made;
 pub mod next;
 pub mod status;

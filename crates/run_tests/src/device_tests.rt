@@ -106,19 +106,27 @@ fn a_line_that_fails_leaves_the_status(rt: HostRuntime) {
         ..sealing(NULL)
     };
     stops(&rt, rt.alloc(), run, Status::Refused, "");
-    let lines: &[(u64, &str)] = &[
-        (1, "fle: "),
-        (2, "fle: 1"),
-        (3, "fle: 1 "),
-        (4, "fle: 1 1"),
-        (5, "fle: 1 1 "),
-        (6, "fle: 1 1 5"),
+    let lines: &[(usize, &str)] = &[
+        (0, ""),
+        (1, "f"),
+        (5, "fle: "),
+        (6, "fle: 1"),
+        (16, "fle: 1 1 5 1.0.0"),
     ];
-    for (call, line) in lines {
+    for (room, line) in lines {
         let run = Run {
-            diag: &[*call],
+            diag_room: *room,
             ..marking(NULL)
         };
         stops(&rt, rt.alloc(), run, Status::Refused, line);
     }
+}
+
+#[test]
+fn a_line_is_one_write(rt: HostRuntime) {
+    let run = Run {
+        diag: &[1],
+        ..marking(NULL)
+    };
+    stops(&rt, rt.alloc(), run, Status::Refused, "fle: 1 1 5 1.0.0\n");
 }

@@ -33,7 +33,8 @@ const NONE: [u64; 0] = [];
 const NO_BLOCK: [[u8; 16]; 0] = [];
 
 /// A run: its words; the files `keys`, `infos` (in pieces) and `master`; its input, and how many bytes of it one read
-/// gives; how many bytes the output has room for; the blocks to come; and the numbers of the calls that fail.
+/// gives; how many bytes the output and the line have room for; the blocks to come; and the numbers of the calls that
+/// fail.
 #[derive(Clone, Copy)]
 pub(crate) struct Run<'a> {
     pub(crate) words: &'a [&'a str],
@@ -48,6 +49,7 @@ pub(crate) struct Run<'a> {
     pub(crate) folder: &'a [u64],
     pub(crate) sink: &'a [u64],
     pub(crate) diag: &'a [u64],
+    pub(crate) diag_room: usize,
     pub(crate) draws: &'a [u64],
 }
 
@@ -74,6 +76,7 @@ pub(crate) fn marking(input: &[u8]) -> Run<'_> {
         folder: &NONE,
         sink: &NONE,
         diag: &NONE,
+        diag_room: 100,
         draws: &NONE,
     }
 }
@@ -168,7 +171,7 @@ fn look<B: Block256>(rt: &impl Abort, alloc: Global, run: Run<'_>, hooks: &B) ->
     let mut input = source_of(rt, alloc, run);
     let mut files = folder_of(rt, alloc, run);
     let mut out = sink_of(rt, alloc, run.room, run.sink);
-    let mut diag = sink_of(rt, alloc, 100, run.diag);
+    let mut diag = sink_of(rt, alloc, run.diag_room, run.diag);
     let mut entropy = entropy_of(rt, alloc, run);
     let status = fle(
         alloc,

@@ -24,7 +24,8 @@ pub returns-in-End-clause-bytes : goal.returns-in-End-clause-bytes
 returns-in-End-clause-bytes g c = λ told is.
     let before = c.loop-at.invariant.filled told is in
     let takes = rw before.1 at c.in-End.ensures.bytes in
-    filled_end c.loop-at.at c.loop-at.piece told _ c.loop-at.invariant.within before.0 takes
+    filled_end c.loop-at.at (length c.loop-at.piece - c.loop-at.at) c.loop-at.piece c.read.new.piece told _
+    c.loop-at.invariant.within before.0 takes
 
 pub returns-clause-bytes : goal.returns-clause-bytes
 returns-clause-bytes g c = λ told is.

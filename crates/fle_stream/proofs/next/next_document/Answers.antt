@@ -31,7 +31,7 @@ pub returns-in-Ended-eq0-clause-next : goal.returns-in-Ended-eq0-clause-next
 returns-in-Ended-eq0-clause-next g c = λ told is.
     let takes = c.in-Ended-eq0.ensures.bytes told is in (
       none_left told (omega (arith, takes.0, c.in-Ended-eq0)),
-      all_read told _ 0 (omega (arith, takes.0, c.in-Ended-eq0)) takes.1,
+      all_read told _ 0 (omega (arith, takes.0, c.in-Ended-eq0)) takes.2,
     )
 
 pub returns-in-Ended-clause-next : goal.returns-in-Ended-clause-next

@@ -1,6 +1,6 @@
 -- Each turn so far counted an error.
 use Rattle.std.proofs.Common.{◌+◌, ◌-◌, ◌^◌, ◌<◌, ◌≤◌, min}
-use Rattle.fle_outside.proofs.system_folder.read_file.Given as goal
+use Rattle.fle_outside.proofs.system_folder.OpenedFile.read_on.Given as goal
 
 abbrev pub invariant-loop-turn : goal.invariant-loop-turn
 invariant-loop-turn g l = record {
