@@ -56,7 +56,7 @@ reply_written bytes output e same fits = by_fit (nat_lt reply_limit (length byte
 
 -- there was no memory, whatever the document comes to
 pub judged_memory : (v : Verdict) (e : EntropySeen) → JudgeIs v e e judgements.Memory
-judged_memory (writes plan) e = ([], omega arith, draws_none e)
+judged_memory (writes plan) e = draws_none e
 judged_memory (refused reason place) e = draws_none e
 judged_memory too_long e = draws_none e
 

@@ -43,7 +43,7 @@ place_told is start at place e whole found stands =
 -- memory may run out at any document
 out_of_memory : (is : Items) (bad : Option ℕ) (e : EntropySeen) → JudgeIs (shown_by is bad) e e judgements.Memory
 out_of_memory is (Some at) e = draws_none e
-out_of_memory is None e = ([], omega arith, draws_none e)
+out_of_memory is None e = draws_none e
 
 unplaced : (is : Items) (e : EntropySeen) → JudgeIs (show_verdict is) e e judgements.Memory
 unfolding show_verdict

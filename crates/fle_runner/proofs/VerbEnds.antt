@@ -1,5 +1,5 @@
 -- The ends that a verb can make, and the statuses that they have.
-use Rattle.std.proofs.Common.{◌≡◌, ℕ, ◌≤◌, List, Option, Some, None, ap, subst, arith}
+use Rattle.std.proofs.Common.{◌≡◌, ℕ, ◌≤◌, List, Option, Some, None, ap, refl, subst, arith}
 use Rattle.fle_stream.specs.Codes.{status_of}
 use Rattle.fle_outside.specs.Files.{Files}
 use Rattle.fle_stream.specs.Ended.{IsUnread}
@@ -16,7 +16,8 @@ use Rattle.fle_words.specs.Words.{Form}
 use Rattle.fle_runner.specs.Verbs.{task_of}
 use Rattle.fle_runner.specs.Keys.{IsOfKeys, IsOfText}
 use Rattle.fle_runner.specs.Keygen.{IsOfKeygen}
-use Rattle.fle_runner.specs.Statuses.{IsStatusOfDemo, IsStatusOfKeygen, IsStatusOfKeys}
+use Rattle.fle_runner.specs.Statuses.{IsStatusOfDemo, IsStatusOfEncrypt, IsStatusOfKeygen, IsStatusOfKeys}
+use Rattle.fle_runner.specs.Statuses.{IsStatusOfShow, IsStatusOfUndrawn}
 
 -- an end of a stream is none of words or files
 pub stream_reads : (why : Why) → IsOfStream why → IsUnread (status_of why) → ⊥
@@ -84,6 +85,49 @@ keygen_status (whys.Cut cuts.Input) kind = tt
 keygen_status (whys.Cut cuts.Output) kind = tt
 keygen_status (whys.Cut cuts.Entropy) kind = tt
 keygen_status (whys.Cut cuts.Memory) kind = tt
+
+-- a stream that reads no file and draws no block
+pub show_status : (why : Why) → IsOfStream why → (why ≡ whys.Cut cuts.Entropy → ⊥) → IsStatusOfShow (status_of why)
+show_status (whys.Finished finishes.Done) kind undrawn = tt
+show_status (whys.Finished (finishes.Refused reason place)) kind undrawn = tt
+show_status (whys.Finished (finishes.Malformed fault)) kind undrawn = tt
+show_status (whys.Finished (finishes.Limit bound)) kind undrawn = tt
+show_status (whys.Finished finishes.Words) kind undrawn = kind
+show_status (whys.Finished (finishes.Setup file fault document)) kind undrawn = kind
+show_status (whys.Cut cuts.Folder) kind undrawn = kind
+show_status (whys.Cut cuts.Input) kind undrawn = tt
+show_status (whys.Cut cuts.Output) kind undrawn = tt
+show_status (whys.Cut cuts.Entropy) kind undrawn = undrawn refl
+show_status (whys.Cut cuts.Memory) kind undrawn = tt
+
+-- files and a stream, and no block
+pub undrawn_status : (why : Why) → (why ≡ whys.Finished finishes.Words → ⊥) → (why ≡ whys.Cut cuts.Entropy → ⊥)
+    → IsStatusOfUndrawn (status_of why)
+undrawn_status (whys.Finished finishes.Done) formed undrawn = tt
+undrawn_status (whys.Finished (finishes.Refused reason place)) formed undrawn = tt
+undrawn_status (whys.Finished (finishes.Malformed fault)) formed undrawn = tt
+undrawn_status (whys.Finished (finishes.Limit bound)) formed undrawn = tt
+undrawn_status (whys.Finished finishes.Words) formed undrawn = formed refl
+undrawn_status (whys.Finished (finishes.Setup file fault document)) formed undrawn = tt
+undrawn_status (whys.Cut cuts.Folder) formed undrawn = tt
+undrawn_status (whys.Cut cuts.Input) formed undrawn = tt
+undrawn_status (whys.Cut cuts.Output) formed undrawn = tt
+undrawn_status (whys.Cut cuts.Entropy) formed undrawn = undrawn refl
+undrawn_status (whys.Cut cuts.Memory) formed undrawn = tt
+
+-- files, a stream and blocks
+pub encrypt_status : (why : Why) → (why ≡ whys.Finished finishes.Words → ⊥) → IsStatusOfEncrypt (status_of why)
+encrypt_status (whys.Finished finishes.Done) formed = tt
+encrypt_status (whys.Finished (finishes.Refused reason place)) formed = tt
+encrypt_status (whys.Finished (finishes.Malformed fault)) formed = tt
+encrypt_status (whys.Finished (finishes.Limit bound)) formed = tt
+encrypt_status (whys.Finished finishes.Words) formed = formed refl
+encrypt_status (whys.Finished (finishes.Setup file fault document)) formed = tt
+encrypt_status (whys.Cut cuts.Folder) formed = tt
+encrypt_status (whys.Cut cuts.Input) formed = tt
+encrypt_status (whys.Cut cuts.Output) formed = tt
+encrypt_status (whys.Cut cuts.Entropy) formed = tt
+encrypt_status (whys.Cut cuts.Memory) formed = tt
 
 -- words that have a form don't lack it
 pub unasked : {A : Type 0} {form : Option A} {asked : A} → form ≡ Some asked → form ≡ None → ⊥

@@ -1,9 +1,9 @@
 -- How a verb ends, by what its words ask for: its statuses, and what it did with the input, the files and the blocks.
-use Rattle.std.specs.Prelude.{◌≡◌, ◌⊎◌, Option, Some}
+use Rattle.std.specs.Prelude.{◌≡◌, ◌≤◌, ◌⊎◌, Option, Some}
 use Rattle.fle_outside.specs.Counts.{Rose}
-use Rattle.fle_outside.specs.Seen.{EntropySeen, FolderSeen}
+use Rattle.fle_outside.specs.Seen.{EntropySeen, FolderSeen, SourceSeen}
 use Rattle.fle_runner.specs.Keygen.{DrawsEight}
-use Rattle.fle_words.specs.Words.{DrawsNoBlock, Form, keys, keygen, demo}
+use Rattle.fle_words.specs.Words.{DrawsNoBlock, Form, mark, show, keys, keygen, encrypt, decrypt, demo}
 use Rattle.fle_stream.specs.declared.status.Status.{Status}
 use Rattle.fle_stream.specs.declared.status.Status.TheVariants as statuses
 
@@ -18,6 +18,11 @@ ReadsNoInput form = ⊥
 abbrev pub AsksKey : Option Form → Type 0
 AsksKey (Some (keygen master names)) = Unit {0}
 AsksKey form = ⊥
+
+-- the words ask for the text of documents
+abbrev pub AsksText : Option Form → Type 0
+AsksText (Some show) = Unit {0}
+AsksText form = ⊥
 
 -- the words ask for the demo
 abbrev pub AsksDemo : Option Form → Type 0
@@ -45,25 +50,52 @@ IsStatusOfDemo statuses.WriteFault = Unit {0}
 IsStatusOfDemo statuses.Memory = Unit {0}
 IsStatusOfDemo status = ⊥
 
+-- `show` reads no file and draws no block: 0, 1, 3, 5, 6, 8 or 9
+abbrev pub IsStatusOfShow : Status → Type 0
+IsStatusOfShow statuses.Words = ⊥
+IsStatusOfShow statuses.Setup = ⊥
+IsStatusOfShow statuses.EntropyFault = ⊥
+IsStatusOfShow status = Unit {0}
+
+-- `mark` and `decrypt` read files and draw no block: any but 2 and 7
+abbrev pub IsStatusOfUndrawn : Status → Type 0
+IsStatusOfUndrawn statuses.Words = ⊥
+IsStatusOfUndrawn statuses.EntropyFault = ⊥
+IsStatusOfUndrawn status = Unit {0}
+
+-- `encrypt`: any but 2
+abbrev pub IsStatusOfEncrypt : Status → Type 0
+IsStatusOfEncrypt statuses.Words = ⊥
+IsStatusOfEncrypt status = Unit {0}
+
 -- a run of these words may end with this status, as far as the verb decides it
 abbrev pub MayEnd : Option Form → Status → Type 0
+MayEnd (Some (mark db schemas)) status = IsStatusOfUndrawn status
+MayEnd (Some show) status = IsStatusOfShow status
 MayEnd (Some (keys vault)) status = IsStatusOfKeys status
 MayEnd (Some (keygen master names)) status = IsStatusOfKeygen status
+MayEnd (Some (encrypt db vault schemas master)) status = IsStatusOfEncrypt status
+MayEnd (Some (decrypt vault master)) status = IsStatusOfUndrawn status
 MayEnd (Some (demo db n)) status = IsStatusOfDemo status
 MayEnd form status = Unit {0}
 
 -- a run of these words ended so, with these objects before and after it
-pub record EndsByVerb {S F N : Type 0} (form : Option Form) (status : Status) (input input_after : S)
-    (shows : F → FolderSeen) (files files_after : F) (seen : N → EntropySeen)
+pub record EndsByVerb {S F N : Type 0} (form : Option Form) (status : Status) (reads : S → SourceSeen)
+    (input input_after : S) (shows : F → FolderSeen) (files files_after : F) (seen : N → EntropySeen)
     (entropy entropy_after : N) : Type 0 where
   -- the verbs without random blocks draw none, so they never end with 7
   pub undrawn : DrawsNoBlock form → status ≡ statuses.EntropyFault → ⊥
-  -- `keys` ends with 0, 4, 5, 6 or 8, `keygen` with these or 7, and `demo` with 0, 6 or 8
+  -- `keys` ends with 0, 4, 5, 6 or 8, `keygen` with these or 7, `demo` with 0, 6 or 8, `show` with none of 2, 4 and 7,
+  -- `mark` and `decrypt` with neither 2 nor 7, `encrypt` not with 2
   pub allowed : MayEnd form status
-  -- they make no call on the input
+  -- `keys`, `keygen` and `demo` make no call on the input
   pub no_input : ReadsNoInput form → input_after ≡ input
   -- so with 5 a named file failed
   pub by_folder : ReadsNoInput form → status ≡ statuses.ReadFault → Rose (shows files).faults (shows files_after).faults
+  -- and with 5 of `show` the input failed
+  pub by_source : AsksText form → status ≡ statuses.ReadFault → Rose (reads input).faults (reads input_after).faults
+  -- `keygen` doesn't end with 7 where eight blocks are assured, told or not
+  pub eight_assured : AsksKey form → 8 ≤ (seen entropy).assured → status ≡ statuses.EntropyFault → ⊥
   -- where `keygen` wants memory, it has drawn no block or the eight of a key
   pub none_or_eight : AsksKey form → status ≡ statuses.Memory
       → (entropy_after ≡ entropy) ⊎ DrawsEight (seen entropy) (seen entropy_after)

@@ -4,7 +4,7 @@ ghost use Rattle.std.specs.Prelude.{true, ◌≡◌, ◌<◌, ◌≤◌, ◌⊎�
 ghost use Rattle.fle_outside.specs.Counts.{Rose};
 ghost use Rattle.fle_outside.specs.Files.{Files};
 ghost use Rattle.fle_runner.specs.Keygen.{DrawsEight};
-ghost use Rattle.fle_runner.specs.Statuses.{AsksDemo, AsksKey, MayEnd, ReadsNoInput};
+ghost use Rattle.fle_runner.specs.Statuses.{AsksDemo, AsksKey, AsksText, MayEnd, ReadsNoInput};
 ghost use Rattle.fle_runner.specs.Verbs.{task};
 ghost use Rattle.fle_words.specs.Words.{form_of, DrawsNoBlock};
 ghost use Rattle.fle_stream.specs.Codes.{status_of};
@@ -70,6 +70,9 @@ pub fn act<S: Source, F: Folder, O: Sink, N: Entropy, B: Block256>(
     ensures statuses { MayEnd (form_of (map string_bytes words.now)) (status_of result.why) }
     ensures no_input { ReadsNoInput (form_of (map string_bytes words.now))
         → (input.new ≡ input.old) × (result.why ≡ Why.Cut Cut.Input → ⊥) }
+    ensures no_folder { AsksText (form_of (map string_bytes words.now)) → result.why ≡ Why.Cut Cut.Folder → ⊥ }
+    ensures eight_assured { AsksKey (form_of (map string_bytes words.now)) → 8 ≤ (N.seen entropy.old).assured
+        → result.why ≡ Why.Cut Cut.Entropy → ⊥ }
     ensures none_or_eight { AsksKey (form_of (map string_bytes words.now)) → result.why ≡ Why.Cut Cut.Memory
         → (entropy.new ≡ entropy.old) ⊎ DrawsEight (N.seen entropy.old) (N.seen entropy.new) }
     ensures alone { AsksDemo (form_of (map string_bytes words.now))

@@ -65,6 +65,7 @@ pub fn keygen<F: Folder, O: Sink, N: Entropy, B: Block256>(
     ensures entropy_sure { (all : Files) (told : List ℕ) → (F.seen files.old).told ≡ Some all
         → draws_of (outcome_of (keygen_task (map string_bytes names.now) time (file_of all master.now)) told).outputs
         ≤ (N.seen entropy.old).assured → result.why ≡ Why.Cut Cut.Entropy → ⊥ }
+    ensures eight_assured { 8 ≤ (N.seen entropy.old).assured → result.why ≡ Why.Cut Cut.Entropy → ⊥ }
 {
     match load_master(alloc, files, 1, master) {
         Ok(master) => make_key(alloc, &master, names, time, out, entropy, hooks),

@@ -66,8 +66,8 @@ pub fn fle<S: Source, F: Folder, O: Sink, G: Sink, N: Entropy, B: Block256>(
     ensures entropy_sure { DrawsSurely (task (cast_unsigned w64 now_ms) (map string_bytes words.now))
         (world (S.seen input.old) (F.seen files.old) (O.seen out.old) (G.seen diag.old) (N.seen entropy.old)) result }
     // What each verb may end with, and what it then did with the input, the files and the blocks.
-    ensures verb { EndsByVerb (form_of (map string_bytes words.now)) result input.old input.new F.seen files.old
-        files.new N.seen entropy.old entropy.new }
+    ensures verb { EndsByVerb (form_of (map string_bytes words.now)) result S.seen input.old input.new F.seen
+        files.old files.new N.seen entropy.old entropy.new }
 {
     let end = act(
         alloc,

@@ -107,7 +107,7 @@ step_memory o told after most entropy entropy_after out number more end left dra
 
 pub memory_none : (outputs : List Output) → CutsIn cuts.Memory outputs [] []
 memory_none [] = (refl, refl)
-memory_none (o ∷ os) = (omega arith, refl)
+memory_none (o ∷ os) = ((λ _. refl, omega arith), refl)
 
 -- the document's bytes were taken
 pub past : (n most : ℕ) (told : List ℕ) (after : Option (List ℕ)) → n ≤ most → after ≡ Some (drop n told)
@@ -209,8 +209,8 @@ pub unjudged : (v : Verdict) (o : Outcome) (number n most : ℕ) (told : List �
     → n ≤ most → after ≡ Some (drop n told) → JudgeIs v entropy entropy_after judgements.Memory
     → LastStep (judged v number n o) told after most entropy entropy_after out out number (whys.Cut cuts.Memory)
 unjudged (writes plan) o number n most told after entropy entropy_after out within left says =
-    step_memory (judged (writes plan) number n o) told after most entropy entropy_after out number says.0 (says.1, refl)
-    (past n most told after within left) says.2
+    step_memory (judged (writes plan) number n o) told after most entropy entropy_after out number []
+    ((λ _. refl, omega arith), refl) (past n most told after within left) says
 unjudged (refused r p) o number n most told after entropy entropy_after out within left says =
     step_memory (finished (finishes.Refused r p) number n) told after most entropy entropy_after out number []
     (refl, refl) (past n most told after within left) says
@@ -234,7 +234,7 @@ pub judge_later : (v : Verdict) (before after : EntropySeen) (answer : Judged) �
     → before.faults ≤ after.faults
 judge_later (writes plan) before after (judgements.Written output) says = says.2.later
 judge_later (writes plan) before after judgements.Undrawn says = says.first.later
-judge_later (writes plan) before after judgements.Memory says = says.2.later
+judge_later (writes plan) before after judgements.Memory says = says.later
 judge_later (writes plan) before after (judgements.Refused r p) says = absurd says
 judge_later (writes plan) before after judgements.TooLong says = absurd says
 judge_later (refused reason place) before after (judgements.Refused r p) says = says.2.later

@@ -97,4 +97,4 @@ pub did_unkept : (plan : Plan) (drawn : List Block) (told : List ℕ) (after : O
     → Did (makes plan) told after before now out out 0 (whys.Cut cuts.Memory)
 did_unkept plan drawn told after before now out few draws left =
     cut_short plan cuts.Memory drawn [] told after before now out out draws (gains_none out.told)
-    ((few, refl), (0, omega arith, left), λ no. absurd no)
+    (((λ some. absurd (omega (arith, some)), few), refl), (0, omega arith, left), λ no. absurd no)

@@ -12,6 +12,11 @@ use Rattle.fle_stream.specs.declared.why.Cut.TheVariants as cuts
 use Rattle.fle_stream.specs.declared.why.Why.{Why}
 use Rattle.fle_stream.specs.declared.why.Why.TheVariants as whys
 
+-- where memory ran out, a document's output has drawn no block; the one output of a verb that reads no input, whose
+-- document has the number 0, may have drawn some of its blocks
+abbrev pub DrawnInVain : Output → List Block → Type 0
+DrawnInVain o more = (0 < o.number → more ≡ []) × (length more ≤ o.plan.draws)
+
 -- what was written of the outputs that are left, by what cut the run short: the blocks that the next one drew, and the
 -- part of it that was written
 abbrev pub CutsIn : Cut → List Output → List Block → List ℕ → Type 0
@@ -22,7 +27,7 @@ CutsIn cuts.Output (o ∷ os) more part = (length more ≡ o.plan.draws) × IsPr
 CutsIn cuts.Entropy [] more part = ⊥
 CutsIn cuts.Entropy (o ∷ os) more part = (length more < o.plan.draws) × (part ≡ [])
 CutsIn cuts.Memory [] more part = (more ≡ []) × (part ≡ [])
-CutsIn cuts.Memory (o ∷ os) more part = (length more ≤ o.plan.draws) × (part ≡ [])
+CutsIn cuts.Memory (o ∷ os) more part = DrawnInVain o more × (part ≡ [])
 
 -- so many bytes were taken, and at most `most` of those behind them
 abbrev pub HandedPast : ℕ → ℕ → List ℕ → Option (List ℕ) → Type 0

@@ -10,11 +10,12 @@ use Rattle.fle_stream.proofs.Programs.{did_task, did_fail, ends_task, ends_each}
 use Rattle.fle_words.specs.Words.{Form, DrawsNoBlock}
 use Rattle.fle_runner.specs.Keys.{IsOfText}
 use Rattle.fle_runner.specs.Show.{show_verdict}
-use Rattle.fle_runner.specs.Statuses.{AsksDemo, AsksKey, MayEnd, ReadsNoInput}
+use Rattle.fle_runner.specs.Statuses.{AsksDemo, AsksKey, AsksText, MayEnd, ReadsNoInput}
 use Rattle.fle_runner.specs.Verdicts.{plain_plan}
 use Rattle.fle_runner.proofs.Vaults.{ends_text}
 use Rattle.fle_runner.proofs.VerbEnds.{task_asked, bytes_enough, blocks_enough}
-use Rattle.fle_runner.proofs.VerbEnds.{keys_status, keygen_status, text_status, stream_reads, text_reads}
+use Rattle.fle_runner.proofs.VerbEnds.{encrypt_status, keys_status, keygen_status, show_status, text_status}
+use Rattle.fle_runner.proofs.VerbEnds.{stream_reads, text_reads, undrawn_status}
 use Rattle.fle_runner.proofs.VerbEnds.{took_none, unasked, uncut}
 use Rattle.fle_runner.proofs.act.act.Goals as goal
 
@@ -42,6 +43,8 @@ returns-in-Nothing g c =
       entropy_sure = λ all told has is enough at. uncut at;
       statuses = subst (λ (f : Option Form). MayEnd f statuses.Words) c.in-Nothing.ensures.asked tt;
       no_input = λ no. absurd (subst ReadsNoInput asked no);
+      no_folder = λ asks. absurd (subst AsksText asked asks);
+      eight_assured = λ asks. absurd (subst AsksKey asked asks);
       none_or_eight = λ asks. absurd (subst AsksKey asked asks);
       alone = λ asks. absurd (subst AsksDemo asked asks);
       undrawn = λ _ at. uncut at;
@@ -69,8 +72,11 @@ returns-in-Mark g c =
           ends.out_sure all told has is (bytes_enough told (task_asked c.args.time all asked) enough);
       entropy_cause = λ at. absurd (ends.undrawn at);
       entropy_sure = λ all told has is enough. ends.undrawn;
-      statuses = subst (λ (f : Option Form). MayEnd f (status_of c.mark.result.why)) c.in-Mark.ensures.asked tt;
+      statuses = subst (λ (f : Option Form). MayEnd f (status_of c.mark.result.why)) c.in-Mark.ensures.asked
+          (undrawn_status _ ends.formed ends.undrawn);
       no_input = λ no. absurd (subst ReadsNoInput asked no);
+      no_folder = λ asks. absurd (subst AsksText asked asks);
+      eight_assured = λ asks. absurd (subst AsksKey asked asks);
       none_or_eight = λ asks. absurd (subst AsksKey asked asks);
       alone = λ asks. absurd (subst AsksDemo asked asks);
       undrawn = λ _. ends.undrawn;
@@ -98,8 +104,11 @@ returns-in-Show g c =
           ends.out_sure told is (bytes_enough told (task_asked c.args.time all asked) enough);
       entropy_cause = λ at. absurd (ends.undrawn at);
       entropy_sure = λ all told has is enough. ends.undrawn;
-      statuses = subst (λ (f : Option Form). MayEnd f (status_of c.show.result.why)) c.in-Show.ensures.asked tt;
+      statuses = subst (λ (f : Option Form). MayEnd f (status_of c.show.result.why)) c.in-Show.ensures.asked
+          (show_status _ ends.kind ends.undrawn);
       no_input = λ no. absurd (subst ReadsNoInput asked no);
+      no_folder = λ _ at. subst IsOfStream at ends.kind;
+      eight_assured = λ asks. absurd (subst AsksKey asked asks);
       none_or_eight = λ asks. absurd (subst AsksKey asked asks);
       alone = λ asks. absurd (subst AsksDemo asked asks);
       undrawn = λ _. ends.undrawn;
@@ -131,6 +140,8 @@ returns-in-Keys g c =
           subst (λ (f : Option Form). MayEnd f (status_of c.keys.result.why)) c.in-Keys.ensures.asked
           (keys_status c.keys.result.why ends.kind);
       no_input = λ _. (refl, ends.no_read);
+      no_folder = λ asks. absurd (subst AsksText asked asks);
+      eight_assured = λ asks. absurd (subst AsksKey asked asks);
       none_or_eight = λ asks. absurd (subst AsksKey asked asks);
       alone = λ asks. absurd (subst AsksDemo asked asks);
       undrawn = λ _. ends.undrawn;
@@ -163,6 +174,8 @@ returns-in-Keygen g c =
           subst (λ (f : Option Form). MayEnd f (status_of c.keygen.result.why)) c.in-Keygen.ensures.asked
           (keygen_status c.keygen.result.why ends.kind);
       no_input = λ _. (refl, ends.no_read);
+      no_folder = λ asks. absurd (subst AsksText asked asks);
+      eight_assured = λ _. ends.eight_assured;
       none_or_eight = λ _. ends.none_or_eight;
       alone = λ asks. absurd (subst AsksDemo asked asks);
       undrawn = λ none. absurd (subst DrawsNoBlock asked none);
@@ -191,8 +204,11 @@ returns-in-Encrypt g c =
       entropy_cause = ends.entropy_cause;
       entropy_sure = λ all told has is enough.
           ends.entropy_sure all told has is (blocks_enough told (task_asked c.args.time all asked) enough);
-      statuses = subst (λ (f : Option Form). MayEnd f (status_of c.encrypt.result.why)) c.in-Encrypt.ensures.asked tt;
+      statuses = subst (λ (f : Option Form). MayEnd f (status_of c.encrypt.result.why)) c.in-Encrypt.ensures.asked
+          (encrypt_status _ ends.formed);
       no_input = λ no. absurd (subst ReadsNoInput asked no);
+      no_folder = λ asks. absurd (subst AsksText asked asks);
+      eight_assured = λ asks. absurd (subst AsksKey asked asks);
       none_or_eight = λ asks. absurd (subst AsksKey asked asks);
       alone = λ asks. absurd (subst AsksDemo asked asks);
       undrawn = λ none. absurd (subst DrawsNoBlock asked none);
@@ -220,8 +236,11 @@ returns-in-Decrypt g c =
           ends.out_sure all told has is (bytes_enough told (task_asked c.args.time all asked) enough);
       entropy_cause = λ at. absurd (ends.undrawn at);
       entropy_sure = λ all told has is enough. ends.undrawn;
-      statuses = subst (λ (f : Option Form). MayEnd f (status_of c.decrypt.result.why)) c.in-Decrypt.ensures.asked tt;
+      statuses = subst (λ (f : Option Form). MayEnd f (status_of c.decrypt.result.why)) c.in-Decrypt.ensures.asked
+          (undrawn_status _ ends.formed ends.undrawn);
       no_input = λ no. absurd (subst ReadsNoInput asked no);
+      no_folder = λ asks. absurd (subst AsksText asked asks);
+      eight_assured = λ asks. absurd (subst AsksKey asked asks);
       none_or_eight = λ asks. absurd (subst AsksKey asked asks);
       alone = λ asks. absurd (subst AsksDemo asked asks);
       undrawn = λ _. ends.undrawn;
@@ -255,6 +274,8 @@ returns-in-Demo g c =
           subst (λ (f : Option Form). MayEnd f (status_of c.demo.result.why)) c.in-Demo.ensures.asked
           (text_status c.demo.result.why ends.kind);
       no_input = λ _. (refl, λ at. subst IsOfText at ends.kind);
+      no_folder = λ asks. absurd (subst AsksText asked asks);
+      eight_assured = λ asks. absurd (subst AsksKey asked asks);
       none_or_eight = λ asks. absurd (subst AsksKey asked asks);
       alone = λ _. (refl, refl);
       undrawn = λ _ at. subst IsOfText at ends.kind;

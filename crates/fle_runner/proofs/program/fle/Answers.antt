@@ -82,6 +82,8 @@ returns-clause-verb g c = record {
   allowed = search rules;
   no_input = search rules;
   by_folder = search rules;
+  by_source = search rules;
+  eight_assured = search rules;
   none_or_eight = search rules;
   alone = search rules;
 }

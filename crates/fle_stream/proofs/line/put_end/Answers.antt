@@ -1,5 +1,5 @@
 -- The line that was held is written.
-use Rattle.std.proofs.Common.{◌≡◌, ℕ, List, [], ◌++◌, Option, Some, None, refl, sym, ◌∙◌, ap, subst}
+use Rattle.std.proofs.Common.{◌≡◌, ℕ, List, [], ◌++◌, Option, Some, None, refl, ◌∙◌, ap, subst}
 use Rattle.fle_outside.specs.Writing.{WritesWhole}
 use Rattle.fle_stream.specs.Held.{Held}
 use Rattle.fle_stream.specs.Line.{line_of}
