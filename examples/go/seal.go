@@ -1,14 +1,14 @@
-// Seals an insert by `fle encrypt` and opens it by `fle decrypt`, with the BSON of MongoDB's Go driver.
-// Run from the top, in a module that has go.mongodb.org/mongo-driver/v2: go run examples/go/seal.go
+// Keeps `fle encrypt` and `fle decrypt` open and sends a command at a time through them: bytes of BSON in, bytes out.
+// Run from the top, with fle in PATH: go run examples/go/seal.go
 package main
 
 import (
 	"bytes"
+	"encoding/binary"
 	"fmt"
+	"io"
 	"os"
 	"os/exec"
-
-	"go.mongodb.org/mongo-driver/v2/bson"
 )
 
 const (
@@ -17,34 +17,61 @@ const (
 	master  = "examples/EXAMPLE-ONLY.master"
 )
 
-// run gives what a run of fle with these words makes of a stream of documents; where it fails, its line.
-func run(stream []byte, words ...string) ([]byte, error) {
-	var out, line bytes.Buffer
-	command := exec.Command("./fle", words...)
-	command.Stdin, command.Stdout, command.Stderr = bytes.NewReader(stream), &out, &line
-	if err := command.Run(); err != nil {
-		return out.Bytes(), fmt.Errorf("%w: %s", err, bytes.TrimSpace(line.Bytes()))
+// Kept is one process: it answers each document before it takes the next. Its line, where it refuses one, goes to our
+// own standard error.
+type Kept struct {
+	in  io.WriteCloser
+	out io.Reader
+}
+
+// begin starts fle with these words.
+func begin(words ...string) (*Kept, error) {
+	command := exec.Command("fle", words...)
+	command.Stderr = os.Stderr
+	in, err := command.StdinPipe()
+	if err != nil {
+		return nil, err
 	}
-	return out.Bytes(), nil
+	out, err := command.StdoutPipe()
+	if err != nil {
+		return nil, err
+	}
+	return &Kept{in, out}, command.Start()
+}
+
+// ask gives the answer to one document; its first four bytes are its length. After an error begin a new process.
+func (kept *Kept) ask(document []byte) ([]byte, error) {
+	if _, err := kept.in.Write(document); err != nil {
+		return nil, err
+	}
+	head := make([]byte, 4)
+	if _, err := io.ReadFull(kept.out, head); err != nil {
+		return nil, err
+	}
+	answer := make([]byte, binary.LittleEndian.Uint32(head))
+	copy(answer, head)
+	_, err := io.ReadFull(kept.out, answer[4:])
+	return answer, err
 }
 
 func main() {
-	person := bson.D{{Key: "ssn", Value: "123-45-6789"}, {Key: "n", Value: int32(1)}}
-	plain, err := bson.Marshal(bson.D{
-		{Key: "insert", Value: "people"},
-		{Key: "documents", Value: bson.A{person}},
-		{Key: "$db", Value: "hr"},
-	})
+	seal, err := begin("encrypt", "hr", keys, schemas, master)
 	check(err)
-	sealed, err := run(plain, "encrypt", "hr", keys, schemas, master)
+	unseal, err := begin("decrypt", keys, master)
 	check(err)
-	opened, err := run(sealed, "decrypt", keys, master)
+	plain, err := os.ReadFile("examples/insert.bson") // or bson.Marshal(command), of MongoDB's driver
 	check(err)
-	subtype, _ := bson.Raw(sealed).Lookup("documents", "0", "ssn").Binary()
-	fmt.Println("payload of subtype", subtype, "opened to the same bytes:", bytes.Equal(opened, plain))
-	if !bytes.Equal(opened, plain) {
+	sealed, err := seal.ask(plain)
+	check(err)
+	again, err := seal.ask(plain)
+	check(err)
+	opened, err := unseal.ask(sealed)
+	check(err)
+	if !bytes.Equal(opened, plain) || !bytes.Equal(again, sealed) || bytes.Contains(sealed, []byte("123-45-6789")) {
+		fmt.Println("NOT THE SAME")
 		os.Exit(1)
 	}
+	fmt.Println("sealed twice alike, and opened to the same bytes")
 }
 
 func check(err error) {

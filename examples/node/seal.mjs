@@ -1,25 +1,47 @@
-// Seals an insert by `fle encrypt` and opens it by `fle decrypt`, with the npm package `bson`.
-// Run from the top, where `npm install bson` was done in examples/node: node examples/node/seal.mjs
-import { spawnSync } from "node:child_process";
-import { deserialize, serialize } from "bson";
+// Keeps `fle encrypt` and `fle decrypt` open and sends a command at a time through them: bytes of BSON in, bytes out.
+// Run from the top, with fle in PATH: node examples/node/seal.mjs
+import { spawn } from "node:child_process";
+import { readFileSync } from "node:fs";
 
 const KEYS = "examples/keys.bson";
 const SCHEMAS = "examples/people.schemas.json";
 const MASTER = "examples/EXAMPLE-ONLY.master";
 
-// What a run of `fle` with these words makes of a document.
-function run(words, document) {
-  const ended = spawnSync(process.env.FLE ?? "./fle", words, { input: serialize(document), maxBuffer: 1 << 26 });
-  if (ended.status !== 0) throw new Error(ended.stderr.toString().trim() || `status ${ended.status}`);
-  return deserialize(ended.stdout, { promoteValues: false });
+// One process: it answers each document before it takes the next. Its line, where it refuses one, goes to our own.
+class Kept {
+  constructor(...words) {
+    this.process = spawn("fle", words, { stdio: ["pipe", "pipe", "inherit"] });
+    this.process.stdin.on("error", () => {}); // the process has ended: the next answer says so
+    this.chunks = this.process.stdout[Symbol.asyncIterator]();
+  }
+
+  // The answer to one document. Wait for it before the next is asked; after an error begin a new process.
+  async ask(document) {
+    this.process.stdin.write(document);
+    const parts = [];
+    for (let length = 4, have = 0; have < length; ) {
+      const { value, done } = await this.chunks.next();
+      if (done) throw new Error("fle has ended: its line says why");
+      parts.push(value);
+      have += value.length;
+      if (have >= 4) length = Buffer.concat(parts.slice(0, 4)).readInt32LE(); // each part has a byte or more
+    }
+    return Buffer.concat(parts);
+  }
+
+  close() {
+    this.process.stdin.end();
+  }
 }
 
-const seal = (command) => run(["encrypt", "hr", KEYS, SCHEMAS, MASTER], command);
-const unseal = (reply) => run(["decrypt", KEYS, MASTER], reply);
-
-const plain = { insert: "people", documents: [{ ssn: "123-45-6789", n: 1 }], $db: "hr" };
-const sealed = seal(plain);
-const opened = unseal(sealed);
-const same = Buffer.from(serialize(opened)).equals(Buffer.from(serialize(plain)));
-console.log("payload of subtype", sealed.documents[0].ssn.sub_type, same ? "opened to the same bytes" : "NOT THE SAME");
-process.exit(same ? 0 : 1);
+const seal = new Kept("encrypt", "hr", KEYS, SCHEMAS, MASTER);
+const unseal = new Kept("decrypt", KEYS, MASTER);
+const plain = readFileSync("examples/insert.bson"); // or serialize(command), of the npm package `bson`
+const sealed = await seal.ask(plain);
+const again = await seal.ask(plain);
+const opened = await unseal.ask(sealed);
+const holds = opened.equals(plain) && again.equals(sealed) && !sealed.includes("123-45-6789");
+console.log(holds ? "sealed twice alike, and opened to the same bytes" : "NOT THE SAME");
+seal.close();
+unseal.close();
+process.exitCode = holds ? 0 : 1;
