@@ -1,6 +1,6 @@
 # Completion of fle for bash: source this file, or put it where bash-completion looks.
 _fle() {
-  local word=${COMP_WORDS[COMP_CWORD]} verb=${COMP_WORDS[1]} verbs="encrypt decrypt mark show keygen keys demo"
+  local word=${COMP_WORDS[COMP_CWORD]} verb=${COMP_WORDS[1]} verbs="keygen keys mark encrypt decrypt show demo"
   COMPREPLY=()
   case $COMP_CWORD,$verb in
     1,*) mapfile -t COMPREPLY < <(compgen -W "$verbs --help --version" -- "$word") ;;

@@ -1,11 +1,11 @@
 # Completion of fle for fish: put this file into ~/.config/fish/completions.
 complete -c fle -f
-complete -c fle -n __fish_use_subcommand -a encrypt -d "Write each command with its protected values sealed"
-complete -c fle -n __fish_use_subcommand -a decrypt -d "Write each document with its sealed values opened"
-complete -c fle -n __fish_use_subcommand -a mark -d "Write the marking reply to each command"
-complete -c fle -n __fish_use_subcommand -a show -d "Write the text of each document"
 complete -c fle -n __fish_use_subcommand -a keygen -d "Make a data key and write its document"
 complete -c fle -n __fish_use_subcommand -a keys -d "Write a line for each key of a vault"
+complete -c fle -n __fish_use_subcommand -a mark -d "Write the marking reply to each command"
+complete -c fle -n __fish_use_subcommand -a encrypt -d "Write each command with its protected values sealed"
+complete -c fle -n __fish_use_subcommand -a decrypt -d "Write each document with its sealed values opened"
+complete -c fle -n __fish_use_subcommand -a show -d "Write a line of text for each document"
 complete -c fle -n __fish_use_subcommand -a demo -d "Seal and open made commands, and sum them up"
 complete -c fle -n __fish_use_subcommand -a --help -d "What fle does"
 complete -c fle -n __fish_use_subcommand -a --version -d "Which fle this is"

@@ -7,48 +7,32 @@ use fle_outside::{Failed, Sink, write_whole};
 use fle_stream::{Cut, End, Finish, Status, Why, report};
 
 /// The answer to `--version`.
-pub const VERSION: &str = "fle 0.1.0\n";
+pub const VERSION: &str = "fle 0.2.0\n";
 
 /// The answer to `--help`.
 pub const HELP: &str = "fle: MongoDB client-side field level encryption, the client's part
 
-usage: fle mark DB SCHEMAS
-       fle encrypt DB KEYS SCHEMAS MASTER
-       fle decrypt KEYS MASTER
-       fle show
-       fle keygen MASTER [NAME ...]
-       fle keys KEYS
-       fle demo DB N
-       fle --help | --version
+usage, in the order in which you meet them:
+  fle keygen MASTER [NAME ...]         make a data key, and write its document
+  fle keys KEYS                        write a line for each data key of KEYS
+  fle mark DB SCHEMAS                  read commands; write what is to be sealed
+  fle encrypt DB KEYS SCHEMAS MASTER   read commands; write them sealed
+  fle decrypt KEYS MASTER              read documents; write them opened
+  fle show                             read documents; write a line for each
+  fle demo DB N                        make N commands, seal and open them
+  fle --help | --version
 
-  mark DB SCHEMAS   read commands of the database DB from standard input and write the
-                    marking reply to each; SCHEMAS is a file of collection infos,
-                    in JSON or BSON
-  encrypt DB KEYS SCHEMAS MASTER
-                    read commands of the database DB from standard input and write each
-                    with its protected values sealed, under the keys of KEYS and the
-                    master key in MASTER
-  decrypt KEYS MASTER
-                    read documents from standard input and write each with its sealed
-                    values opened
-  show              read documents from standard input and write the text of each, after
-                    MongoDB Extended JSON, and a line feed
-  keygen MASTER [NAME ...]
-                    make a data key with these alternate names, seal it under the master
-                    key in the file MASTER and write its key document; nothing is read
-                    from standard input
-  keys KEYS         write a line for each key of KEYS, a file of key documents; nothing
-                    is read from standard input
-  demo DB N         make a data key and N commands of the database DB, 1 to 100000, seal
-                    and open each, and write a line that sums it up; nothing is read, and
-                    the line is the same in each run
+MASTER is a file with the master key, KEYS one with data keys sealed under it,
+SCHEMAS one with collection infos, in JSON or BSON. DB is the database of the
+commands, a NAME an alternate name of the new key. Documents are BSON, one after
+another, from standard input; keygen, keys and demo read none. What mark writes
+has values in clear. What show writes is text after MongoDB Extended JSON, with
+doubles and decimals by their bits.
 
-Documents, commands and replies are BSON, one after another. Where the status isn't 0,
-standard error has one line, `fle: S D R P`: the status, the number of the document or file,
-the reason, the place.
-
-status: 0 done, 1 refused, 2 words, 3 malformed input, 4 file at fault, 5 read failed,
-        6 write failed, 7 no random blocks, 8 no memory, 9 limit passed
+Where the status isn't 0, standard error has one line, `fle: S D R P`: the
+status, the number of the document or file, the reason, the place. Status 0 is
+done, 1 refused, 2 words, 3 malformed input, 4 file at fault, 5 read failed,
+6 write failed, 7 no random blocks, 8 no memory, 9 limit passed.
 ";
 
 /// Writes a text to `out`; where that fails, the status and the line say so.

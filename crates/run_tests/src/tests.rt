@@ -88,7 +88,7 @@ fn the_version_is_told_or_its_failure(rt: HostRuntime) {
     let mut full = sink_of(&rt, alloc, 100, &[0]);
     let mut diag = sink_of(&rt, alloc, 100, &[]);
     assert!(rt; tell(&mut out, &mut diag, VERSION) == Status::Done);
-    assert!(rt; out.written() == b"fle 0.1.0\n".as_slice());
+    assert!(rt; out.written() == b"fle 0.2.0\n".as_slice());
     assert!(rt; tell(&mut full, &mut diag, VERSION) == Status::WriteFault);
     assert!(rt; diag.written() == b"fle: 6 0 0 -\n".as_slice());
 }
