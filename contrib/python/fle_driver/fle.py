@@ -1,0 +1,59 @@
+"""Sealing and opening, bytes to bytes."""
+from __future__ import annotations
+
+import os
+import shutil
+from types import TracebackType
+from typing import Optional, Type, Union
+
+from .errors import NotStarted
+from .kept import Kept
+from .process import Bytes
+
+File = Union[str, "os.PathLike[str]"]
+
+PING = b"\x0f\0\0\0\x10ping\0\1\0\0\0\0"  # {ping: 1}
+EMPTY = b"\5\0\0\0\0"
+
+
+class Fle:
+    """Two kept processes: `fle encrypt db keys schemas master` and `fle decrypt keys master`.
+
+    Both begin here, so that a fault of a file is raised here. One that ended, by a refusal or otherwise, begins anew at
+    the next call, and reads its files again; one that goes on doesn't: make another `Fle` where a file has changed.
+    """
+
+    def __init__(self, db: str, keys: File, schemas: File, master: File, program: File = "fle") -> None:
+        found = shutil.which(program)
+        if found is None:
+            raise NotStarted(f"there is no program {os.fspath(program)} in PATH")
+        fle, *files = (os.path.abspath(path) for path in (found, keys, schemas, master))
+        self.db = db
+        self._sealing = Kept([fle, "encrypt", db], files)
+        self._opening = Kept([fle, "decrypt"], [files[0], files[2]])
+        try:
+            self._sealing.ask(PING)
+            self._opening.ask(EMPTY)
+        except BaseException:
+            self.close()
+            raise
+
+    def encrypt(self, command: Bytes) -> bytes:
+        """A command of this database with each protected value sealed, and nothing else changed."""
+        return self._sealing.ask(command)
+
+    def decrypt(self, document: Bytes) -> bytes:
+        """A document, as a reply of the server, with each sealed value opened, and nothing else changed."""
+        return self._opening.ask(document)
+
+    def close(self) -> None:
+        """Ends both processes, once calls that are at work have ended; a later call raises `Closed`."""
+        self._sealing.close()
+        self._opening.close()
+
+    def __enter__(self) -> Fle:
+        return self
+
+    def __exit__(self, kind: Optional[Type[BaseException]], error: Optional[BaseException],
+                 trace: Optional[TracebackType]) -> None:
+        self.close()

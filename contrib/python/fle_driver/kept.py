@@ -1,0 +1,82 @@
+"""A process of `fle` that is kept between calls, and begun anew where one came to no answer."""
+from __future__ import annotations
+
+import os
+import threading
+import weakref
+from typing import Optional, Sequence
+
+from .errors import Closed, ended
+from .process import Bytes, Process
+
+STREAM = 1 << 40  # bytes that one process takes; behind them another is begun
+
+
+class Kept:
+    """One process at a time, with these words and files: begun at the first call, and anew after it ended.
+
+    A call leaves nothing in the pipes: one that doesn't come to an answer ends its process. Safe for threads, which
+    wait for one another, and for forks: a child begins a process of its own.
+    """
+
+    def __init__(self, words: Sequence[str], files: Sequence[str]) -> None:
+        self._words, self._files = [*words, *files], files
+        self._lock, self._closed = threading.Lock(), False
+        self._process: Optional[Process] = None
+        self._answered = self._taken = 0
+        ALL.add(self)
+
+    def ask(self, document: Bytes) -> bytes:
+        """The answer to one document of BSON."""
+        if len(document) < 5 or int.from_bytes(document[:4], "little") != len(document):
+            raise ValueError(f"{len(document)} bytes are not one BSON document, which states its length first")
+        with self._lock:
+            if self._closed:
+                raise Closed("fle was closed")
+            process = self._running()
+            try:
+                answer = process.answer(document)
+                if answer is None:
+                    raise ended(*process.end(), bytes(document), self._answered, self._files)
+                self._answered += 1
+                self._taken += len(document)
+            except BaseException:  # KeyboardInterrupt too: no later call may read the answer to this document
+                self._stop()
+                raise
+            return answer
+
+    def close(self) -> None:
+        """Ends the process, once a call that is at work has ended."""
+        with self._lock:
+            self._closed = True
+            self._stop()
+
+    def _running(self) -> Process:
+        if self._process is not None and (self._taken >= STREAM or self._process.has_ended()):
+            self._stop()
+        if self._process is None:
+            self._process, self._answered, self._taken = Process(self._words), 0, 0
+        return self._process
+
+    def _stop(self) -> None:
+        process, self._process = self._process, None
+        if process is not None:
+            process.stop()
+
+    def forget(self) -> None:
+        """In a child: the process is the parent's, and the lock may be held by a thread that isn't here."""
+        self._lock, process, self._process = threading.Lock(), self._process, None
+        if process is not None:
+            process.forget()
+
+
+ALL: weakref.WeakSet[Kept] = weakref.WeakSet()
+
+
+def forget_all() -> None:
+    """What a child does after a fork."""
+    for kept in list(ALL):
+        kept.forget()
+
+
+os.register_at_fork(after_in_child=forget_all)

@@ -1,0 +1,47 @@
+"""A walk over the elements of a BSON document, as far as names and places need it."""
+from __future__ import annotations
+
+from typing import Iterator, NamedTuple, Sequence
+
+DOCUMENT, ARRAY, REGEX = 3, 4, 11
+# The lengths of the values of each type (bsonspec.org): the same for all, or what stands beside a stated length.
+FIXED = {1: 8, 6: 0, 7: 12, 8: 1, 9: 8, 10: 0, 16: 4, 17: 8, 18: 8, 19: 16, 127: 0, 255: 0}
+BESIDE = {2: 4, DOCUMENT: 0, ARRAY: 0, 5: 5, 12: 16, 13: 4, 14: 4, 15: 0}
+
+
+class Element(NamedTuple):
+    """One element of a document."""
+
+    tag: int
+    name: str
+    value: bytes
+
+
+def elements(document: bytes) -> Iterator[Element]:
+    """The elements of a document or an array, in their order."""
+    at = 4
+    while document[at]:
+        behind_name = document.index(0, at + 1) + 1
+        behind = behind_name + width(document[at], document, behind_name)
+        name = document[at + 1:behind_name - 1].decode("utf-8", "replace")
+        yield Element(document[at], name, document[behind_name:behind])
+        at = behind
+
+
+def width(tag: int, document: bytes, at: int) -> int:
+    """The length of a value of this type."""
+    if tag in FIXED:
+        return FIXED[tag]
+    if tag == REGEX:  # two texts that end with 00
+        return document.index(0, document.index(0, at) + 1) + 1 - at
+    return int.from_bytes(document[at:at + 4], "little") + BESIDE[tag]
+
+
+def field_names(document: bytes, place: Sequence[int]) -> str:
+    """The names on the way to a place, joined by dots; a place numbers the children from 0."""
+    names = []
+    for number in place:
+        child = list(elements(document))[number]
+        names.append(child.name)
+        document = child.value
+    return ".".join(names)
