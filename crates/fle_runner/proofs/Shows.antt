@@ -11,7 +11,7 @@ use Rattle.fle_outside.specs.declared.answers.Failed.{Failed}
 use Rattle.fle_outside.proofs.Drawings.{draws_none}
 use Rattle.fle_stream.specs.Judge.{JudgeIs}
 use Rattle.fle_stream.specs.Outcome.{Course, Outcome, judged}
-use Rattle.fle_stream.specs.Plan.{Verdict, size_in, writes}
+use Rattle.fle_stream.specs.Plan.{DrawsNone, Verdict, draws_in, size_in, writes}
 use Rattle.fle_stream.specs.Run.{LastStep, OneStep}
 use Rattle.fle_stream.specs.declared.judging.Judged.TheVariants as judgements
 use Rattle.fle_stream.specs.declared.why.Cut.TheVariants as cuts
@@ -48,6 +48,15 @@ out_of_memory is None e = draws_none e
 unplaced : (is : Items) (e : EntropySeen) → JudgeIs (show_verdict is) e e judgements.Memory
 unfolding show_verdict
 unplaced is e = out_of_memory is (first_bad 0 is) e
+
+-- no document draws a block
+shown_draws : (is : Items) (bad : Option ℕ) → draws_in (shown_by is bad) ≡ 0
+shown_draws is (Some at) = refl
+shown_draws is None = refl
+
+pub show_draws : DrawsNone show_verdict
+unfolding show_verdict
+show_draws = λ is. shown_draws is (first_bad 0 is)
 
 -- what stands behind a document
 abbrev behind : Course → ℕ → ℕ → ℕ → List ℕ → Outcome

@@ -83,8 +83,10 @@ MayEnd form status = Unit {0}
 pub record EndsByVerb {S F N : Type 0} (form : Option Form) (status : Status) (reads : S → SourceSeen)
     (input input_after : S) (shows : F → FolderSeen) (files files_after : F) (seen : N → EntropySeen)
     (entropy entropy_after : N) : Type 0 where
-  -- the verbs without random blocks draw none, so they never end with 7
+  -- the verbs without random blocks never end with 7
   pub undrawn : DrawsNoBlock form → status ≡ statuses.EntropyFault → ⊥
+  -- and make no call on the source of blocks
+  pub no_block : DrawsNoBlock form → entropy_after ≡ entropy
   -- `keys` ends with 0, 4, 5, 6 or 8, `keygen` with these or 7, `demo` with 0, 6 or 8, `show` with none of 2, 4 and 7,
   -- `mark` and `decrypt` with neither 2 nor 7, `encrypt` not with 2
   pub allowed : MayEnd form status

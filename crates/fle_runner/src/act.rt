@@ -78,11 +78,12 @@ pub fn act<S: Source, F: Folder, O: Sink, N: Entropy, B: Block256>(
     ensures alone { AsksDemo (form_of (map string_bytes words.now))
         → (files.new ≡ files.old) × (entropy.new ≡ entropy.old) }
     ensures undrawn { DrawsNoBlock (form_of (map string_bytes words.now)) → result.why ≡ Why.Cut Cut.Entropy → ⊥ }
+    ensures no_block { DrawsNoBlock (form_of (map string_bytes words.now)) → entropy.new ≡ entropy.old }
 {
     match read_words(words) {
         Asked::Nothing => End::unread(Why::Finished(Finish::Words)),
-        Asked::Mark { db, schemas } => mark(alloc, db, schemas, input, files, out, entropy),
-        Asked::Show => show(alloc, input, out, entropy),
+        Asked::Mark { db, schemas } => mark(alloc, db, schemas, input, files, out),
+        Asked::Show => show(alloc, input, out),
         Asked::Keys { vault } => keys(alloc, vault, files, out),
         Asked::Keygen { master, names } => {
             keygen(alloc, master, names, time, files, out, entropy, hooks)
@@ -97,9 +98,7 @@ pub fn act<S: Source, F: Folder, O: Sink, N: Entropy, B: Block256>(
                 alloc, db, keys, schemas, master, input, files, out, entropy, hooks,
             )
         }
-        Asked::Decrypt { keys, master } => {
-            decrypt(alloc, keys, master, input, files, out, entropy, hooks)
-        }
+        Asked::Decrypt { keys, master } => decrypt(alloc, keys, master, input, files, out, hooks),
         Asked::Demo { db, n } => demo(alloc, db, n, out, hooks),
     }
 }

@@ -28,7 +28,7 @@ use crypto_hooks::Block256;
 use data_key::KeyDoc;
 use fle_files::{load_master, load_vault};
 use fle_outside::{Entropy, Folder, Memory, Sink, Source};
-use fle_stream::{Cut, End, Finish, Judge, Judged, Why, judge_stream};
+use fle_stream::{Cut, End, Finish, Judge, Judged, Why, judge_without_blocks};
 use key_vault::{KeyCache, Vault};
 use local_kms::MasterKey;
 use std::alloc::Global;
@@ -158,26 +158,24 @@ fn judge_ready<B: Block256>(
 }
 
 /// Opens each document of the input. It draws no block.
-pub fn decrypt<S: Source, F: Folder, O: Sink, N: Entropy, B: Block256>(
+pub fn decrypt<S: Source, F: Folder, O: Sink, B: Block256>(
     alloc: Global,
     keys: &str,
     master: &str,
     input: &mut S,
     files: &mut F,
     out: &mut O,
-    entropy: &mut N,
     hooks: &B,
 ) -> End
     requires hooks { B.answers hooks.now }
-    ensures did { (all : Files) (told : List ℕ) → (F.seen files.old).told ≡ Some all
+    ensures did { (all : Files) (told : List ℕ) (e : EntropySeen) → (F.seen files.old).told ≡ Some all
         → (S.seen input.old).told ≡ Some told
-        → Did (decrypt_task (file_of all keys.now) (file_of all master.now)) told (S.seen input.new).told
-        (N.seen entropy.old) (N.seen entropy.new) (O.seen out.old) (O.seen out.new) result.number result.why }
+        → Did (decrypt_task (file_of all keys.now) (file_of all master.now)) told (S.seen input.new).told e e
+        (O.seen out.old) (O.seen out.new) result.number result.why }
     ensures formed { result.why ≡ Why.Finished Finish.Words → ⊥ }
     ensures placed { (all : Files) → (F.seen files.old).told ≡ Some all
         → EndsAs (decrypt_task (file_of all keys.now) (file_of all master.now)) result.why }
-    ensures untouched { IsUnread (status_of result.why)
-        → (input.new ≡ input.old) × (out.new ≡ out.old) × (entropy.new ≡ entropy.old) }
+    ensures untouched { IsUnread (status_of result.why) → (input.new ≡ input.old) × (out.new ≡ out.old) }
     ensures took { RunTook (S.seen input.old).taken (S.seen input.new).taken result.number }
     ensures numbered { result.why ≡ Why.Cut Cut.Input → 0 < result.number }
     ensures folder_cause { result.why ≡ Why.Cut Cut.Folder → Rose (F.seen files.old).faults (F.seen files.new).faults }
@@ -196,7 +194,7 @@ pub fn decrypt<S: Source, F: Folder, O: Sink, N: Entropy, B: Block256>(
         Err(why) => return End::unread(why),
     };
     match KeyCache::new(alloc, master) {
-        Ok(cache) => judge_stream(alloc, Opener { keys, cache, hooks }, input, out, entropy),
+        Ok(cache) => judge_without_blocks(alloc, Opener { keys, cache, hooks }, input, out),
         Err(Memory) => End::unread(Why::Cut(Cut::Memory)),
     }
 }

@@ -22,7 +22,7 @@ use command_marker::{ReplyFault, Target, mark_command, reply, reply_clear, targe
 use encrypt_schema::{Info, Infos, Reason, Rows};
 use fle_files::load_infos;
 use fle_outside::{Entropy, Folder, Sink, Source};
-use fle_stream::{Cut, End, Finish, Judge, Judged, Why, judge_stream};
+use fle_stream::{Cut, End, Finish, Judge, Judged, Why, judge_without_blocks};
 use std::alloc::Global;
 
 /// The marking service of a database under its collection infos.
@@ -110,25 +110,23 @@ fn judge_reply(reply: Result<Vec<u8>, ReplyFault>) -> Judged
     }
 }
 
-/// Marks each command of the input.
-pub fn mark<S: Source, F: Folder, O: Sink, N: Entropy>(
+/// Marks each command of the input. It draws no block.
+pub fn mark<S: Source, F: Folder, O: Sink>(
     alloc: Global,
     db: &str,
     schemas: &str,
     input: &mut S,
     files: &mut F,
     out: &mut O,
-    entropy: &mut N,
 ) -> End
-    ensures did { (all : Files) (told : List ℕ) → (F.seen files.old).told ≡ Some all
+    ensures did { (all : Files) (told : List ℕ) (e : EntropySeen) → (F.seen files.old).told ≡ Some all
         → (S.seen input.old).told ≡ Some told
-        → Did (mark_task db.now (file_of all schemas.now)) told (S.seen input.new).told (N.seen entropy.old)
-        (N.seen entropy.new) (O.seen out.old) (O.seen out.new) result.number result.why }
+        → Did (mark_task db.now (file_of all schemas.now)) told (S.seen input.new).told e e (O.seen out.old)
+        (O.seen out.new) result.number result.why }
     ensures formed { result.why ≡ Why.Finished Finish.Words → ⊥ }
     ensures placed { (all : Files) → (F.seen files.old).told ≡ Some all
         → EndsAs (mark_task db.now (file_of all schemas.now)) result.why }
-    ensures untouched { IsUnread (status_of result.why)
-        → (input.new ≡ input.old) × (out.new ≡ out.old) × (entropy.new ≡ entropy.old) }
+    ensures untouched { IsUnread (status_of result.why) → (input.new ≡ input.old) × (out.new ≡ out.old) }
     ensures took { RunTook (S.seen input.old).taken (S.seen input.new).taken result.number }
     ensures numbered { result.why ≡ Why.Cut Cut.Input → 0 < result.number }
     ensures folder_cause { result.why ≡ Why.Cut Cut.Folder → Rose (F.seen files.old).faults (F.seen files.new).faults }
@@ -143,7 +141,7 @@ pub fn mark<S: Source, F: Folder, O: Sink, N: Entropy>(
     ensures undrawn { result.why ≡ Why.Cut Cut.Entropy → ⊥ }
 {
     match load_infos(alloc, files, 1, schemas) {
-        Ok(infos) => judge_stream(alloc, Marker { infos, db }, input, out, entropy),
+        Ok(infos) => judge_without_blocks(alloc, Marker { infos, db }, input, out),
         Err(why) => End::unread(why),
     }
 }

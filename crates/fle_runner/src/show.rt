@@ -18,7 +18,7 @@ use ext_json::{NOT_TEXT, Piece, Shown, show_whole};
 use fle_outside::{Entropy, Memory, Sink, Source};
 use fle_stream::next::{Next, next_document};
 use fle_stream::turning::{Turn, Verb, run_turns};
-use fle_stream::{Bound, Cut, End, Finish, Number, Why};
+use fle_stream::{Bound, Cut, End, Finish, NoBlocks, Number, Why};
 use std::alloc::Global;
 
 /// A document is begun only where fewer bytes than this were taken before: 2^40.
@@ -106,16 +106,10 @@ fn show_document<O: Sink>(
     }
 }
 
-/// Shows each document of the input.
-pub fn show<S: Source, O: Sink, N: Entropy>(
-    alloc: Global,
-    input: &mut S,
-    out: &mut O,
-    entropy: &mut N,
-) -> End
-    ensures did { (told : List ℕ) → (S.seen input.old).told ≡ Some told
-        → Did show_task told (S.seen input.new).told (N.seen entropy.old) (N.seen entropy.new) (O.seen out.old)
-        (O.seen out.new) result.number result.why }
+/// Shows each document of the input. It draws no block.
+pub fn show<S: Source, O: Sink>(alloc: Global, input: &mut S, out: &mut O) -> End
+    ensures did { (told : List ℕ) (e : EntropySeen) → (S.seen input.old).told ≡ Some told
+        → Did show_task told (S.seen input.new).told e e (O.seen out.old) (O.seen out.new) result.number result.why }
     ensures kind { IsOfStream result.why }
     ensures took { RunTook (S.seen input.old).taken (S.seen input.new).taken result.number }
     ensures numbered { 0 < result.number }
@@ -129,5 +123,5 @@ pub fn show<S: Source, O: Sink, N: Entropy>(
     let mut verb = Shower {
         piece: Piece::new(alloc),
     };
-    run_turns(alloc, &mut verb, input, out, entropy)
+    run_turns(alloc, &mut verb, input, out, &mut NoBlocks)
 }

@@ -8,3 +8,4 @@ pub mod Programs
 pub mod Endings
 pub mod Outputs
 pub mod Turned
+pub mod Undrawn

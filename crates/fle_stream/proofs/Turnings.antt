@@ -35,7 +35,7 @@ read_of-append [] ys = sym (zero-add (read_of ys))
 read_of-append (x ∷ xs) ys = ap (λ (n : ℕ). x.read + n) (read_of-append xs ys)
     ∙ sym (add_assoc x.read (read_of xs) (read_of ys))
 
-draws_of-append : (xs ys : List Output) → draws_of (xs ++ ys) ≡ draws_of xs + draws_of ys
+pub draws_of-append : (xs ys : List Output) → draws_of (xs ++ ys) ≡ draws_of xs + draws_of ys
 draws_of-append [] ys = sym (zero-add (draws_of ys))
 draws_of-append (x ∷ xs) ys = ap (λ (n : ℕ). x.plan.draws + n) (draws_of-append xs ys)
     ∙ sym (add_assoc x.plan.draws (draws_of xs) (draws_of ys))
@@ -45,7 +45,7 @@ size_of-append [] ys = sym (zero-add (size_of ys))
 size_of-append (x ∷ xs) ys = ap (λ (n : ℕ). x.plan.size + n) (size_of-append xs ys)
     ∙ sym (add_assoc x.plan.size (size_of xs) (size_of ys))
 
-no_blocks : (bs : List Block) → length bs ≡ 0 → bs ≡ []
+pub no_blocks : (bs : List Block) → length bs ≡ 0 → bs ≡ []
 no_blocks [] none = refl
 no_blocks (b ∷ bs) none = absurd (omega (arith, none))
 

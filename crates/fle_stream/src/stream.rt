@@ -2,6 +2,7 @@
 
 ghost use Rattle.std.specs.Prelude.{true, ◌≡◌, ◌<◌, ◌≤◌, List, ℕ, Some};
 ghost use Rattle.fle_outside.specs.Counts.{Rose};
+ghost use Rattle.fle_outside.specs.Seen.{EntropySeen};
 ghost use Rattle.fle_stream.specs.Did.{Did};
 ghost use Rattle.fle_stream.specs.Plan.{DrawsNone, draws_of, size_of};
 ghost use Rattle.fle_stream.specs.Task.{each, outcome_of};
@@ -9,6 +10,7 @@ ghost use Rattle.fle_stream.specs.Turn.{RunTook, IsOfStream};
 
 use crate::end::End;
 use crate::judging::{Judge, Judging};
+use crate::no_blocks::NoBlocks;
 use crate::turning::run_turns;
 use crate::why::{Cut, Why};
 use fle_outside::{Entropy, Sink, Source};
@@ -44,4 +46,31 @@ pub fn judge_stream<J: Judge + Drop, S: Source, O: Sink, N: Entropy>(
 {
     let mut verb = Judging { judge };
     run_turns(alloc, &mut verb, input, out, entropy)
+}
+
+/// Judges each document of the input by a judge that draws no block, and asks no source of blocks: what was done is so
+/// whatever blocks are to come.
+pub fn judge_without_blocks<J: Judge + Drop, S: Source, O: Sink>(
+    alloc: Global,
+    judge: J,
+    input: &mut S,
+    out: &mut O,
+) -> End
+    requires ready { J.ready judge }
+    requires quiet { DrawsNone (J.verdict judge) }
+    ensures did { (told : List ℕ) (e : EntropySeen) → (S.seen input.old).told ≡ Some told
+        → Did (each (J.verdict judge)) told (S.seen input.new).told e e (O.seen out.old) (O.seen out.new) result.number
+        result.why }
+    ensures kind { IsOfStream result.why }
+    ensures numbered { 0 < result.number }
+    ensures took { RunTook (S.seen input.old).taken (S.seen input.new).taken result.number }
+    ensures in_cause { result.why ≡ Why.Cut Cut.Input → Rose (S.seen input.old).faults (S.seen input.new).faults }
+    ensures in_sure { (S.seen input.old).assured ≡ true → result.why ≡ Why.Cut Cut.Input → ⊥ }
+    ensures out_cause { result.why ≡ Why.Cut Cut.Output → Rose (O.seen out.old).faults (O.seen out.new).faults }
+    ensures out_sure { (told : List ℕ) → (S.seen input.old).told ≡ Some told
+        → size_of (outcome_of (each (J.verdict judge)) told).outputs ≤ (O.seen out.old).assured
+        → result.why ≡ Why.Cut Cut.Output → ⊥ }
+    ensures undrawn { result.why ≡ Why.Cut Cut.Entropy → ⊥ }
+{
+    judge_stream(alloc, judge, input, out, &mut NoBlocks)
 }

@@ -48,6 +48,7 @@ returns-in-Nothing g c =
       none_or_eight = λ asks. absurd (subst AsksKey asked asks);
       alone = λ asks. absurd (subst AsksDemo asked asks);
       undrawn = λ _ at. uncut at;
+      no_block = λ _. refl;
     })
 
 pub returns-in-Mark : goal.returns-in-Mark
@@ -55,12 +56,12 @@ returns-in-Mark g c =
     let asked = sym c.in-Mark.ensures.asked in
     let ends = c.mark.ensures in
     record {
-      did = λ all told has is. did_task (task_asked c.args.time all asked) (ends.did all told has is);
+      did = λ all told has is. did_task (task_asked c.args.time all asked) (ends.did all told _ has is);
       unformed = λ none. absurd (unasked asked none);
       formed = λ at. absurd (ends.formed at);
       placed = λ all has. ends_task _ (task_asked c.args.time all asked) (ends.placed all has);
       unread = λ at. absurd (ends.formed at);
-      untouched = ends.untouched;
+      untouched = λ none. ((ends.untouched none).0, (ends.untouched none).1, refl);
       took = ends.took;
       numbered = ends.numbered;
       folder_cause = ends.folder_cause;
@@ -80,6 +81,7 @@ returns-in-Mark g c =
       none_or_eight = λ asks. absurd (subst AsksKey asked asks);
       alone = λ asks. absurd (subst AsksDemo asked asks);
       undrawn = λ _. ends.undrawn;
+      no_block = λ _. refl;
     }
 
 pub returns-in-Show : goal.returns-in-Show
@@ -87,7 +89,7 @@ returns-in-Show g c =
     let asked = sym c.in-Show.ensures.asked in
     let ends = c.show.ensures in
     record {
-      did = λ all told has is. did_task (task_asked c.args.time all asked) (ends.did told is);
+      did = λ all told has is. did_task (task_asked c.args.time all asked) (ends.did told _ is);
       unformed = λ none. absurd (unasked asked none);
       formed = λ at. absurd (subst IsOfStream at ends.kind);
       placed = λ all has. ends_task _ (task_asked c.args.time all asked) (ends_each show_verdict _ ends.kind);
@@ -112,6 +114,7 @@ returns-in-Show g c =
       none_or_eight = λ asks. absurd (subst AsksKey asked asks);
       alone = λ asks. absurd (subst AsksDemo asked asks);
       undrawn = λ _. ends.undrawn;
+      no_block = λ _. refl;
     }
 
 pub returns-in-Keys : goal.returns-in-Keys
@@ -145,6 +148,7 @@ returns-in-Keys g c =
       none_or_eight = λ asks. absurd (subst AsksKey asked asks);
       alone = λ asks. absurd (subst AsksDemo asked asks);
       undrawn = λ _. ends.undrawn;
+      no_block = λ _. refl;
     }
 
 pub returns-in-Keygen : goal.returns-in-Keygen
@@ -179,6 +183,7 @@ returns-in-Keygen g c =
       none_or_eight = λ _. ends.none_or_eight;
       alone = λ asks. absurd (subst AsksDemo asked asks);
       undrawn = λ none. absurd (subst DrawsNoBlock asked none);
+      no_block = λ none. absurd (subst DrawsNoBlock asked none);
     }
 
 pub returns-in-Encrypt : goal.returns-in-Encrypt
@@ -212,6 +217,7 @@ returns-in-Encrypt g c =
       none_or_eight = λ asks. absurd (subst AsksKey asked asks);
       alone = λ asks. absurd (subst AsksDemo asked asks);
       undrawn = λ none. absurd (subst DrawsNoBlock asked none);
+      no_block = λ none. absurd (subst DrawsNoBlock asked none);
     }
 
 pub returns-in-Decrypt : goal.returns-in-Decrypt
@@ -219,12 +225,12 @@ returns-in-Decrypt g c =
     let asked = sym c.in-Decrypt.ensures.asked in
     let ends = c.decrypt.ensures in
     record {
-      did = λ all told has is. did_task (task_asked c.args.time all asked) (ends.did all told has is);
+      did = λ all told has is. did_task (task_asked c.args.time all asked) (ends.did all told _ has is);
       unformed = λ none. absurd (unasked asked none);
       formed = λ at. absurd (ends.formed at);
       placed = λ all has. ends_task _ (task_asked c.args.time all asked) (ends.placed all has);
       unread = λ at. absurd (ends.formed at);
-      untouched = ends.untouched;
+      untouched = λ none. ((ends.untouched none).0, (ends.untouched none).1, refl);
       took = ends.took;
       numbered = ends.numbered;
       folder_cause = ends.folder_cause;
@@ -244,6 +250,7 @@ returns-in-Decrypt g c =
       none_or_eight = λ asks. absurd (subst AsksKey asked asks);
       alone = λ asks. absurd (subst AsksDemo asked asks);
       undrawn = λ _. ends.undrawn;
+      no_block = λ _. refl;
     }
 
 pub returns-in-Demo : goal.returns-in-Demo
@@ -279,4 +286,5 @@ returns-in-Demo g c =
       none_or_eight = λ asks. absurd (subst AsksKey asked asks);
       alone = λ _. (refl, refl);
       undrawn = λ _ at. subst IsOfText at ends.kind;
+      no_block = λ _. refl;
     }

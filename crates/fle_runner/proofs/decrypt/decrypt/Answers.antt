@@ -16,7 +16,7 @@ use Rattle.fle_runner.proofs.decrypt.decrypt.Goals as goal
 pub returns-in-Err : goal.returns-in-Err
 returns-in-Err g c =
     rw c.unread.ensures.unread (record {
-      did = λ all told has is.
+      did = λ all told e has is.
           did_stop (with_opening (file_of all c.args.keys.now) (file_of all c.args.master.now)) c.in-Err.why
           (λ held. each (decrypt_verdict (ring held.keys held.master))) told _ _ _
           (c.in-Err.ensures.leads all has) is;
@@ -24,7 +24,7 @@ returns-in-Err g c =
       placed = λ all has.
           ends_stop (with_opening (file_of all c.args.keys.now) (file_of all c.args.master.now)) c.in-Err.why
           (λ held. each (decrypt_verdict (ring held.keys held.master))) (c.in-Err.ensures.leads all has);
-      untouched = λ _. (refl, refl, refl);
+      untouched = λ _. (refl, refl);
       took = took_none _ _ refl;
       numbered = λ at. absurd (subst IsOfFiles at c.in-Err.ensures.kind);
       folder_cause = c.in-Err.ensures.cause;
@@ -38,13 +38,13 @@ returns-in-Err g c =
 
 pub returns-in-Ok-new : goal.returns-in-Ok-new
 returns-in-Ok-new g c =
-    let ends = c.judge_stream.ensures in
+    let ends = c.judge_without_blocks.ensures in
     let held = c.in-Ok.held in
     let cached = ap (λ (x : Cached). x.master) c.in-Ok-new.ensures.empty in
     record {
-      did = λ all told has is.
+      did = λ all told e has is.
           did_task (c.in-Ok.ensures.leads all has (λ held. each (decrypt_verdict (ring held.keys held.master))) ∙ ap
-          (λ (m : List ℕ). each (decrypt_verdict (ring held.keys m))) (sym cached)) (ends.did told is);
+          (λ (m : List ℕ). each (decrypt_verdict (ring held.keys m))) (sym cached)) (ends.did told e is);
       formed = λ at. subst IsOfStream at ends.kind;
       placed = λ all has.
           ends_task _ (c.in-Ok.ensures.leads all has (λ held. each (decrypt_verdict (ring held.keys held.master)))
@@ -62,13 +62,13 @@ returns-in-Ok-new g c =
           ends.out_sure told is (bytes_enough told (c.in-Ok.ensures.leads all has (λ held. each (decrypt_verdict
           (ring held.keys held.master))) ∙ ap (λ (m : List ℕ). each (decrypt_verdict (ring held.keys m)))
           (sym cached)) enough);
-      undrawn = ends.undrawn (decrypt_draws (ring c.in-Ok.held.keys c.in-Ok-new.cache.master));
+      undrawn = ends.undrawn;
     }
 
 pub returns-in-Err-new : goal.returns-in-Err-new
 returns-in-Err-new g c =
     rw c.unread-in-Err-new.ensures.unread (record {
-      did = λ all told has is.
+      did = λ all told e has is.
           did_memory ((with_opening (file_of all c.args.keys.now) (file_of all c.args.master.now)) (λ held. each
           (decrypt_verdict (ring held.keys held.master)))) told _ _ _ is;
       formed = λ at. subst IsMemory at tt;

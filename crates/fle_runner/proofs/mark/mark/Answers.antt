@@ -14,11 +14,11 @@ use Rattle.fle_runner.proofs.mark.mark.Goals as goal
 
 pub returns-in-Ok : goal.returns-in-Ok
 returns-in-Ok g c =
-    let ends = c.judge_stream.ensures in
+    let ends = c.judge_without_blocks.ensures in
     record {
-      did = λ all told has is.
+      did = λ all told e has is.
           did_task (c.in-Ok.ensures.leads all has (λ infos. each (mark_verdict infos c.args.db.now)))
-          (ends.did told is);
+          (ends.did told e is);
       formed = λ at. subst IsOfStream at ends.kind;
       placed = λ all has.
           ends_task _ (c.in-Ok.ensures.leads all has (λ infos. each (mark_verdict infos c.args.db.now))) (ends_each
@@ -34,20 +34,20 @@ returns-in-Ok g c =
       out_sure = λ all told has is enough.
           ends.out_sure told is (bytes_enough told (c.in-Ok.ensures.leads all has (λ infos. each
           (mark_verdict infos c.args.db.now))) enough);
-      undrawn = ends.undrawn (mark_draws _ _);
+      undrawn = ends.undrawn;
     }
 
 pub returns-in-Err : goal.returns-in-Err
 returns-in-Err g c =
     rw c.unread.ensures.unread (record {
-      did = λ all told has is.
+      did = λ all told e has is.
           did_stop (with_infos 1 (file_of all c.args.schemas.now)) c.in-Err.why (λ infos. each
           (mark_verdict infos c.args.db.now)) told _ _ _ (c.in-Err.ensures.leads all has) is;
       formed = λ at. subst IsOfFiles at c.in-Err.ensures.kind;
       placed = λ all has.
           ends_stop (with_infos 1 (file_of all c.args.schemas.now)) c.in-Err.why (λ infos. each
           (mark_verdict infos c.args.db.now)) (c.in-Err.ensures.leads all has);
-      untouched = λ _. (refl, refl, refl);
+      untouched = λ _. (refl, refl);
       took = took_none _ _ refl;
       numbered = λ at. absurd (subst IsOfFiles at c.in-Err.ensures.kind);
       folder_cause = c.in-Err.ensures.cause;

@@ -79,6 +79,7 @@ returns-clause-entropy_sure g c =
 pub returns-clause-verb : goal.returns-clause-verb
 returns-clause-verb g c = record {
   undrawn = search rules;
+  no_block = search rules;
   allowed = search rules;
   no_input = search rules;
   by_folder = search rules;
