@@ -1,5 +1,5 @@
 -- A document whose length is put in last.
-use Rattle.std.proofs.Common.{◌≡◌, ℕ, ◌+◌, List, ◌++◌, append_assoc}
+use Rattle.std.proofs.Common.{◌≡◌, ℕ, List, ◌++◌, append_assoc}
 use Rattle.bson_tree.specs.Tree.{Tree, Items, no_items, item}
 use Rattle.bson_tree.specs.Spelling.{items_bytes}
 

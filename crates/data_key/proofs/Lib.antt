@@ -1,4 +1,5 @@
 pub mod Standing
+pub mod Together
 pub mod Texts
 pub mod Frames
 pub mod Sizes

@@ -1,6 +1,7 @@
 -- BSON 1.1: how a name stands in a document, whose names need not be distinct
 use Rattle.std.specs.Prelude.{ℕ, List, bytes_eq, if◌then◌else◌}
 use Rattle.bson_tree.specs.Tree.{Tree, Items, no_items, item}
+use Rattle.bson_codec.specs.Borrowed.{Elem}
 
 -- not at all, once with this value, or several times
 pub data Standing : Type 0 where
@@ -24,3 +25,7 @@ abbrev pub stands_last : Standing → Tree → Standing
 stands_last absent t = once t
 stands_last (once u) t = repeated
 stands_last repeated t = repeated
+
+-- how a name stands with one more element, behind the others
+abbrev pub stands_behind : List ℕ → Standing → Elem → Standing
+stands_behind word s e = if bytes_eq e.name word then stands_last s e.tree else s

@@ -25,19 +25,19 @@ pub(crate) fn find_field<'a>(document: &RawDoc<'a>, word: &[u8]) -> Field<'a>
     let mut found = Field::Absent;
     for item in document.items() {
         if item.name() == word {
-            found = joined(found, item);
+            put(&mut found, item);
         }
     }
     found
 }
 
 /// One more value of a name that stands like this.
-fn joined<'a>(found: Field<'a>, item: RawItem<'a>) -> Field<'a>
-    ensures { seen result ≡ stands_last (seen found.entry) item.entry.tree }
+pub(crate) fn put<'a>(found: &mut Field<'a>, item: RawItem<'a>)
+    ensures { seen found.new ≡ stands_last (seen found.old) item.entry.tree }
 {
-    match found {
+    *found = match found {
         Field::Absent => Field::Once(item),
         Field::Once(_) => Field::Repeated,
         Field::Repeated => Field::Repeated,
-    }
+    };
 }

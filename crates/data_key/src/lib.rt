@@ -11,6 +11,7 @@
 //! It opens no key: its material is bytes here.
 #![tactic(auto)]
 
+mod elements;
 mod field;
 mod key_doc;
 mod reading;

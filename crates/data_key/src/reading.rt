@@ -4,10 +4,11 @@ ghost use Rattle.std.specs.Prelude.{◌≡◌, ◌++◌, ◌∷◌, [], codes, b
 ghost use Rattle.data_key.specs.declared.key_doc.Provider.TheVariants as providers;
 ghost use Rattle.data_key.specs.Key.{id_in, names_in, names_of, material_in, provider_in, provider_by, provider_named};
 ghost use Rattle.data_key.specs.Key.{key_in, Reads};
-ghost use Rattle.data_key.specs.Seen.{names_seen, some_names_seen, Says};
+ghost use Rattle.data_key.specs.Seen.{names_seen, seen, some_names_seen, Says};
 ghost use Rattle.data_key.specs.Standings.{standing};
 ghost use Rattle.data_key.specs.Values.{texts};
 
+use crate::elements::key_elements;
 use crate::field::{Field, find_field};
 use crate::key_doc::{KeyDoc, KeyFault, Provider};
 use crate::values::{GENERIC, are_strings, contents_of, is_array, is_document, text_of, uuid_of};
@@ -49,21 +50,22 @@ pub fn read_key(alloc: Global, document: &RawDoc<'_>) -> Result<KeyDoc, KeyFault
     }
 }
 
-/// The fields of a key document, or the first faulty one.
+/// The fields of a key document, or the first faulty one. The document is walked once.
 #[tactic(auto, unfolding(crate::specs::Key::key_in))]
 fn key_fields<'a>(document: &RawDoc<'a>) -> Result<KeyFields<'a>, KeyFault>
     ensures { Says result (key_in document.now.tree) }
 {
-    let Some(id) = id_of(document) else {
+    let found = key_elements(document);
+    let Some(id) = id_of(&found.id) else {
         return Err(KeyFault::Id);
     };
-    let Some(names) = names_of(document) else {
+    let Some(names) = names_of(&found.names) else {
         return Err(KeyFault::AltNames);
     };
-    let Some(material) = material_of(document) else {
+    let Some(material) = material_of(&found.material) else {
         return Err(KeyFault::Material);
     };
-    let Some(provider) = provider_of(document) else {
+    let Some(provider) = provider_of(&found.master_key) else {
         return Err(KeyFault::Provider);
     };
     Ok(KeyFields {
@@ -75,23 +77,23 @@ fn key_fields<'a>(document: &RawDoc<'a>) -> Result<KeyFields<'a>, KeyFault>
 }
 
 /// The UUID in `_id`.
-fn id_of(document: &RawDoc<'_>) -> Option<[u8; 16]>
-    ensures { result ≡ id_in (standing (codes "_id") document.now.tree) }
+fn id_of(field: &Field<'_>) -> Option<[u8; 16]>
+    ensures { result ≡ id_in (seen field.now) }
 {
-    match find_field(document, b"_id") {
+    match field {
         Field::Absent => None,
-        Field::Once(item) => uuid_of(&item),
+        Field::Once(item) => uuid_of(item),
         Field::Repeated => None,
     }
 }
 
 /// The array of strings in `keyAltNames`, if there is one.
-fn names_of<'a>(document: &RawDoc<'a>) -> Option<Option<RawDoc<'a>>>
-    ensures { some_names_seen result ≡ names_in (standing (codes "keyAltNames") document.now.tree) }
+fn names_of<'a>(field: &Field<'a>) -> Option<Option<RawDoc<'a>>>
+    ensures { some_names_seen result ≡ names_in (seen field.now) }
 {
-    match find_field(document, b"keyAltNames") {
+    match field {
         Field::Absent => Some(None),
-        Field::Once(item) => strings_of(&item),
+        Field::Once(item) => strings_of(item),
         Field::Repeated => None,
     }
 }
@@ -112,23 +114,23 @@ fn strings_of<'a>(item: &RawItem<'a>) -> Option<Option<RawDoc<'a>>>
 }
 
 /// The contents of the binary in `keyMaterial`.
-fn material_of<'a>(document: &RawDoc<'a>) -> Option<&'a [u8]>
-    ensures { option_copied result ≡ material_in (standing (codes "keyMaterial") document.now.tree) }
+fn material_of<'a>(field: &Field<'a>) -> Option<&'a [u8]>
+    ensures { option_copied result ≡ material_in (seen field.now) }
 {
-    match find_field(document, b"keyMaterial") {
+    match field {
         Field::Absent => None,
-        Field::Once(item) => contents_of(GENERIC, &item),
+        Field::Once(item) => contents_of(GENERIC, item),
         Field::Repeated => None,
     }
 }
 
 /// The provider in `masterKey`.
-fn provider_of(document: &RawDoc<'_>) -> Option<Provider>
-    ensures { result ≡ provider_in (standing (codes "masterKey") document.now.tree) }
+fn provider_of(field: &Field<'_>) -> Option<Provider>
+    ensures { result ≡ provider_in (seen field.now) }
 {
-    match find_field(document, b"masterKey") {
+    match field {
         Field::Absent => None,
-        Field::Once(item) => if is_document(&item) {
+        Field::Once(item) => if is_document(item) {
             let master_key = item.child()?;
             named_in(&master_key)
         } else {

@@ -2,13 +2,12 @@
 use Rattle.std.proofs.Common.{◌≡◌, ◌∙◌, ℕ, zero, suc, ◌-◌, ◌==◌, length, Bool, true, false, cond, List, [], ◌∷◌, map}
 use Rattle.std.proofs.Common.{take, Option, Some, None, Result, Ok, Err, OnOk, OnErr, refl, sym, ap, subst}
 use Rattle.std.proofs.Common.{inl, inr}
-use Rattle.std.specs.Prelude.{bytes_eq, slice_get, is_some, IfSome, IsSome, IsOk, option_copied, option_map, unwrap_or}
+use Rattle.std.specs.Prelude.{bytes_eq, slice_get, is_some, IsSome, IsOk, option_map, unwrap_or}
 use Rattle.std.specs.Prelude.{if◌then◌else◌}
 use Rattle.std.specs.Option.{option_map_or}
 use Rattle.std.specs.Cmp.Lexicographic.{bytes_decides}
 use Rattle.std.specs.Map.{lookup, lookup_entry, remove_entry}
 use Rattle.std.proofs.lemmas.Bool.{false≢true, eqb-true}
-use denote.Ref.{Bor}
 use Rattle.fle_aead.specs.Sealed.{opened_message}
 use Rattle.lru.specs.LruCache.{LruCache, lru_cache, promoted, put_entries}
 use Rattle.lru.proofs.CallerLemmas.{Contains-lookup, Contains-promoted, Contains-put_entries}

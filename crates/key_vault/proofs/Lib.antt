@@ -1,5 +1,5 @@
 pub mod Kept
 pub mod Maps
-pub mod Sets
+pub mod Numbering
 pub mod Numbered
 pub mod Files

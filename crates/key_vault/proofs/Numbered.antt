@@ -1,15 +1,18 @@
 -- The number of a key by its id and by its names, in a list that grows.
 use Rattle.std.proofs.Common.{◌≡◌, ◌∙◌, ℕ, zero, suc, ◌+◌, Bool, true, false, cond, not, ◌||◌, ◌&&◌, List, [], ◌∷◌}
-use Rattle.std.proofs.Common.{◌++◌, length, Option, Some, None, Vec, Global, HashMap, bytes_eq, refl, sym, ap, subst}
+use Rattle.std.proofs.Common.{◌++◌, length, Option, Some, None, Result, Ok, Err, bytes_eq, refl, sym, ap, subst}
 use Rattle.std.proofs.Common.{arith, length-append}
 use Rattle.std.proofs.lemmas.Bool.{false≢true}
 use Rattle.std.proofs.lemmas.List.{append_assoc}
-use Rattle.std.specs.Cmp.Lexicographic.{bytes_decides, nat_list_eq_equiv}
+use Rattle.std.specs.Cmp.Lexicographic.{bytes_decides}
 use Rattle.std.specs.Prelude.{slice_get, is_some}
 use Rattle.data_key.specs.declared.key_doc.KeyDoc.{KeyDoc}
 use Rattle.key_vault.specs.Keys.{first_key, has_id, has_name, is_among, place_from}
-use Rattle.key_vault.specs.Loading.{are_new, is_id_known, is_name_known}
-use Rattle.key_vault.specs.Numbers.{number_of_id, number_of_name}
+use Rattle.key_vault.specs.Loading.{are_new, is_id_known, is_name_known, judged, kind_by}
+use Rattle.key_vault.specs.declared.faults.VaultKind.{VaultKind}
+use Rattle.key_vault.specs.declared.faults.VaultKind.TheVariants as kinds
+use Rattle.key_vault.specs.declared.numbers.Numbers.{Numbers}
+use Rattle.key_vault.specs.Numbers.{has_number, number_of}
 
 -- the number found, or else this one where the test holds
 abbrev or_new : Option ℕ → Bool → ℕ → Option ℕ
@@ -61,13 +64,13 @@ added test ks k number old known free count =
     ∙ sym (place_behind 0 test ks k)
 
 -- the numbers by id, with one more key of a new id
-pub id_added : {S : Type 0} (ks : List KeyDoc) (k : KeyDoc) (old new : HashMap (List ℕ) ℕ S) (number : ℕ)
-    → ((id : List ℕ) → number_of_id new id ≡ cond (bytes_eq k.id id) (Some number) (number_of_id old id))
-    → ((id : List ℕ) → number_of_id old id ≡ place_from 0 (has_id id) ks) → is_id_known ks k.id ≡ false
+pub id_added : (ks : List KeyDoc) (k : KeyDoc) (old new : Numbers) (number : ℕ)
+    → ((id : List ℕ) → number_of new id ≡ cond (bytes_eq k.id id) (Some number) (number_of old id))
+    → ((id : List ℕ) → number_of old id ≡ place_from 0 (has_id id) ks) → is_id_known ks k.id ≡ false
     → number ≡ length ks
-    → (id : List ℕ) → number_of_id new id ≡ place_from 0 (has_id id) (ks ++ k ∷ [])
+    → (id : List ℕ) → number_of new id ≡ place_from 0 (has_id id) (ks ++ k ∷ [])
 id_added ks k old new number put known free count id =
-    put id ∙ added (has_id id) ks k number (number_of_id old id) (known id)
+    put id ∙ added (has_id id) ks k number (number_of old id) (known id)
     (λ same. subst (λ q. place_from 0 (has_id q) ks ≡ None) ((bytes_decides k.id id).0 same)
     (no_place 0 (has_id k.id) ks free)) count
 
@@ -93,38 +96,81 @@ new_unknown known before (x ∷ names) new name there =
     (new_unknown known (x ∷ before) names parts.1 name)
 
 -- the numbers by name, with one more key of new names
-pub names_added : {S : Type 0} (ks : List KeyDoc) (k : KeyDoc) (old new : HashMap (Vec ℕ Global) ℕ S) (number : ℕ)
-    → ((name : List ℕ) → number_of_name new name ≡ cond (is_among name k.names) (Some number) (number_of_name old name))
-    → ((name : List ℕ) → number_of_name old name ≡ place_from 0 (has_name name) ks)
+pub names_added : (ks : List KeyDoc) (k : KeyDoc) (old new : Numbers) (number : ℕ)
+    → ((name : List ℕ) → number_of new name ≡ cond (is_among name k.names) (Some number) (number_of old name))
+    → ((name : List ℕ) → number_of old name ≡ place_from 0 (has_name name) ks)
     → are_new (is_name_known ks) [] k.names ≡ true → number ≡ length ks
-    → (name : List ℕ) → number_of_name new name ≡ place_from 0 (has_name name) (ks ++ k ∷ [])
+    → (name : List ℕ) → number_of new name ≡ place_from 0 (has_name name) (ks ++ k ∷ [])
 names_added ks k old new number put known free count name =
-    put name ∙ added (has_name name) ks k number (number_of_name old name) (known name)
+    put name ∙ added (has_name name) ks k number (number_of old name) (known name)
     (λ there. no_place 0 (has_name name) ks (new_unknown (is_name_known ks) [] k.names free name there)) count
 
--- one more name gets a number
-if_more : (same rest : Bool) (number : ℕ) (o : Option ℕ)
-    → cond rest (Some number) (cond same (Some number) o) ≡ cond (same || rest) (Some number) o
-if_more true true number o = refl
-if_more true false number o = refl
-if_more false true number o = refl
-if_more false false number o = refl
+-- a key has a number where there is one
+some_by : (b : Bool) (k : KeyDoc) (n : ℕ) (o : Option KeyDoc) (p : Option ℕ) → is_some p ≡ is_some o
+    → is_some (cond b (Some n) p) ≡ is_some (cond b (Some k) o)
+some_by true k n o p e = refl
+some_by false k n o p e = e
 
-pub put_next : {S : Type 0} (names rest all : List (List ℕ)) (name : List ℕ)
-    (start old new : HashMap (Vec ℕ Global) ℕ S) (number : ℕ) → names ≡ name ∷ rest
-    → ((other : List ℕ) → number_of_name new other
-    ≡ cond (bytes_eq name other) (Some number) (number_of_name old other))
-    → ((other : List ℕ) → cond (is_among other names) (Some number) (number_of_name old other)
-    ≡ cond (is_among other all) (Some number) (number_of_name start other))
-    → (other : List ℕ) → cond (is_among other rest) (Some number) (number_of_name new other)
-    ≡ cond (is_among other all) (Some number) (number_of_name start other)
-put_next names rest all name start old new number step put before other =
-    ap (λ (o : Option ℕ). cond (is_among other rest) (Some number) o) (put other)
-    ∙ ap (λ (b : Bool). cond (is_among other rest) (Some number) (cond b (Some number) (number_of_name old other)))
-    (nat_list_eq_equiv.symm name other)
-    ∙ if_more (bytes_eq other name) (is_among other rest) number (number_of_name old other)
-    ∙ ap (λ (ns : List (List ℕ)). cond (is_among other ns) (Some number) (number_of_name old other)) (sym step)
-    ∙ before other
+is_placed : (n : ℕ) (test : KeyDoc → Bool) (ks : List KeyDoc)
+    → is_some (place_from n test ks) ≡ is_some (first_key test ks)
+is_placed n test [] = refl
+is_placed n test (k ∷ ks) =
+    some_by (test k) k n (first_key test ks) (place_from (n + 1) test ks) (is_placed (n + 1) test ks)
+
+new_alike : (f g : List ℕ → Bool) → ((name : List ℕ) → f name ≡ g name) → (before names : List (List ℕ))
+    → are_new f before names ≡ are_new g before names
+new_alike f g same before [] = refl
+new_alike f g same before (name ∷ names) =
+    ap (λ (b : Bool). not (is_among name before || b) && are_new f (name ∷ before) names) (same name)
+    ∙ ap (λ (b : Bool). not (is_among name before || g name) && b) (new_alike f g same (name ∷ before) names)
+
+-- what is wrong with a key by the numbers is what is wrong with it by the keys
+pub kind_alike : (ks : List KeyDoc) (k : KeyDoc) (ids names : Numbers)
+    → ((id : List ℕ) → number_of ids id ≡ place_from 0 (has_id id) ks)
+    → ((name : List ℕ) → number_of names name ≡ place_from 0 (has_name name) ks)
+    → kind_by (has_number ids k.id) (are_new (has_number names) [] k.names)
+    ≡ kind_by (is_id_known ks k.id) (are_new (is_name_known ks) [] k.names)
+kind_alike ks k ids names known_ids known_names =
+    ap (λ (b : Bool). kind_by b (are_new (has_number names) [] k.names))
+    (ap is_some (known_ids k.id) ∙ is_placed 0 (has_id k.id) ks)
+    ∙ ap (kind_by (is_id_known ks k.id)) (new_alike (has_number names) (is_name_known ks)
+    (λ name. ap is_some (known_names name) ∙ is_placed 0 (has_name name) ks) [] k.names)
+
+-- nothing is wrong with a key whose id and names are new
+pub is_new : (id_known names_new : Bool) → None ≡ kind_by id_known names_new
+    → (id_known ≡ false) × (names_new ≡ true)
+is_new true names_new e = absurd cc
+is_new false true e = (refl, refl)
+is_new false false e = absurd cc
+
+-- the answer of this fault
+abbrev err_of : Option VaultKind → Result KeyDoc VaultKind
+err_of None = Err kinds.IdTwice
+err_of (Some kind) = Err kind
+
+accepted_by : (id_known names_new : Bool) (k : KeyDoc) → None ≡ kind_by id_known names_new
+    → cond id_known (Err kinds.IdTwice) (cond names_new (Ok k) (Err kinds.NameTwice)) ≡ Ok k
+accepted_by true names_new k e = absurd cc
+accepted_by false true k e = refl
+accepted_by false false k e = absurd cc
+
+refused_by : (id_known names_new : Bool) (k : KeyDoc) (kind : VaultKind) → Some kind ≡ kind_by id_known names_new
+    → cond id_known (Err kinds.IdTwice) (cond names_new (Ok k) (Err kinds.NameTwice)) ≡ Err kind
+refused_by true names_new k kind e = ap (λ (o : Option VaultKind). err_of o) (sym e)
+refused_by false true k kind e = absurd cc
+refused_by false false k kind e = ap (λ (o : Option VaultKind). err_of o) (sym e)
+
+-- so a key is accepted
+pub accepted : (ks : List KeyDoc) (k : KeyDoc)
+    → None ≡ kind_by (is_id_known ks k.id) (are_new (is_name_known ks) [] k.names)
+    → judged ks (Ok k) ≡ Ok k
+accepted ks k = accepted_by (is_id_known ks k.id) (are_new (is_name_known ks) [] k.names) k
+
+-- or refused
+pub refused : (ks : List KeyDoc) (k : KeyDoc) (kind : VaultKind)
+    → Some kind ≡ kind_by (is_id_known ks k.id) (are_new (is_name_known ks) [] k.names)
+    → judged ks (Ok k) ≡ Err kind
+refused ks k kind = refused_by (is_id_known ks k.id) (are_new (is_name_known ks) [] k.names) k kind
 
 seam : (front : List KeyDoc) (c : KeyDoc) (cs : List KeyDoc) (n : ℕ) → n ≡ length front
     → slice_get (front ++ c ∷ cs) n ≡ Some c

@@ -1,6 +1,6 @@
 -- MongoDB Client Side Encryption, "Key vault": the keys of a file of key documents, one after another
-use Rattle.std.specs.Prelude.{◌≡◌, ◌≤◌, ℕ, zero, suc, ◌+◌, ◌++◌, Bool, true, not, ◌||◌, ◌&&◌, nat_lt, List, [], ◌∷◌}
-use Rattle.std.specs.Prelude.{length, drop, is_some, Result, Ok, Err, if◌then◌else◌}
+use Rattle.std.specs.Prelude.{◌≡◌, ◌≤◌, ℕ, zero, suc, ◌+◌, ◌++◌, Bool, true, false, not, ◌||◌, ◌&&◌, nat_lt, List, [], ◌∷◌}
+use Rattle.std.specs.Prelude.{length, drop, is_some, Option, Some, None, Result, Ok, Err, if◌then◌else◌}
 use Rattle.bson_tree.specs.Tree.{Items}
 use Rattle.bson_codec.specs.declared.fault.BsonFault.{BsonFault}
 use Rattle.bson_codec.specs.Reading.{front_document}
@@ -50,11 +50,18 @@ judged before (Ok key) =
 unfoldable pub key_behind : List KeyDoc → Items → Result KeyDoc VaultKind
 key_behind before is = if nat_lt (length before) key_limit then judged before (key_in is) else Err kinds.TooMany
 
--- what reading a key answers is what the document states; memory may run out at any time
-abbrev pub Reads : Result KeyDoc VaultFault → ℕ → Result KeyDoc VaultKind → Type 0
-Reads (Ok key) number read = read ≡ Ok key
-Reads (Err (faults.Bad document kind)) number read = (document ≡ number) × (read ≡ Err kind)
-Reads (Err faults.Memory) number read = Unit {0}
+-- what is wrong with a key by whether its id is known and whether its names are new
+abbrev pub kind_by : Bool → Bool → Option VaultKind
+kind_by true new = Some kinds.IdTwice
+kind_by false true = None
+kind_by false false = Some kinds.NameTwice
+
+-- what adding a document of this number answers is what it states, and the key is behind those before; memory may run
+-- out at any time
+abbrev pub Grows : List KeyDoc → List KeyDoc → ℕ → Result Unit VaultFault → Result KeyDoc VaultKind → Type 0
+Grows before now number (Ok _) read = (key : KeyDoc) × (read ≡ Ok key) × (now ≡ before ++ key ∷ [])
+Grows before now number (Err (faults.Bad document kind)) read = (document ≡ number) × (read ≡ Err kind)
+Grows before now number (Err faults.Memory) read = Unit {0}
 
 -- a file's first faulty document, from 1, and what is wrong with it
 pub record Faulty : Type 0 where

@@ -1,19 +1,18 @@
 //! Keys read into a vault, one document after another.
 
-ghost use Rattle.std.specs.Prelude.{◌≡◌, ◌<◌, ◌≤◌, ◌+◌, ◌++◌, ◌∷◌, [], ◌^◌, false, true, length, Ok, IfOk, MatchResult};
-ghost use Rattle.key_vault.specs.declared.faults.VaultFault.TheVariants as errors;
-ghost use Rattle.key_vault.specs.Loading.{Adds, are_new, front_key, is_id_known, is_name_known, judged, key_behind};
-ghost use Rattle.key_vault.specs.Loading.{kind_of, Reads};
+ghost use Rattle.std.specs.Prelude.{◌≡◌, ◌<◌, ◌≤◌, [], ◌^◌, ℕ, List, length, bytes_eq, None, Some, Ok, IfOk};
+ghost use Rattle.std.specs.Prelude.{if◌then◌else◌};
+ghost use Rattle.key_vault.specs.Keys.{is_among};
+ghost use Rattle.key_vault.specs.Loading.{Adds, are_new, front_key, Grows, judged, key_behind, kind_by, kind_of};
+ghost use Rattle.key_vault.specs.Numbers.{has_number, number_of};
 
 use crate::faults::{VaultFault, VaultKind};
-use crate::numbers::{put_id, put_names};
+use crate::numbers::Numbers;
 use crate::vault::Vault;
 use bson_codec::{RawDoc, first_doc};
-use bson_tree::Names;
 use data_key::{KeyDoc, KeyFault, read_key};
 use fle_outside::Memory;
 use std::alloc::Global;
-use std::collections::BTreeSet;
 
 /// The most keys of a vault.
 const KEYS: usize = 65536;
@@ -35,19 +34,22 @@ impl Vault {
             }),
             Ok((key, _)) => {
                 let n = key.bytes().len();
-                let key = self.read(alloc, document, &key)?;
-                self.add(alloc, key)?;
+                self.add_document(alloc, document, &key)?;
                 Ok(n)
             }
         }
     }
 
-    /// The key that a document states, behind those before.
+    /// Adds the key that a document states, behind those before.
     #[tactic(auto, unfolding(crate::specs::Loading::key_behind))]
-    fn read(&self, alloc: Global, document: u32, key: &RawDoc<'_>) -> Result<KeyDoc, VaultFault>
-        ensures read { Reads result document (key_behind self.now key.now.tree) }
-        ensures new_id { IfOk result (λ k. is_id_known self.now k.id ≡ false) }
-        ensures new_names { IfOk result (λ k. are_new (is_name_known self.now) [] k.names ≡ true) }
+    fn add_document(
+        &mut self,
+        alloc: Global,
+        document: u32,
+        key: &RawDoc<'_>,
+    ) -> Result<(), VaultFault>
+        requires few { length self.old < 2 ^ 31 }
+        ensures added { Grows self.old self.new document result (key_behind self.old key.now.tree) }
     {
         if self.len() >= KEYS {
             return Err(VaultFault::Bad {
@@ -56,7 +58,7 @@ impl Vault {
             });
         }
         match read_key(alloc, key) {
-            Ok(key) => self.judge(alloc, document, key),
+            Ok(key) => self.add(alloc, document, key),
             Err(KeyFault::Memory) => Err(VaultFault::Memory),
             Err(fault) => Err(VaultFault::Bad {
                 document,
@@ -65,83 +67,68 @@ impl Vault {
         }
     }
 
-    /// The key, where its id and its names are new.
-    fn judge(&self, alloc: Global, document: u32, key: KeyDoc) -> Result<KeyDoc, VaultFault>
-        ensures read { Reads result document (judged self.now (Ok key)) }
-        ensures new_id { IfOk result (λ k. is_id_known self.now k.id ≡ false) }
-        ensures new_names { IfOk result (λ k. are_new (is_name_known self.now) [] k.names ≡ true) }
-    {
-        if self.by_id(&key.id).is_some() {
-            return Err(VaultFault::Bad {
-                document,
-                kind: VaultKind::IdTwice,
-            });
-        }
-        match self.are_new(alloc, &key.names) {
-            Ok(true) => Ok(key),
-            Ok(false) => Err(VaultFault::Bad {
-                document,
-                kind: VaultKind::NameTwice,
-            }),
-            Err(_) => Err(VaultFault::Memory),
-        }
-    }
-
-    /// Whether no key has one of these names, and none of them stands twice.
-    #[tactic(auto, using(crate::proofs::Sets::stops_known))]
-    fn are_new(&self, alloc: Global, names: &Names) -> Result<bool, Memory>
-        ensures { IfOk result (λ new. new ≡ are_new (is_name_known self.now) [] names.now) }
-    {
-        let mut before = BTreeSet::new(alloc);
-        for name in names.as_slice() {
-            if self.by_name(name.as_slice()).is_some() {
-                return Ok(false);
-            }
-            match before.insert(name.as_slice()) {
-                Ok(true) => {}
-                Ok(false) => return Ok(false),
-                Err(_) => return Err(Memory),
-            }
-        }
-        Ok(true)
-    }
-
-    /// Adds a key behind the others, whose id and names are new. After `Memory` it may be that none is left.
-    fn add(&mut self, alloc: Global, key: KeyDoc) -> Result<(), VaultFault>
+    /// Adds a key behind the others, where its id and its names are new. Where they aren't, and after `Memory`, it may
+    /// be that no key is left.
+    fn add(&mut self, alloc: Global, document: u32, key: KeyDoc) -> Result<(), VaultFault>
         requires few { length self.old < 2 ^ 31 }
-        requires new_id { is_id_known self.old key.id ≡ false }
-        requires new_names { are_new (is_name_known self.old) [] key.names ≡ true }
-        ensures added { MatchResult result (λ _. self.new ≡ self.old ++ key ∷ []) (λ e. e ≡ errors.Memory) }
+        ensures added { Grows self.old self.new document result (judged self.old (Ok key)) }
     {
         let number = self.keys.len() as u32;
-        match put_id(&mut self.ids, key.id, number) {
-            Ok(()) => {}
-            Err(_) => {
-                self.keys.clear();
-                self.ids.clear();
-                self.names.clear();
-                return Err(VaultFault::Memory);
+        match put_numbers(alloc, &mut self.ids, &mut self.names, &key, number) {
+            Ok(None) => match self.keys.push(key) {
+                Ok(()) => {
+                    return Ok(());
+                }
+                Err(_) => {
+                    clear(&mut self.keys, &mut self.ids, &mut self.names);
+                    return Err(VaultFault::Memory);
+                }
+            },
+            Ok(Some(kind)) => {
+                clear(&mut self.keys, &mut self.ids, &mut self.names);
+                Err(VaultFault::Bad { document, kind })
             }
-        }
-        match put_names(alloc, &mut self.names, key.names.as_slice(), number) {
-            Ok(()) => {}
             Err(_) => {
-                self.keys.clear();
-                self.ids.clear();
-                self.names.clear();
-                return Err(VaultFault::Memory);
-            }
-        }
-        match self.keys.push(key) {
-            Ok(()) => Ok(()),
-            Err(_) => {
-                self.keys.clear();
-                self.ids.clear();
-                self.names.clear();
+                clear(&mut self.keys, &mut self.ids, &mut self.names);
                 Err(VaultFault::Memory)
             }
         }
     }
+}
+
+/// Gives the id and the names of a key its number, or tells which of them has one. They are judged in this order.
+fn put_numbers(
+    alloc: Global,
+    ids: &mut Numbers,
+    names: &mut Numbers,
+    key: &KeyDoc,
+    number: u32,
+) -> Result<Option<VaultKind>, Memory>
+    ensures kind { IfOk result (λ kind. kind
+        ≡ kind_by (has_number ids.old key.now.id) (are_new (has_number names.old) [] key.now.names)) }
+    ensures ids { IfOk result (λ kind. kind ≡ None → (id : List ℕ) → number_of ids.new id
+        ≡ (if bytes_eq key.now.id id then Some number else number_of ids.old id)) }
+    ensures names { IfOk result (λ kind. kind ≡ None → (name : List ℕ) → number_of names.new name
+        ≡ (if is_among name key.now.names then Some number else number_of names.old name)) }
+{
+    if !ids.put(alloc, &key.id, number)? {
+        return Ok(Some(VaultKind::IdTwice));
+    }
+    if !names.put_all(alloc, key.names.as_slice(), number)? {
+        return Ok(Some(VaultKind::NameTwice));
+    }
+    Ok(None)
+}
+
+/// Takes the keys and their numbers away.
+fn clear(keys: &mut Vec<KeyDoc>, ids: &mut Numbers, names: &mut Numbers)
+    ensures keys { keys.new.items ≡ [] }
+    ensures ids { (id : List ℕ) → number_of ids.new id ≡ None }
+    ensures names { (name : List ℕ) → number_of names.new name ≡ None }
+{
+    keys.clear();
+    ids.clear();
+    names.clear();
 }
 
 /// What is wrong with a document that has this fault.

@@ -5,35 +5,34 @@ ghost use Rattle.key_vault.specs.Keys.{key_by_id, key_by_name};
 ghost use Rattle.key_vault.specs.Loading.{Loads, vault};
 
 use crate::faults::VaultFault;
-use crate::numbers::{number_of_id, number_of_name};
+use crate::numbers::Numbers;
 use data_key::KeyDoc;
 use std::alloc::Global;
-use std::collections::HashMap;
 use std::marker::Model;
 
-/// So many keys are looked through for one of an id, which costs less than its hash.
+/// So many keys are looked through for one of an id, which costs less than its number.
 const FEW: usize = 8;
 
 /// The keys of a file, seen as their list, in the file's order.
 #[derive(Drop)]
 pub struct Vault {
     pub(crate) keys: Vec<KeyDoc>,
-    pub(crate) ids: HashMap<[u8; 16], u32>,
-    pub(crate) names: HashMap<Vec<u8>, u32>,
+    pub(crate) ids: Numbers,
+    pub(crate) names: Numbers,
 }
 
 impl Model for Vault {
     ghost use Rattle.std.specs.Prelude.{◌≡◌, ℕ, List};
     ghost use Rattle.data_key.specs.declared.key_doc.KeyDoc.{KeyDoc};
     ghost use Rattle.key_vault.specs.Keys.{has_id, has_name, place_from};
-    ghost use Rattle.key_vault.specs.Numbers.{number_of_id, number_of_name};
+    ghost use Rattle.key_vault.specs.Numbers.{number_of};
 
     ghost Value = { List KeyDoc };
 
     ghost view = { λ v. v.keys.items };
 
-    ghost invariant = { λ v. ((id : List ℕ) → number_of_id v.ids id ≡ place_from 0 (has_id id) v.keys.items)
-        × ((name : List ℕ) → number_of_name v.names name ≡ place_from 0 (has_name name) v.keys.items) };
+    ghost invariant = { λ v. ((id : List ℕ) → number_of v.ids id ≡ place_from 0 (has_id id) v.keys.items)
+        × ((name : List ℕ) → number_of v.names name ≡ place_from 0 (has_name name) v.keys.items) };
 }
 
 impl Vault {
@@ -75,24 +74,24 @@ impl Vault {
         &self.keys
     }
 
-    /// The key of this id, found by its hash where there are more than eight; `None` exactly where there is none.
+    /// The key of this id, found by its number where there are more than eight; `None` exactly where there is none.
     pub fn by_id(&self, id: &[u8; 16]) -> Option<&KeyDoc>
         ensures found { option_copied result ≡ key_by_id self.now id.now }
     {
         if self.keys.len() <= FEW {
             return first_key(&self.keys, id);
         }
-        match number_of_id(&self.ids, id) {
+        match self.ids.get(id) {
             Some(number) => key_at(&self.keys, number as usize),
             None => None,
         }
     }
 
-    /// The key of this alternate name, found by its hash; `None` exactly where there is none.
+    /// The key of this alternate name, found by its number; `None` exactly where there is none.
     pub fn by_name(&self, name: &[u8]) -> Option<&KeyDoc>
         ensures found { option_copied result ≡ key_by_name self.now name.now }
     {
-        match number_of_name(&self.names, name) {
+        match self.names.get(name) {
             Some(number) => key_at(&self.keys, number as usize),
             None => None,
         }
@@ -104,8 +103,8 @@ impl Vault {
     {
         Vault {
             keys: Vec::new(alloc),
-            ids: HashMap::new(alloc),
-            names: HashMap::new(alloc),
+            ids: Numbers::new(alloc),
+            names: Numbers::new(alloc),
         }
     }
 }

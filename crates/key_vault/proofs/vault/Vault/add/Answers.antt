@@ -1,24 +1,41 @@
-use Rattle.std.proofs.Common.{◌≡◌, ℕ, List, [], true, false, cond, Some, length, subst, rules}
-use Rattle.key_vault.specs.Keys.{is_among}
-use Rattle.key_vault.specs.Loading.{are_new, is_id_known, is_name_known}
-use Rattle.key_vault.specs.Numbers.{number_of_name}
-use Rattle.key_vault.proofs.Numbered.{id_added, names_added}
+-- The numbers of a key that was added, and what is answered by what the numbers tell of it.
+use Rattle.std.proofs.Common.{◌≡◌, ◌∙◌, length, refl, sym, rules}
+use Rattle.key_vault.proofs.Numbered.{accepted, id_added, is_new, kind_alike, names_added, refused}
 use Rattle.key_vault.proofs.vault.Vault.add.Goals as goal
 
-pub invariant_of-self-in-Ok-push : goal.invariant_of-self-in-Ok-push
-invariant_of-self-in-Ok-push c =
-    let free : is_id_known c.self.inside.keys.items c.args.key.id ≡ false = search rules in
-    let new : are_new (is_name_known c.self.inside.keys.items) [] c.args.key.names ≡ true = search rules in
+pub invariant_of-self : goal.invariant_of-self
+invariant_of-self c =
+    let keys = c.self.inside.keys.items in
     let count : c.len-number.result ≡ length c.self.inside.keys.items = search rules in
-    let put : (name : List ℕ) → number_of_name c.put_names.new.numbers name
-    ≡ cond (is_among name c.args.key.names) (Some c.len-number.result) (number_of_name c.self.inside.names name) =
-    subst
-    (λ (ns : List (List ℕ)). (name : List ℕ) → number_of_name c.put_names.new.numbers name
-    ≡ cond (is_among name ns) (Some c.len-number.result) (number_of_name c.self.inside.names name))
-    c.as_slice.ensures.same c.in-Ok-put_names.ensures.put in
-    rw c.in-Ok-push.ensures.items (
-      id_added c.self.inside.keys.items c.args.key c.self.inside.ids c.put_id.new.numbers c.len-number.result
-          c.in-Ok.ensures.put c.self.invariant.0 free count,
-      names_added c.self.inside.keys.items c.args.key c.self.inside.names c.put_names.new.numbers c.len-number.result
-          put c.self.invariant.1 new count,
+    let new = is_new _ _ (sym c.in-Ok-None.field-0-is ∙ c.in-Ok-None.ensures.kind
+    ∙ kind_alike keys c.args.key c.self.inside.ids c.self.inside.names c.self.invariant.0 c.self.invariant.1) in
+    rw c.in-Ok.ensures.items (
+      id_added keys c.args.key c.self.inside.ids c.put_numbers.new.ids c.len-number.result
+          (c.in-Ok-None.ensures.ids c.in-Ok-None.field-0-is) c.self.invariant.0 new.0 count,
+      names_added keys c.args.key c.self.inside.names c.put_numbers.new.names c.len-number.result
+          (c.in-Ok-None.ensures.names c.in-Ok-None.field-0-is) c.self.invariant.1 new.1 count,
     )
+
+pub returns-in-Ok : goal.returns-in-Ok
+returns-in-Ok c =
+    rw (sym c.self.view_is) record {
+      added = (
+        c.args.key,
+        accepted c.self.inside.keys.items c.args.key (sym c.in-Ok-None.field-0-is ∙ c.in-Ok-None.ensures.kind
+            ∙ kind_alike c.self.inside.keys.items c.args.key c.self.inside.ids c.self.inside.names
+            c.self.invariant.0 c.self.invariant.1),
+        c.in-Ok.ensures.items,
+      );
+    }
+
+pub returns-in-Ok-Some : goal.returns-in-Ok-Some
+returns-in-Ok-Some c =
+    rw (sym c.self.view_is) record {
+      added = (
+        refl,
+        refused c.self.inside.keys.items c.args.key c.in-Ok-Some.kind
+            (sym c.in-Ok-Some.field-0-is ∙ c.in-Ok-Some.ensures.kind
+            ∙ kind_alike c.self.inside.keys.items c.args.key c.self.inside.ids c.self.inside.names
+            c.self.invariant.0 c.self.invariant.1),
+      );
+    }
