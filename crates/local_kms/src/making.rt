@@ -13,12 +13,10 @@ use data_key::{KeyDoc, Provider};
 use fle_aead::DataKey;
 use fle_outside::{Entropy, Failed};
 use std::alloc::Global;
-use thiserror::Error;
 use uuid::Builder;
 
 /// Why no key is made.
-#[derive(Clone, Copy, Debug, PartialEq, Eq, Error)]
-#[error("no key is made")]
+#[derive(Clone, Copy, Debug, PartialEq, Eq)]
 pub enum NewFault {
     /// A draw failed.
     EntropyFailed,

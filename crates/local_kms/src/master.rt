@@ -8,6 +8,7 @@ ghost use Rattle.local_kms.specs.Master.{is_text, key_of_text, master_in};
 use base64::engine::general_purpose::STANDARD;
 use fle_aead::DataKey;
 use std::marker::Model;
+use thiserror::Error;
 
 /// How many bytes a master key has.
 const KEY: usize = 96;
@@ -55,7 +56,8 @@ impl MasterKey {
 }
 
 /// Why a file holds no master key.
-#[derive(Clone, Copy, Debug, PartialEq, Eq)]
+#[derive(Clone, Copy, Debug, PartialEq, Eq, Error)]
+#[error("master key refused")]
 pub enum MasterFault {
     /// It has neither 96 nor 128 bytes, nor 129 of which the last is a line feed.
     Length,

@@ -8,6 +8,7 @@ ghost use Rattle.local_kms.specs.Wrapped.{Unwraps};
 use crate::master::MasterKey;
 use crypto_hooks::Block256;
 use fle_aead::{DataKey, OpenFault, open_into, seal_into};
+use std::fmt;
 
 /// How many bytes a data key has.
 const KEY: usize = 96;
@@ -15,8 +16,8 @@ const KEY: usize = 96;
 /// How many bytes a sealed data key has: a vector, seven blocks and a tag.
 const MATERIAL: usize = 160;
 
-/// Why material isn't opened.
-#[derive(Clone, Copy, Debug, PartialEq, Eq)]
+/// Why material isn't opened. Its `Debug` has no tag, since whoever reads the right one can forge a vault's entry.
+#[derive(Clone, Copy, PartialEq, Eq)]
 pub enum UnwrapFault {
     /// It isn't 160 bytes; or tag and padding are right, and what is sealed isn't 96 bytes.
     Length,
@@ -29,6 +30,16 @@ pub enum UnwrapFault {
     },
     /// The tag is right and the padding isn't.
     Padding,
+}
+
+impl fmt::Debug for UnwrapFault {
+    fn fmt<W: fmt::Write>(&self, f: &mut fmt::Formatter<W>) -> fmt::Result {
+        f.write_str(match self {
+            UnwrapFault::Length => "Length",
+            UnwrapFault::Tag { .. } => "Tag",
+            UnwrapFault::Padding => "Padding",
+        })
+    }
 }
 
 /// Seals a data key under a master key and this initialization vector, without associated data.

@@ -13,6 +13,8 @@ mod cache_tests;
 #[cfg(test)]
 mod cbc_tests;
 #[cfg(test)]
+mod fault_tests;
+#[cfg(test)]
 mod hooks_tests;
 #[cfg(test)]
 mod mac_tests;
