@@ -1,7 +1,7 @@
 -- Bytes put over others in a buffer.
-use Rattle.std.proofs.Common.{◌≡◌, ◌∙◌, ℕ, ◌≤◌, List, ◌++◌, length, take, drop, sym, ap, append_assoc, arith}
-use Rattle.std.proofs.Common.{length-append, length-take-le}
-use Rattle.std.proofs.lemmas.List.{take_at, drop_at, take-append-drop}
+use Rattle.std.proofs.Common.{◌≡◌, ◌∙◌, ℕ, ◌+◌, ◌-◌, ◌≤◌, List, ◌++◌, length, take, drop, sym, ap, append_assoc, arith}
+use Rattle.std.proofs.Common.{length-append, length-take-le, subst}
+use Rattle.std.proofs.lemmas.List.{take_at, drop_at, drop-drop, take-append-drop}
 
 -- four bytes of the first n are put over
 pub patched : (a n : ℕ) (xs ys front four elements : List ℕ) → length front ≡ a → length four ≡ 4 → length ys ≡ 4
@@ -34,3 +34,20 @@ patched a n xs ys front four elements here four4 ys4 old inside =
     )
     in
     rw (before, behind) (ap (take n) joined ∙ take_at (front ++ (ys ++ elements)) rest n size)
+
+-- what is the same from an offset on is the same from a later one on
+pub later : (m n : ℕ) (xs ys : List ℕ) → m ≤ n → drop m xs ≡ drop m ys → drop n xs ≡ drop n ys
+later m n xs ys h same =
+    let k : m + (n - m) ≡ n = omega (arith, h) in
+    subst (λ (i : ℕ). drop i xs ≡ drop i ys) k
+    (sym (drop-drop (n - m) m xs) ∙ ap (drop (n - m)) same ∙ drop-drop (n - m) m ys)
+
+-- bytes that are put over others leave those behind them
+pub behind_put : (a n k : ℕ) (xs ys : List ℕ) → a ≤ length xs → length ys ≡ n → k ≡ n
+    → drop (a + n) (take a xs ++ (ys ++ drop k (drop a xs))) ≡ drop (a + n) xs
+behind_put a n k xs ys inside size same =
+    sym (drop-drop n a (take a xs ++ (ys ++ drop k (drop a xs))))
+    ∙ ap (drop n) (drop_at (take a xs) (ys ++ drop k (drop a xs)) a (length-take-le a xs inside))
+    ∙ drop_at ys (drop k (drop a xs)) n size
+    ∙ ap (λ (i : ℕ). drop i (drop a xs)) same
+    ∙ drop-drop n a xs

@@ -2,7 +2,7 @@ use Rattle.std.proofs.Common.{◌≡◌, ◌∙◌, ◌+◌, ◌-◌, [], ◌∷
 use Rattle.std.proofs.Common.{length-append, length-take-le}
 use Rattle.std.specs.Int.{to_le_bytes, w32}
 use borrow.Rule.Slice.PartMut.{put_mid}
-use Rattle.bson_splice.proofs.Parts.{patched}
+use Rattle.bson_splice.proofs.Parts.{behind_put, later, patched}
 use Rattle.bson_splice.proofs.writing.close.Goals as goal
 
 pub returns-clause-closed : goal.returns-clause-closed
@@ -30,3 +30,14 @@ returns-clause-closed c = λ front four elements here four4 old.
     ∙ patched c.args.at c.put-behind.result xs ys front four (elements ++ 0 ∷ []) here four4 four_long whole
     (omega (arith, c.put-behind.ensures.end, c.put-behind.ensures.size, c.requires.room))
     ∙ ap (λ (y : List ℕ). front ++ (y ++ (elements ++ 0 ∷ []))) bytes
+
+pub returns-clause-behind : goal.returns-clause-behind
+returns-clause-behind c =
+    let at = c.args.at in
+    let four : length c.copy_from_slice.new.self ≡ 4 =
+    ap length (c.copy_from_slice.ensures.after ∙ c.to_le_bytes.ensures) in
+    later (at + 4) c.put-behind.result _ c.put-behind.new.out
+    (omega (arith, c.requires.begun, c.put-behind.ensures.end))
+    (behind_put at 4 (at + 4 - at) c.put-behind.new.out c.copy_from_slice.new.self
+    (omega (arith, c.requires.begun, c.requires.room, c.put-behind.ensures.size)) four (omega arith))
+    ∙ c.put-behind.ensures.behind
