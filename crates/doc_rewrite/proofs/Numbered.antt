@@ -1,7 +1,12 @@
 -- The number of an entry by its id, in a list that grows
 use Rattle.std.proofs.Common.{◌≡◌, ◌∙◌, ℕ, zero, suc, ◌+◌, Bool, true, false, cond, List, [], ◌∷◌, ◌++◌, length}
-use Rattle.std.proofs.Common.{Option, Some, None, HashMap, bytes_eq, refl, sym, ap, subst, arith, length-append}
+use Rattle.std.proofs.Common.{Option, Some, None, bytes_eq, refl, sym, ap, subst, arith, length-append}
 use Rattle.std.proofs.lemmas.List.{append_assoc}
+use Rattle.std.proofs.lemmas.Map.Text.{is_eq-slice_cmp}
+use Rattle.std.specs.BTreeMap.{BTreeMap, UpdatesBy}
+use Rattle.std.specs.Cmp.Lexicographic.{bytes_decides, slice_cmp}
+use Rattle.std.specs.Ordering.{nat_cmp}
+use Rattle.std.specs.Prelude.{is_some}
 use Rattle.std.specs.Prelude.{option_map, slice_get}
 use Rattle.doc_rewrite.specs.declared.key_table.KeyEntry.{KeyEntry}
 use Rattle.doc_rewrite.specs.Keys.{key_in}
@@ -23,8 +28,28 @@ place_behind n id (d ∷ es) e =
     ∙ or_new_if (bytes_eq d.id id) n (place_from (n + 1) id es) (bytes_eq e.id id) (n + 1 + length es)
     (n + length (d ∷ es)) k
 
+none_there : (o : Option ℕ) → is_some o ≡ false → o ≡ None
+none_there None e = refl
+none_there (Some n) e = absurd cc
+
+new_by : (test : Bool) (o : Option ℕ) (number : ℕ) → (test ≡ true → o ≡ None)
+    → cond test (Some number) o ≡ or_new o test number
+new_by true o number none = sym (ap (λ (p : Option ℕ). or_new p true number) (none refl))
+new_by false None number none = refl
+new_by false (Some n) number none = refl
+
+-- an id that had no number gets one, and others stay
+pub first_put : (id : List ℕ) (old new : BTreeMap (List ℕ) ℕ) (number : ℕ) → is_some (number_of_id old id) ≡ false
+    → UpdatesBy (slice_cmp nat_cmp) (slice_cmp nat_cmp id) old new (Some number)
+    → (other : List ℕ) → number_of_id new other ≡ or_new (number_of_id old other) (bytes_eq id other) number
+first_put id old new number lacks updates other =
+    updates.0 other ∙ ap (λ (b : Bool). cond b (Some number) (number_of_id old other)) (is_eq-slice_cmp id other)
+    ∙ new_by (bytes_eq id other) (number_of_id old other) number
+    (λ same. subst (λ (i : List ℕ). number_of_id old i ≡ None) ((bytes_decides id other).0 same)
+    (none_there (number_of_id old id) lacks))
+
 -- the numbers by id, with one more entry
-pub added : {S : Type 0} (es : List KeyEntry) (e : KeyEntry) (old new : HashMap (List ℕ) ℕ S) (number : ℕ)
+pub added : (es : List KeyEntry) (e : KeyEntry) (old new : BTreeMap (List ℕ) ℕ) (number : ℕ)
     → ((id : List ℕ) → number_of_id new id ≡ or_new (number_of_id old id) (bytes_eq e.id id) number)
     → ((id : List ℕ) → number_of_id old id ≡ place_from 0 id es) → number ≡ length es
     → (id : List ℕ) → number_of_id new id ≡ place_from 0 id (es ++ e ∷ [])

@@ -1,11 +1,13 @@
 -- Where entries stand in a list of data keys, by their ids
 use Rattle.std.specs.Prelude.{ℕ, ◌+◌, Bool, List, [], ◌∷◌, Option, Some, None, bytes_eq, if◌then◌else◌}
-use Rattle.std.specs.HashMap.{HashMap, get_by}
+use Rattle.std.specs.BTreeMap.{BTreeMap, get_by}
+use Rattle.std.specs.Cmp.Lexicographic.{slice_cmp}
+use Rattle.std.specs.Ordering.{nat_cmp}
 use Rattle.doc_rewrite.specs.declared.key_table.KeyEntry.{KeyEntry}
 
--- the number that a map has for an id, whatever hashes its keys
-abbrev pub number_of_id : {S : Type 0} → HashMap (List ℕ) ℕ S → List ℕ → Option ℕ
-number_of_id numbers id = get_by (λ k. bytes_eq id k) numbers
+-- the number that a map has for an id
+abbrev pub number_of_id : BTreeMap (List ℕ) ℕ → List ℕ → Option ℕ
+number_of_id numbers id = get_by (slice_cmp nat_cmp id) numbers
 
 -- the number of the first entry with an id, among entries that are counted from n on
 abbrev pub place_from : ℕ → List ℕ → List KeyEntry → Option ℕ

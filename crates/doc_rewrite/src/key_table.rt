@@ -1,20 +1,17 @@
 //! Data keys by their ids.
 
-ghost use Rattle.std.specs.Prelude.{◌≡◌, ◌++◌, ◌∷◌, [], bytes_eq, is_some, true};
+ghost use Rattle.std.specs.Prelude.{◌≡◌, ◌++◌, ◌∷◌, [], is_some, true};
 ghost use Rattle.std.specs.Prelude.{MatchResult, option_copied, unwrap_or};
 ghost use Rattle.doc_rewrite.specs.Keys.{key_in};
 
-use crate::hashed_keys::HashedKeys;
+use crate::indexed_keys::IndexedKeys;
 use fle_aead::{DataKey, SharedKey};
 use fle_outside::Memory;
 use std::alloc::Global;
 use std::marker::Model;
 
-/// So many keys are looked through, one after another; those behind them are found by their hashes.
+/// So many keys are looked through, one after another; those behind them are found by an index.
 const FEW: usize = 8;
-
-/// The length of an id in bytes.
-const ID: usize = 16;
 
 /// A data key with its id.
 #[derive(Drop)]
@@ -31,7 +28,7 @@ pub struct KeyTable {
     alloc: Global,
     few: Vec<KeyEntry>,
     /// Those behind the first `FEW`.
-    others: HashedKeys,
+    others: IndexedKeys,
 }
 
 impl Model for KeyTable {
@@ -53,7 +50,7 @@ impl KeyTable {
         KeyTable {
             alloc,
             few: Vec::new(alloc),
-            others: HashedKeys::new(alloc),
+            others: IndexedKeys::new(alloc),
         }
     }
 
@@ -109,23 +106,11 @@ fn first_key<'k>(entries: &'k [KeyEntry], id: &[u8; 16]) -> Option<&'k DataKey>
     ensures found { option_copied result ≡ key_in entries.now id.now }
 {
     for entry in entries {
-        if is_same(&entry.id, id) {
+        if entry.id == *id {
             return Some(entry.key.key());
         }
     }
     None
-}
-
-/// Whether two ids are the same. All their bytes are looked at, which is one comparison of 16 bytes; that of slices is
-/// a call.
-fn is_same(left: &[u8; 16], right: &[u8; 16]) -> bool
-    ensures same { result ≡ bytes_eq left.now right.now }
-{
-    let mut differences = 0;
-    for i in 0..ID {
-        differences |= left[i] ^ right[i];
-    }
-    differences == 0
 }
 
 /// The key with this id, which is there.

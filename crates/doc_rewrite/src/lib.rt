@@ -24,7 +24,7 @@
 
 mod finding;
 mod found;
-mod hashed_keys;
+mod indexed_keys;
 mod key_table;
 pub mod laws;
 mod leaf;

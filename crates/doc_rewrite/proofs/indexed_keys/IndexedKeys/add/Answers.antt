@@ -1,6 +1,6 @@
 use Rattle.std.proofs.Common.{◌≡◌, length, rules}
 use Rattle.doc_rewrite.proofs.Numbered.{added}
-use Rattle.doc_rewrite.proofs.hashed_keys.HashedKeys.add.Goals as goal
+use Rattle.doc_rewrite.proofs.indexed_keys.IndexedKeys.add.Goals as goal
 
 pub invariant_of-self-in-Ok-put_first : goal.invariant_of-self-in-Ok-put_first
 invariant_of-self-in-Ok-put_first c =

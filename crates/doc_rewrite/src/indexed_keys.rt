@@ -1,4 +1,5 @@
-//! Data keys that are found by the hashes of their ids.
+//! Data keys with an index by their ids. It is searched in the order of the ids: whoever writes a document or a vault
+//! chooses ids, and can't make a search long by them, as by hashes that collide.
 
 ghost use Rattle.std.specs.Prelude.{◌≡◌, ◌++◌, ◌∷◌, ℕ, List, [], bytes_eq, option_copied, option_map, slice_get};
 ghost use Rattle.std.specs.Prelude.{MatchResult};
@@ -9,18 +10,18 @@ use crate::key_table::KeyEntry;
 use fle_aead::DataKey;
 use fle_outside::Memory;
 use std::alloc::Global;
-use std::collections::HashMap;
+use std::collections::BTreeMap;
 use std::marker::Model;
 
 /// Data keys with their ids, seen as the list of entries in the order in which they were added.
 #[derive(Drop)]
-pub(crate) struct HashedKeys {
+pub(crate) struct IndexedKeys {
     entries: Vec<KeyEntry>,
     /// The number of the first entry with each id, counted from 0.
-    numbers: HashMap<[u8; 16], usize>,
+    numbers: BTreeMap<[u8; 16], usize>,
 }
 
-impl Model for HashedKeys {
+impl Model for IndexedKeys {
     ghost use Rattle.std.specs.Prelude.{◌≡◌, ℕ, List};
     ghost use Rattle.doc_rewrite.specs.declared.key_table.KeyEntry.{KeyEntry};
     ghost use Rattle.doc_rewrite.specs.Numbers.{number_of_id, place_from};
@@ -32,14 +33,14 @@ impl Model for HashedKeys {
     ghost invariant = { λ t. (id : List ℕ) → number_of_id t.numbers id ≡ place_from 0 id t.entries.items };
 }
 
-impl HashedKeys {
+impl IndexedKeys {
     /// No key. It takes no memory.
-    pub(crate) fn new(alloc: Global) -> HashedKeys
+    pub(crate) fn new(alloc: Global) -> IndexedKeys
         ensures empty { result ≡ [] }
     {
-        HashedKeys {
+        IndexedKeys {
             entries: Vec::new(alloc),
-            numbers: HashMap::new(alloc),
+            numbers: BTreeMap::new(alloc),
         }
     }
 
@@ -75,7 +76,7 @@ impl HashedKeys {
 }
 
 /// The number of an id.
-fn number_of(numbers: &HashMap<[u8; 16], usize>, id: &[u8; 16]) -> Option<usize>
+fn number_of(numbers: &BTreeMap<[u8; 16], usize>, id: &[u8; 16]) -> Option<usize>
     ensures number { result ≡ number_of_id numbers.now id.now }
 {
     numbers.get(id).copied()
@@ -83,7 +84,7 @@ fn number_of(numbers: &HashMap<[u8; 16], usize>, id: &[u8; 16]) -> Option<usize>
 
 /// Gives an id a number, where it has none.
 fn put_first(
-    numbers: &mut HashMap<[u8; 16], usize>,
+    numbers: &mut BTreeMap<[u8; 16], usize>,
     id: [u8; 16],
     number: usize,
 ) -> Result<(), Memory>
@@ -96,12 +97,8 @@ fn put_first(
         return Ok(());
     }
     match numbers.insert(id, number) {
-        Ok(_) => {
-            return Ok(());
-        }
-        Err(_) => {
-            return Err(Memory);
-        }
+        Ok(_) => Ok(()),
+        Err(_) => Err(Memory),
     }
 }
 
