@@ -2,7 +2,7 @@
 import struct
 
 from plain.bson import ARRAY, BINARY, DOCUMENT, INT, REGEX, STRING, array, binary, spell, text
-from plain.rules import MARKED, PASSING
+from plain.rules import MARKED, PASSING, rule_at
 
 ALGORITHMS = {"D": "AEAD_AES_256_CBC_HMAC_SHA_512-Deterministic", "R": "AEAD_AES_256_CBC_HMAC_SHA_512-Random"}
 # Names of types that a rule may state, with their type bytes; the deterministic algorithm may take the first eleven.
@@ -11,6 +11,7 @@ TYPES = [("string", 2), ("binData", 5), ("objectId", 7), ("date", 9), ("regex", 
          ("array", 4), ("bool", 8), ("javascriptWithScope", 15), ("decimal", 19)]
 RAW = [1, 2, 5, 6, 7, 8, 9, 10, 11, 12, 13, 14, 15, 16, 17, 18, 19, 127, 255]
 NAMES = ["a", "b", "c", "d", "ssn", "0", "$x", "a.b", "", "documents"]
+OTHERS = ["d", "e", "x", "7", "_id", "", "a", "$x"]  # names that a schema lists seldom
 UNREAD = ["ordered", "lsid", "comment", "writeConcern", "hint", "limit", "sort", "collation"]
 
 
@@ -71,8 +72,17 @@ def some_schema(chance, rules, path, key, algorithm, depth):
         elif chance.random() < 0.8:
             rule, rules[path + (name,)] = some_rule(chance, key, algorithm)
             fields.append((DOCUMENT, name, [(DOCUMENT, "encrypt", rule)]))
+        elif chance.random() < 0.5:
+            fields.append((DOCUMENT, name, []))
     if fields:
         elements.append((DOCUMENT, "properties", fields))
+    if chance.random() < (0.25 if path else 0.05):
+        listed = frozenset(name for _, name, _ in fields)
+        rule, rules[path + (listed,)] = some_rule(chance, key, algorithm)
+        others = (DOCUMENT, "additionalProperties", [(DOCUMENT, "encrypt", rule)])
+        elements.insert(chance.randrange(len(elements) + 1), others)
+    elif chance.random() < 0.1:
+        elements.append((DOCUMENT, "additionalProperties", [(STRING, "bsonType", text("int"))]))
     return elements
 
 
@@ -106,9 +116,12 @@ def suited(chance, rules, path, depth):
     elements = []
     for name in chance.sample(NAMES, chance.randrange(6)) + chance.choices(["a", "b", "ssn"], k=chance.randrange(3)):
         below = path + (name,)
-        if below in rules and chance.random() < 0.97:
-            elements.append(suited_value(chance, rules[below], name))
-        elif any(rule[: len(below)] == below for rule in rules) and chance.random() < 0.9 and depth:
+        rule, above = rules.get(rule_at(rules, below)), any(other[: len(below)] == below for other in rules)
+        if rule and chance.random() < 0.97:
+            elements.append(suited_value(chance, rule, name))
+        elif above and chance.random() < 0.03:
+            elements.append((ARRAY, name, []))
+        elif above and chance.random() < 0.9 and depth:
             elements.append((DOCUMENT, name, suited(chance, rules, below, depth - 1)))
         else:
             elements.append(some_element(chance, name, depth))
@@ -119,9 +132,11 @@ def some_dotted(chance, rules, algorithms="DR"):
     """A dotted path: often that of a rule with one of these algorithms; or one longer, shorter, other, positional."""
     known = [path for path, rule in rules.items() if rule[0] in algorithms or chance.random() < 0.02]
     if known and chance.random() < 0.85:
-        path = list(chance.choice(known))
+        *names, last = chance.choice(known)
+        path = names + [chance.choice(OTHERS) if isinstance(last, frozenset) else last]
     else:
         path = chance.choices(["d", "e", "f", "x"], k=chance.randrange(1, 3))
+        path = path[:1] if rule_at(rules, tuple(path[:1])) else path
     if chance.random() < 0.05:
         path.insert(chance.randrange(1, len(path) + 1), chance.choice(["0", "17", "$", "$[]", "x"]))
     if chance.random() < 0.02:
@@ -132,10 +147,10 @@ def some_dotted(chance, rules, algorithms="DR"):
 
 
 def some_compared(chance, rules, path, name):
-    rule = rules.get(path)
+    rule = rules.get(rule_at(rules, path))
     if rule and chance.random() < 0.98:
         return suited_value(chance, rule, name)
-    return some_element(chance, name, 1 if rule or chance.random() < 0.1 else 0)
+    return some_element(chance, name, 1 if rule or chance.random() < 0.3 else 0)
 
 
 def some_operators(chance, rules, path, depth):
@@ -194,7 +209,7 @@ def some_update(chance, rules):
     elements = []
     for _ in range(chance.randrange(1, 4)):
         operator = chance.choices(["$set", "$setOnInsert", "$unset", "$rename", "$inc", "$push", "a"],
-                                  weights=[8, 3, 3, 0.3, 0.5, 0.5, 0.05])[0]
+                                  weights=[8, 3, 3, 0.6, 0.5, 0.5, 0.05])[0]
         arguments = [some_argument(chance, rules, operator) for _ in range(chance.randrange(4))]
         if operator in ("$inc", "$push") and chance.random() < 0.8:
             arguments = [some_element(chance, "other", 0)]
@@ -209,7 +224,7 @@ def some_item(chance, rules, verb):
     item = [(DOCUMENT, "q", some_filter(chance, rules, 2))]
     if verb == "update":
         item.append((DOCUMENT, "u", some_update(chance, rules)))
-        if chance.random() < 0.02:
+        if chance.random() < 0.03:
             item[1] = chance.choice([(ARRAY, "u", []), (INT, "u", bytes(4))])
     if chance.random() < 0.3:
         at = chance.randrange(len(item) + 1)
@@ -250,7 +265,7 @@ def some_command(chance, infos):
     command = [(STRING, verb, text(name))] + contents + [(STRING, "$db", text("hr"))]
     if chance.random() < 0.3:
         command.insert(chance.randrange(1, len(command) + 1), some_element(chance, chance.choice(UNREAD), 1))
-    while chance.random() < 0.04:
+    while chance.random() < 0.05:
         at = chance.randrange(len(command) + 1)
         command.insert(at, chance.choice([
             (STRING, "$db", text("x")), (INT, "$db", bytes(4)), (STRING, verb, text(name)), (ARRAY, "documents", []),

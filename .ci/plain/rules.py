@@ -1,4 +1,5 @@
 """The rules on commands, plainly. Rules are a dictionary from paths (tuples of names) to (algorithm, key, type bytes).
+The last component of a path may be a set of names: it stands for each name that isn't among them.
 
 A command's offences are pairs of a place and a reason, in no order: the one that counts is the first place in reading
 order, which is the order of tuples of child numbers, and at one place the least reason.
@@ -15,6 +16,16 @@ MARKED = ["insert", "update", "delete", "find"]
 UNSTORABLE = (6, 10, 127, 255)
 
 
+def is_part(part, name):
+    """Whether a component of a rule's path stands for this name."""
+    return name not in part if isinstance(part, frozenset) else name == part
+
+
+def rule_at(rules, path):
+    """The path of the rule that protects the field at this one, or None."""
+    return next((rule for rule in rules if len(rule) == len(path) and all(map(is_part, rule, path))), None)
+
+
 class Contents:
     """One walk over a command's contents: its offences, and the rule of each place that has one."""
 
@@ -24,23 +35,32 @@ class Contents:
     def refuse(self, place, reason):
         self.offences.append((place, reason))
 
+    def rule(self, path):
+        """What protects the field at a path, or None."""
+        return self.rules.get(rule_at(self.rules, path))
+
     def standing(self, path):
         """protected, below, above or clear."""
-        if path in self.rules:
+        if self.rule(path):
             return "protected"
-        if any(path[: len(rule)] == rule for rule in self.rules):
+        if any(self.rule(path[:at]) for at in range(len(path))):
             return "below"
         return "above" if any(rule[: len(path)] == path for rule in self.rules) else "clear"
 
+    def is_position(self, path):
+        """Whether the last component of a path is a position in an array."""
+        if not path[:-1] or self.standing(path[:-1]) != "above":
+            return False
+        return path[-1].startswith("$") or bool(re.fullmatch(r"[0-9]+", path[-1])) and self.standing(path) == "clear"
+
     def is_positional(self, path):
-        return any(re.fullmatch(r"[0-9]+|\$.*", path[at], re.S) and self.standing(path[:at]) == "above"
-                   and self.standing(path[: at + 1]) == "clear" for at in range(1, len(path)))
+        return any(self.is_position(path[:at]) for at in range(1, len(path) + 1))
 
     # ---- stored values
 
     def stored(self, path, place, tag, value):
-        self.marks[place] = path
-        if tag in UNSTORABLE or tag not in self.rules[path][2]:
+        self.marks[place] = rule_at(self.rules, path)
+        if tag in UNSTORABLE or tag not in self.rule(path)[2]:
             self.refuse(place, 5)
         if tag == BINARY and value[4] == 6:
             self.refuse(place, 6)
@@ -59,12 +79,12 @@ class Contents:
     # ---- filters
 
     def compared(self, path, place, tag, value):
-        if path not in self.rules:
+        if not self.rule(path):
             if tag in (DOCUMENT, ARRAY):
                 self.refuse(place, 12)
             return
         self.stored(path, place, tag, value)
-        if self.rules[path][0] == "R":
+        if self.rule(path)[0] == "R":
             self.refuse(place, 10)
         if tag == REGEX:
             self.refuse(place, 11)
@@ -110,13 +130,13 @@ class Contents:
                     self.operators(path, here, value)
                 elif tag != REGEX:
                     self.refuse(here, 2)
-                elif path in self.rules:
+                elif self.rule(path):
                     self.refuse(here, 11)
             elif name != "$exists":
                 self.refuse(here, 11)
 
     def members(self, path, place, tag, value):
-        random = path in self.rules and self.rules[path][0] == "R"
+        random = self.standing(path) == "protected" and self.rule(path)[0] == "R"
         if tag != ARRAY:
             self.refuse(place, 2)
         if random:
@@ -170,7 +190,7 @@ class Contents:
         target = tuple(words_of(value).split("."))
         if self.is_positional(target):
             self.refuse(place, 9)
-        policies = [(rule[0], rule[1], set(rule[2])) for rule in map(self.rules.get, (source, target)) if rule]
+        policies = [(rule[0], rule[1], set(rule[2])) for rule in map(self.rule, (source, target)) if rule]
         both_clear = self.standing(source) == self.standing(target) == "clear"
         if not both_clear and not (len(policies) == 2 and policies[0] == policies[1]):
             self.refuse(place, 15)

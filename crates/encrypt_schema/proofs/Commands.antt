@@ -23,4 +23,5 @@ pub mod Elements
 pub mod Plans
 pub mod Taken
 pub mod Ruled
+pub mod WorkedOthers
 pub mod WorkedStored

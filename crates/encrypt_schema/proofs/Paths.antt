@@ -1,8 +1,11 @@
 pub mod Paths
 pub mod Numbers
+pub mod Firsts
+pub mod Matches
 pub mod Fronts
 pub mod Trees
 pub mod Sieves
+pub mod Listed
 pub mod Written
 pub mod Walked
 pub mod Growth

@@ -50,8 +50,16 @@ use Rattle.std.specs.Cmp.Lexicographic.{bytes_decides}
 -- the rules of `ssn` and `salary`
 abbrev pub two_rules : List ℕ → List Row
 two_rules id =
-    record { path = codes "ssn" ∷ []; policy = record { algorithm = Deterministic; key = Id id; types = 2 ∷ [] } }
-    ∷ record { path = codes "salary" ∷ []; policy = record { algorithm = Random; key = Id id; types = every_type } }
+    record {
+      path = codes "ssn" ∷ [];
+      others = None;
+      policy = record { algorithm = Deterministic; key = Id id; types = 2 ∷ [] };
+    }
+    ∷ record {
+      path = codes "salary" ∷ [];
+      others = None;
+      policy = record { algorithm = Random; key = Id id; types = every_type };
+    }
     ∷ []
 
 abbrev pub demo_collection : List ℕ → Collection

@@ -24,6 +24,8 @@ mod limit_tests;
 #[cfg(test)]
 mod opening_tests;
 #[cfg(test)]
+mod other_names_tests;
+#[cfg(test)]
 mod placing_tests;
 #[cfg(test)]
 mod runs;

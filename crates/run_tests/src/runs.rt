@@ -1,6 +1,7 @@
 //! Whole runs of the program over objects in memory, as the tests share them.
 
 use crate::keys_tests::VAULT;
+use crate::other_names_tests::{DIARY, LEDGER, SCORES};
 use crate::schema_tests::{NOTES, STAFF, VIEW};
 use crate::update_tests::PAIR;
 use crypto_hooks::{Block256, Tables};
@@ -16,8 +17,8 @@ pub(crate) const MASTER: &[u8] =
     b"\x00\x01\x02\x03\x04\x05\x06\x07\x08\x09\x0a\x0b\x0c\x0d\x0e\x0f\x10\x11\x12\x13\x14\x15\x16\x17\
      \x18\x19\x1a\x1b\x1c\x1d\x1e\x1f\x20!\"#$%&'()*+,-./0123456789:;<=>?@ABCDEFGHIJKLMNOPQRSTUVWXYZ[\\]^_";
 
-/// The infos of `people`, `staff`, `notes`, the view `v` and `pair`.
-pub(crate) const INFOS: [&[u8]; 5] = [PEOPLE, STAFF, NOTES, VIEW, PAIR];
+/// The infos of `people`, `staff`, `notes`, the view `v`, `pair`, `scores`, `ledger` and `diary`.
+pub(crate) const INFOS: [&[u8]; 8] = [PEOPLE, STAFF, NOTES, VIEW, PAIR, SCORES, LEDGER, DIARY];
 
 /// The words of `mark`, `encrypt` and `decrypt`.
 const MARK: [&str; 3] = ["mark", "hr", "infos"];

@@ -92,3 +92,60 @@ fn positions_are_of_digits(rt: HostRuntime) {
     assert!(rt; is_position(b"0") && !is_position(b"0x") && !is_position(b""));
     assert!(rt; is_dollar(b"$set"));
 }
+
+/// `kind: {}`.
+const KIND: &[u8] = b"\x03kind\x00\x05\x00\x00\x00\x00";
+
+/// The rules of each field of `m` but `kind` and `deep`, and of [m, deep, b], in this order.
+fn other_rules(alloc: Global) -> Option<Rows> {
+    let others = within(
+        alloc,
+        &[b"additionalProperties", b"encrypt"],
+        &[KEY_1, RANDOM],
+    )?;
+    let deep = within(
+        alloc,
+        &[b"deep", b"properties", b"b", b"encrypt"],
+        &[KEY_2, RANDOM],
+    )?;
+    let listed = within(alloc, &[b"properties"], &[KIND, &deep])?;
+    let schema = within(alloc, &[b"properties", b"m"], &[&others, &listed])?;
+    rules(alloc, &schema)?.ok()
+}
+
+#[test]
+fn classes_among_other_names(rt: HostRuntime) {
+    let rows = other_rules(rt.alloc()).expect(&rt, "no rules");
+    assert!(rt; rows.len() == 2);
+    let cases: &[(&[u8], Class)] = &[
+        (b"m", Class::Above),
+        (b"m.x", Class::Protected(0)),
+        (b"m.", Class::Protected(0)),
+        (b"m.x.y", Class::Below),
+        (b"m.kind", Class::Clear),
+        (b"m.kind.x", Class::Clear),
+        (b"m.deep", Class::Above),
+        (b"m.deep.b", Class::Protected(1)),
+        (b"m.deep.x", Class::Clear),
+        (b"x", Class::Clear),
+    ];
+    for (dotted, class) in cases {
+        assert!(rt; seen(&rows, dotted) == (*class, false));
+    }
+}
+
+#[test]
+fn positions_among_other_names(rt: HostRuntime) {
+    let rows = other_rules(rt.alloc()).expect(&rt, "no rules");
+    let cases: &[(&[u8], Class, bool)] = &[
+        (b"m.0", Class::Protected(0), false),
+        (b"m.0.x", Class::Below, false),
+        (b"m.$", Class::Protected(0), true),
+        (b"m.$[].x", Class::Below, true),
+        (b"m.deep.0", Class::Clear, true),
+        (b"m.x.$", Class::Below, false),
+    ];
+    for (dotted, class, positional) in cases {
+        assert!(rt; seen(&rows, dotted) == (*class, *positional));
+    }
+}

@@ -2,7 +2,7 @@
 
 use crate::schema::test_documents::{
     DETERMINISTIC, ENCRYPT, ENCRYPT_OTHERWISE, INT, KEY_1, NO_KEYWORD, NO_PROPERTIES,
-    NO_SUCH_ALGORITHM, NULL, RANDOM, has_fault,
+    NO_SUCH_ALGORITHM, NULL, RANDOM, has_fault, within,
 };
 use encrypt_schema::SchemaFault;
 
@@ -167,12 +167,87 @@ fn rules_stand_below_properties_alone(rt: HostRuntime) {
         (&[b"items"], &[ENCRYPT]),
         (&A, &[ITEMS_ENCRYPT]),
         (&[b"patternProperties", b"a"], &[ENCRYPT]),
-        (&[b"additionalProperties"], &[ENCRYPT]),
         (&[b"additionalItems"], &[ENCRYPT]),
     ];
     for (path, parts) in cases {
         assert!(rt; has_fault(rt.alloc(), path, parts, Some(SchemaFault::Misplaced)));
     }
+}
+
+/// `additionalProperties: {encrypt: {}}`.
+const OTHERS_ENCRYPT: &[u8] =
+    b"\x03additionalProperties\x00\x13\x00\x00\x00\x03encrypt\x00\x05\x00\x00\x00\x00\x00";
+
+/// `patternProperties: {}`.
+const PATTERNS: &[u8] = b"\x03patternProperties\x00\x05\x00\x00\x00\x00";
+
+#[test]
+fn rules_for_other_names_stand_in_good_schemas_without_patterns(rt: HostRuntime) {
+    let cases: &[(&[&[u8]], &[&[u8]], SchemaFault)] = &[
+        (&ROOT, &[OTHERS_ENCRYPT], SchemaFault::NoKey),
+        (&A, &[OTHERS_ENCRYPT], SchemaFault::NoKey),
+        (&ROOT, &[OTHERS_ENCRYPT, PATTERNS], SchemaFault::Misplaced),
+        (&A, &[PATTERNS, OTHERS_ENCRYPT], SchemaFault::Misplaced),
+        (&[b"not"], &[OTHERS_ENCRYPT], SchemaFault::Misplaced),
+        (&[b"additionalItems"], &[OTHERS_ENCRYPT], SchemaFault::Misplaced),
+    ];
+    for (path, parts, expected) in cases {
+        assert!(rt; has_fault(rt.alloc(), path, parts, Some(*expected)));
+    }
+}
+
+/// The schema of other names.
+const OTHERS: [&[u8]; 1] = [b"additionalProperties"];
+
+#[test]
+fn a_schema_of_other_names_has_a_rule_and_no_more(rt: HostRuntime) {
+    let cases: &[(&[&[u8]], &[&[u8]], SchemaFault)] = &[
+        (&OTHERS, &[METADATA], SchemaFault::Misplaced),
+        (&OTHERS, &[OTHERS_ENCRYPT], SchemaFault::Misplaced),
+        (&OTHERS, &[PROPERTIES_ENCRYPT], SchemaFault::Misplaced),
+        (&OTHERS, &[ENCRYPT, TYPE], SchemaFault::Sibling),
+    ];
+    for (path, parts, expected) in cases {
+        assert!(rt; has_fault(rt.alloc(), path, parts, Some(*expected)));
+    }
+}
+
+#[test]
+fn a_rule_for_other_names_is_judged_where_it_stands(rt: HostRuntime) {
+    let cases: &[(&[&[u8]], &[&[u8]], SchemaFault)] = &[
+        (
+            &ROOT,
+            &[PROPERTIES_WITHOUT_KEYWORD, PATTERNS, OTHERS_ENCRYPT],
+            SchemaFault::Keyword,
+        ),
+        (
+            &ROOT,
+            &[OTHERS_ENCRYPT, PATTERNS, PROPERTIES_WITHOUT_KEYWORD],
+            SchemaFault::Misplaced,
+        ),
+        (
+            &ROOT,
+            &[OTHERS_ENCRYPT, PATTERNS, METADATA_OTHERWISE],
+            SchemaFault::Algorithm,
+        ),
+    ];
+    for (path, parts, expected) in cases {
+        assert!(rt; has_fault(rt.alloc(), path, parts, Some(*expected)));
+    }
+}
+
+/// `properties: {"x.y": {}}`.
+const LISTED_DOT: &[u8] =
+    b"\x03properties\x00\x0F\x00\x00\x00\x03x.y\x00\x05\x00\x00\x00\x00\x00";
+
+#[test]
+fn names_on_the_way_are_plain_and_listed_ones_may_be_any(rt: HostRuntime) {
+    let alloc = rt.alloc();
+    let rule = within(alloc, &[b"additionalProperties", b"encrypt"], &[KEY_1, RANDOM])
+        .expect(&rt, "no rule");
+    let dotted: [&[u8]; 2] = [b"properties", b"a.b"];
+    assert!(rt; has_fault(alloc, &dotted, &[&rule], Some(SchemaFault::Name)));
+    assert!(rt; has_fault(alloc, &A, &[LISTED_DOT, &rule], None));
 }
 
 #[test]

@@ -1,6 +1,6 @@
 -- Commands, rules and collections for examples.
 use Rattle.std.proofs.Common.{ℕ, ◌+◌, List, [], ◌∷◌, ◌++◌, codes, length}
-use Rattle.std.specs.Prelude.{false, true, Option, Some}
+use Rattle.std.specs.Prelude.{false, true, Option, Some, None}
 use Rattle.std.specs.Int.{w32, to_le_bytes}
 use Rattle.bson_tree.specs.Tree.{Tree, leaf, node, Items, no_items, item}
 use Rattle.encrypt_schema.specs.declared.command.marks.Mark.{Mark}
@@ -84,7 +84,7 @@ refusal reason at = Some (record { reason = reason; at = at })
 -- a rule: a path, an algorithm, type bytes
 abbrev pub rule : List (List ℕ) → Algorithm → List ℕ → Row
 rule path algorithm types =
-    record { path = path; policy = record { algorithm = algorithm; key = Id []; types = types } }
+    record { path = path; others = None; policy = record { algorithm = algorithm; key = Id []; types = types } }
 
 -- each type that a rule may have
 abbrev pub all_types : List ℕ

@@ -5,9 +5,9 @@ use mathlib.Core.Bool.{false≢true}
 use Rattle.std.specs.Cmp.Lexicographic.{bytes_decides, nat_list_eq_equiv}
 use Rattle.std.proofs.lemmas.Bool.{and_parts, and_from, or_cases, or_left, or_right}
 use Rattle.encrypt_schema.specs.Language.Names.{named}
-use Rattle.encrypt_schema.specs.Paths.Classes.{is_same_path, is_prefix, number_of, covers, leads}
+use Rattle.encrypt_schema.specs.Paths.Classes.{is_same_path, is_prefix, number_of, leads}
 
-named_is : (x y : List ℕ) → named x y ≡ bytes_eq x y
+pub named_is : (x y : List ℕ) → named x y ≡ bytes_eq x y
 unfolding named
 named_is x y = refl
 
@@ -17,7 +17,7 @@ named_self x = named_is x x ∙ nat_list_eq_equiv.refl x
 pub named_same : (x y : List ℕ) → named x y ≡ true → x ≡ y
 named_same x y e = (bytes_decides x y).0 (sym (named_is x y) ∙ e)
 
-named_turn : (x y : List ℕ) → named x y ≡ named y x
+pub named_turn : (x y : List ℕ) → named x y ≡ named y x
 named_turn x y = named_is x y ∙ nat_list_eq_equiv.symm x y ∙ sym (named_is y x)
 
 -- tests on truth values
@@ -25,7 +25,7 @@ pub spread_and : (a b c : Bool) → (a && (b || c)) ≡ ((a && b) || (a && c))
 spread_and true b c = refl
 spread_and false b c = refl
 
-or_swap : (a b c d : Bool) → ((a || b) || (c || d)) ≡ ((a || c) || (b || d))
+pub or_swap : (a b c d : Bool) → ((a || b) || (c || d)) ≡ ((a || c) || (b || d))
 or_swap true b c d = refl
 or_swap false true true d = refl
 or_swap false true false d = refl
@@ -50,7 +50,7 @@ path_turn [] (y ∷ q) = refl
 path_turn (x ∷ p) [] = refl
 path_turn (x ∷ p) (y ∷ q) = ap₂ (λ (a b : Bool). a && b) (named_turn x y) (path_turn p q)
 
-path_prefix : (p q : List (List ℕ)) → is_same_path p q ≡ true → is_prefix p q ≡ true
+pub path_prefix : (p q : List (List ℕ)) → is_same_path p q ≡ true → is_prefix p q ≡ true
 path_prefix [] q e = refl
 path_prefix (x ∷ p) [] e = e
 path_prefix (x ∷ p) (y ∷ q) e = let h = and_parts (named x y) (is_same_path p q) e in and_from (named x y)
@@ -64,20 +64,6 @@ path_longer (x ∷ p) n = ap (λ (b : Bool). named x x && b) (path_longer p n) �
   and_nothing true = refl
   and_nothing false = refl
 
-pub nil_prefix : (r : List (List ℕ)) → is_prefix r [] ≡ is_same_path [] r
-nil_prefix [] = refl
-nil_prefix (x ∷ r) = refl
-
--- a prefix of a path with a name more is one of the path, or the longer path itself
-prefix_push : (r q : List (List ℕ)) (n : List ℕ)
-    → is_prefix r (q ++ n ∷ []) ≡ (is_prefix r q || is_same_path (q ++ n ∷ []) r)
-prefix_push [] q n = refl
-prefix_push (x ∷ r) [] n = ap₂ (λ (a b : Bool). a && b) (named_turn x n) (nil_prefix r)
-prefix_push (x ∷ r) (y ∷ q) n =
-    ap (λ (b : Bool). named x y && b) (prefix_push r q n)
-    ∙ spread_and (named x y) (is_prefix r q) (is_same_path (q ++ n ∷ []) r)
-    ∙ ap (λ (a : Bool). (named x y && is_prefix r q) || (a && is_same_path (q ++ n ∷ []) r)) (named_turn x y)
-
 prefix_front : (p : List (List ℕ)) (n : List ℕ) (r : List (List ℕ)) → is_prefix (p ++ n ∷ []) r ≡ true
     → is_prefix p r ≡ true
 prefix_front [] n r e = refl
@@ -90,7 +76,7 @@ abbrev pub among : List (List ℕ) → List (List (List ℕ)) → Bool
 among q [] = false
 among q (p ∷ ps) = is_same_path q p || among q ps
 
-some_if : (b : Bool) (k : ℕ) (o : Option ℕ) (a : Bool) → is_some o ≡ a → is_some (cond b (Some k) o) ≡ (b || a)
+pub some_if : (b : Bool) (k : ℕ) (o : Option ℕ) (a : Bool) → is_some o ≡ a → is_some (cond b (Some k) o) ≡ (b || a)
 some_if true k o a e = refl
 some_if false k o a e = e
 
@@ -108,13 +94,6 @@ pub some_among : (q : List (List ℕ)) (ps : List (List (List ℕ))) (i : ℕ) �
 some_among q ps i e = sym (found_is 0 q ps) ∙ ap is_some e
 
 -- what a name more changes
-pub covers_push : (q : List (List ℕ)) (n : List ℕ) (rs : List (List (List ℕ)))
-    → covers (q ++ n ∷ []) rs ≡ (covers q rs || among (q ++ n ∷ []) rs)
-covers_push q n [] = refl
-covers_push q n (r ∷ rs) =
-    ap₂ (λ (a b : Bool). a || b) (prefix_push r q n) (covers_push q n rs)
-    ∙ or_swap (is_prefix r q) (is_same_path (q ++ n ∷ []) r) (covers q rs) (among (q ++ n ∷ []) rs)
-
 pub leads_front : (p : List (List ℕ)) (n : List ℕ) (rs : List (List (List ℕ))) → leads (p ++ n ∷ []) rs ≡ true
     → leads p rs ≡ true
 leads_front p n [] e = e

@@ -11,12 +11,8 @@ use Rattle.encrypt_schema.specs.declared.command.reason.Reason.{Reason}
 use Rattle.encrypt_schema.specs.Language.Row.{Row}
 use Rattle.encrypt_schema.specs.Commands.Stations.{Entry, Station, Outside, Store, Compare, station}
 use Rattle.encrypt_schema.specs.Language.Collection.{Collection}
+pub use Rattle.encrypt_schema.specs.Language.Values.{names_of}
 use Rattle.encrypt_schema.specs.Commands.Offences.{target_offence, view_offence, ruled_offence, content_offence}
-
--- the names of a document's elements
-abbrev pub names_of : Items → List (List ℕ)
-names_of no_items = []
-names_of (item name t is) = name ∷ names_of is
 
 -- the bytes of a raw value; none of a document or an array
 abbrev pub raw_of : Tree → List ℕ
