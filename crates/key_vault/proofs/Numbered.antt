@@ -2,6 +2,7 @@
 use Rattle.std.proofs.Common.{◌≡◌, ◌∙◌, ℕ, zero, suc, ◌+◌, Bool, true, false, cond, not, ◌||◌, ◌&&◌, List, [], ◌∷◌}
 use Rattle.std.proofs.Common.{◌++◌, length, Option, Some, None, Result, Ok, Err, bytes_eq, refl, sym, ap, subst}
 use Rattle.std.proofs.Common.{arith, length-append}
+use Rattle.std.proofs.Common.{get_or}
 use Rattle.std.proofs.lemmas.Bool.{false≢true}
 use Rattle.std.proofs.lemmas.List.{append_assoc}
 use Rattle.std.specs.Cmp.Lexicographic.{bytes_decides}
@@ -12,7 +13,8 @@ use Rattle.key_vault.specs.Loading.{are_new, is_id_known, is_name_known, judged,
 use Rattle.key_vault.specs.declared.faults.VaultKind.{VaultKind}
 use Rattle.key_vault.specs.declared.faults.VaultKind.TheVariants as kinds
 use Rattle.key_vault.specs.declared.numbers.Numbers.{Numbers}
-use Rattle.key_vault.specs.Numbers.{has_number, number_of}
+use Rattle.key_vault.specs.Numbers.{AreOf, has_number, number_of}
+use Rattle.key_vault.proofs.Maps.{pushed, pushed_of}
 
 -- the number found, or else this one where the test holds
 abbrev or_new : Option ℕ → Bool → ℕ → Option ℕ
@@ -64,13 +66,13 @@ added test ks k number old known free count =
     ∙ sym (place_behind 0 test ks k)
 
 -- the numbers by id, with one more key of a new id
-pub id_added : (ks : List KeyDoc) (k : KeyDoc) (old new : Numbers) (number : ℕ)
-    → ((id : List ℕ) → number_of new id ≡ cond (bytes_eq k.id id) (Some number) (number_of old id))
-    → ((id : List ℕ) → number_of old id ≡ place_from 0 (has_id id) ks) → is_id_known ks k.id ≡ false
+pub id_added : (ks : List KeyDoc) (k : KeyDoc) (all : List KeyDoc) (old new : Numbers) (number : ℕ)
+    → ((id : List ℕ) → number_of all new id ≡ cond (bytes_eq k.id id) (Some number) (number_of all old id))
+    → ((id : List ℕ) → number_of all old id ≡ place_from 0 (has_id id) ks) → is_id_known ks k.id ≡ false
     → number ≡ length ks
-    → (id : List ℕ) → number_of new id ≡ place_from 0 (has_id id) (ks ++ k ∷ [])
-id_added ks k old new number put known free count id =
-    put id ∙ added (has_id id) ks k number (number_of old id) (known id)
+    → (id : List ℕ) → number_of all new id ≡ place_from 0 (has_id id) (ks ++ k ∷ [])
+id_added ks k all old new number put known free count id =
+    put id ∙ added (has_id id) ks k number (number_of all old id) (known id)
     (λ same. subst (λ q. place_from 0 (has_id q) ks ≡ None) ((bytes_decides k.id id).0 same)
     (no_place 0 (has_id k.id) ks free)) count
 
@@ -96,13 +98,13 @@ new_unknown known before (x ∷ names) new name there =
     (new_unknown known (x ∷ before) names parts.1 name)
 
 -- the numbers by name, with one more key of new names
-pub names_added : (ks : List KeyDoc) (k : KeyDoc) (old new : Numbers) (number : ℕ)
-    → ((name : List ℕ) → number_of new name ≡ cond (is_among name k.names) (Some number) (number_of old name))
-    → ((name : List ℕ) → number_of old name ≡ place_from 0 (has_name name) ks)
+pub names_added : (ks : List KeyDoc) (k : KeyDoc) (all : List KeyDoc) (old new : Numbers) (number : ℕ)
+    → ((name : List ℕ) → number_of all new name ≡ cond (is_among name k.names) (Some number) (number_of all old name))
+    → ((name : List ℕ) → number_of all old name ≡ place_from 0 (has_name name) ks)
     → are_new (is_name_known ks) [] k.names ≡ true → number ≡ length ks
-    → (name : List ℕ) → number_of new name ≡ place_from 0 (has_name name) (ks ++ k ∷ [])
-names_added ks k old new number put known free count name =
-    put name ∙ added (has_name name) ks k number (number_of old name) (known name)
+    → (name : List ℕ) → number_of all new name ≡ place_from 0 (has_name name) (ks ++ k ∷ [])
+names_added ks k all old new number put known free count name =
+    put name ∙ added (has_name name) ks k number (number_of all old name) (known name)
     (λ there. no_place 0 (has_name name) ks (new_unknown (is_name_known ks) [] k.names free name there)) count
 
 -- a key has a number where there is one
@@ -125,16 +127,79 @@ new_alike f g same before (name ∷ names) =
     ∙ ap (λ (b : Bool). not (is_among name before || g name) && b) (new_alike f g same (name ∷ before) names)
 
 -- what is wrong with a key by the numbers is what is wrong with it by the keys
-pub kind_alike : (ks : List KeyDoc) (k : KeyDoc) (ids names : Numbers)
-    → ((id : List ℕ) → number_of ids id ≡ place_from 0 (has_id id) ks)
-    → ((name : List ℕ) → number_of names name ≡ place_from 0 (has_name name) ks)
-    → kind_by (has_number ids k.id) (are_new (has_number names) [] k.names)
+pub kind_alike : (ks : List KeyDoc) (k : KeyDoc) (all : List KeyDoc) (ids names : Numbers)
+    → ((id : List ℕ) → number_of all ids id ≡ place_from 0 (has_id id) ks)
+    → ((name : List ℕ) → number_of all names name ≡ place_from 0 (has_name name) ks)
+    → kind_by (has_number all ids k.id) (are_new (has_number all names) [] k.names)
     ≡ kind_by (is_id_known ks k.id) (are_new (is_name_known ks) [] k.names)
-kind_alike ks k ids names known_ids known_names =
-    ap (λ (b : Bool). kind_by b (are_new (has_number names) [] k.names))
+kind_alike ks k all ids names known_ids known_names =
+    ap (λ (b : Bool). kind_by b (are_new (has_number all names) [] k.names))
     (ap is_some (known_ids k.id) ∙ is_placed 0 (has_id k.id) ks)
-    ∙ ap (kind_by (is_id_known ks k.id)) (new_alike (has_number names) (is_name_known ks)
+    ∙ ap (kind_by (is_id_known ks k.id)) (new_alike (has_number all names) (is_name_known ks)
     (λ name. ap is_some (known_names name) ∙ is_placed 0 (has_name name) ks) [] k.names)
+
+-- the last key of all
+pub last_is : (ks : List KeyDoc) (k x : KeyDoc) (n : ℕ) → n ≡ length ks → x ≡ get_or (ks ++ k ∷ []) n x → x ≡ k
+last_is [] k x zero e is = is
+last_is [] k x (suc n) e is = absurd (omega (arith, e))
+last_is (d ∷ ks) k x zero e is = absurd (omega (arith, e))
+last_is (d ∷ ks) k x (suc n) e is = last_is ks k x n (omega (arith, e)) is
+
+-- the numbers by a test of keys, where one more key is there that has none yet
+still : (ks : List KeyDoc) (k : KeyDoc) (all : List KeyDoc) (n : Numbers) (test : List ℕ → KeyDoc → Bool)
+    → all ≡ ks ++ k ∷ [] → AreOf ks n → ((text : List ℕ) → number_of ks n text ≡ place_from 0 (test text) ks)
+    → (text : List ℕ) → number_of all n text ≡ place_from 0 (test text) ks
+still ks k all n test is are known text =
+    ap (λ (ds : List KeyDoc). number_of ds n text) is ∙ (pushed ks k n are text ∙ known text)
+
+-- what the numbers tell of a key is what the keys before tell of it
+pub kind_told : (ks : List KeyDoc) (k x : KeyDoc) (all : List KeyDoc) (ids names : Numbers) (kind : Option VaultKind)
+    → all ≡ ks ++ k ∷ [] → x ≡ k → AreOf ks ids → AreOf ks names
+    → ((id : List ℕ) → number_of ks ids id ≡ place_from 0 (has_id id) ks)
+    → ((name : List ℕ) → number_of ks names name ≡ place_from 0 (has_name name) ks)
+    → kind ≡ kind_by (has_number all ids x.id) (are_new (has_number all names) [] x.names)
+    → kind ≡ kind_by (is_id_known ks k.id) (are_new (is_name_known ks) [] k.names)
+kind_told ks k x all ids names kind is same of_ids of_names known_ids known_names told =
+    told
+    ∙ (ap (λ (d : KeyDoc). kind_by (has_number all ids d.id) (are_new (has_number all names) [] d.names)) same
+    ∙ kind_alike ks k all ids names (still ks k all ids has_id is of_ids known_ids)
+    (still ks k all names has_name is of_names known_names))
+
+-- the numbers of ids after a key was numbered
+pub ids_told : (ks : List KeyDoc) (k x : KeyDoc) (all : List KeyDoc) (old new : Numbers) (number : ℕ)
+    → all ≡ ks ++ k ∷ [] → x ≡ k → AreOf ks old
+    → ((id : List ℕ) → number_of ks old id ≡ place_from 0 (has_id id) ks) → is_id_known ks k.id ≡ false
+    → number ≡ length ks
+    → ((id : List ℕ) → number_of all new id ≡ cond (bytes_eq x.id id) (Some number) (number_of all old id))
+    → (id : List ℕ) → number_of (ks ++ k ∷ []) new id ≡ place_from 0 (has_id id) (ks ++ k ∷ [])
+ids_told ks k x all old new number is same are known free count put id =
+    ap (λ (ds : List KeyDoc). number_of ds new id) (sym is)
+    ∙ id_added ks k all old new number
+    (λ other. put other
+    ∙ ap (λ (d : KeyDoc). cond (bytes_eq d.id other) (Some number) (number_of all old other)) same)
+    (still ks k all old has_id is are known) free count id
+
+-- and those of names
+pub names_told : (ks : List KeyDoc) (k x : KeyDoc) (all : List KeyDoc) (old new : Numbers) (number : ℕ)
+    → all ≡ ks ++ k ∷ [] → x ≡ k → AreOf ks old
+    → ((name : List ℕ) → number_of ks old name ≡ place_from 0 (has_name name) ks)
+    → are_new (is_name_known ks) [] k.names ≡ true
+    → number ≡ length ks
+    → ((name : List ℕ) → number_of all new name ≡ cond (is_among name x.names) (Some number) (number_of all old name))
+    → (name : List ℕ) → number_of (ks ++ k ∷ []) new name ≡ place_from 0 (has_name name) (ks ++ k ∷ [])
+names_told ks k x all old new number is same are known free count put name =
+    ap (λ (ds : List KeyDoc). number_of ds new name) (sym is)
+    ∙ names_added ks k all old new number
+    (λ other. put other
+    ∙ ap (λ (d : KeyDoc). cond (is_among other d.names) (Some number) (number_of all old other)) same)
+    (still ks k all old has_name is are known) free count name
+
+-- their places are of the keys with the new one
+pub of_told : (ks : List KeyDoc) (k : KeyDoc) (all : List KeyDoc) (old new : Numbers) → all ≡ ks ++ k ∷ []
+    → AreOf ks old → (AreOf all old → AreOf all new) → AreOf (ks ++ k ∷ []) new
+of_told ks k all old new is are more =
+    subst (λ (ds : List KeyDoc). AreOf ds new) is
+    (more (subst (λ (ds : List KeyDoc). AreOf ds old) (sym is) (pushed_of ks k old are)))
 
 -- nothing is wrong with a key whose id and names are new
 pub is_new : (id_known names_new : Bool) → None ≡ kind_by id_known names_new

@@ -5,22 +5,24 @@ use Rattle.std.proofs.Common.{◌&&◌, ◌||◌, List, [], ◌∷◌, Option, S
 use Rattle.std.proofs.lemmas.Bool.{false≢true}
 use Rattle.std.specs.Cmp.Lexicographic.{nat_list_eq_equiv}
 use Rattle.std.specs.Prelude.{is_some}
+use Rattle.data_key.specs.declared.key_doc.KeyDoc.{KeyDoc}
 use Rattle.key_vault.specs.declared.numbers.Numbers.{Numbers}
 use Rattle.key_vault.specs.Keys.{is_among}
 use Rattle.key_vault.specs.Loading.{are_new}
 use Rattle.key_vault.specs.Numbers.{has_number, number_of}
 
 -- the names before have this number, and what is left tells of the whole
-pub record Numbering (old now : Numbers) (number : ℕ) (left whole : List (List ℕ)) : Type 0 where
+pub record Numbering (all : List KeyDoc) (old now : Numbers) (number : ℕ) (left whole : List (List ℕ)) : Type 0 where
   pub before : List (List ℕ)
-  pub numbered : (other : List ℕ) → number_of now other
-      ≡ cond (is_among other before) (Some number) (number_of old other)
-  pub read : are_new (has_number old) before left ≡ are_new (has_number old) [] whole
+  pub numbered : (other : List ℕ) → number_of all now other
+      ≡ cond (is_among other before) (Some number) (number_of all old other)
+  pub read : are_new (has_number all old) before left ≡ are_new (has_number all old) [] whole
   pub among : (other : List ℕ) → (is_among other before || is_among other left) ≡ is_among other whole
 
 -- at the start none has it
-pub none_numbered : (old : Numbers) (number : ℕ) (whole : List (List ℕ)) → Numbering old old number whole whole
-none_numbered old number whole = record {
+pub none_numbered : (all : List KeyDoc) (old : Numbers) (number : ℕ) (whole : List (List ℕ))
+    → Numbering all old old number whole whole
+none_numbered all old number whole = record {
   before = [];
   numbered = λ other. refl;
   read = refl;
@@ -43,27 +45,29 @@ turned false true c = refl
 turned false false c = refl
 
 -- a name is known where it stands before, or has a number from the start
-known : {old now : Numbers} {number : ℕ} {left whole : List (List ℕ)} (n : Numbering old now number left whole)
-    → (name : List ℕ) → has_number now name ≡ (is_among name n.before || has_number old name)
-known {old = old} {number = number} n name =
-    ap is_some (n.numbered name) ∙ some_either (is_among name n.before) number (number_of old name)
+known : {all : List KeyDoc} {old now : Numbers} {number : ℕ} {left whole : List (List ℕ)}
+    (n : Numbering all old now number left whole)
+    → (name : List ℕ) → has_number all now name ≡ (is_among name n.before || has_number all old name)
+known {all = all} {old = old} {number = number} n name =
+    ap is_some (n.numbered name) ∙ some_either (is_among name n.before) number (number_of all old name)
 
 -- one more name gets the number
-pub next_numbered : {old now : Numbers} {number : ℕ} {left whole : List (List ℕ)} (new : Numbers) (name : List ℕ)
-    (rest : List (List ℕ)) → Numbering old now number left whole → left ≡ name ∷ rest
-    → true ≡ not (has_number now name)
-    → ((other : List ℕ) → number_of new other ≡ cond (bytes_eq name other) (Some number) (number_of now other))
-    → Numbering old new number rest whole
-next_numbered {old = old} {now = now} {number = number} {left = left} new name rest n step free put =
-    let test : not (is_among name n.before || has_number old name) ≡ true = ap not (sym (known n name)) ∙ sym free in
+pub next_numbered : {all : List KeyDoc} {old now : Numbers} {number : ℕ} {left whole : List (List ℕ)}
+    (new : Numbers) (name : List ℕ) (rest : List (List ℕ)) → Numbering all old now number left whole → left ≡ name ∷ rest
+    → true ≡ not (has_number all now name)
+    → ((other : List ℕ) → number_of all new other ≡ cond (bytes_eq name other) (Some number) (number_of all now other))
+    → Numbering all old new number rest whole
+next_numbered {all = all} {old = old} {now = now} {number = number} {left = left} new name rest n step free put =
+    let test : not (is_among name n.before || has_number all old name) ≡ true =
+    ap not (sym (known n name)) ∙ sym free in
     record {
       before = name ∷ n.before;
       numbered = λ other. put other
-          ∙ (ap (λ b. cond b (Some number) (number_of now other)) (nat_list_eq_equiv.symm name other)
+          ∙ (ap (λ b. cond b (Some number) (number_of all now other)) (nat_list_eq_equiv.symm name other)
           ∙ (ap (cond (bytes_eq other name) (Some number)) (n.numbered other)
-          ∙ either (bytes_eq other name) (is_among other n.before) number (number_of old other)));
-      read = sym (ap (λ b. b && are_new (has_number old) (name ∷ n.before) rest) test)
-          ∙ (sym (ap (are_new (has_number old) n.before) step) ∙ n.read);
+          ∙ either (bytes_eq other name) (is_among other n.before) number (number_of all old other)));
+      read = sym (ap (λ b. b && are_new (has_number all old) (name ∷ n.before) rest) test)
+          ∙ (sym (ap (are_new (has_number all old) n.before) step) ∙ n.read);
       among = λ other. turned (bytes_eq other name) (is_among other n.before) (is_among other rest)
           ∙ (sym (ap (λ xs. is_among other n.before || is_among other xs) step) ∙ n.among other);
     }
@@ -73,29 +77,30 @@ not_and true b e = absurd (false≢true e)
 not_and false b e = refl
 
 -- a name that has a number is not new
-pub stops_known : {old now : Numbers} {number : ℕ} {left whole : List (List ℕ)} (name : List ℕ)
-    (rest : List (List ℕ)) → Numbering old now number left whole → left ≡ name ∷ rest
-    → false ≡ not (has_number now name) → false ≡ are_new (has_number old) [] whole
-stops_known {old = old} name rest n step there =
-    not_and (not (is_among name n.before || has_number old name)) (are_new (has_number old) (name ∷ n.before) rest)
+pub stops_known : {all : List KeyDoc} {old now : Numbers} {number : ℕ} {left whole : List (List ℕ)} (name : List ℕ)
+    (rest : List (List ℕ)) → Numbering all old now number left whole → left ≡ name ∷ rest
+    → false ≡ not (has_number all now name) → false ≡ are_new (has_number all old) [] whole
+stops_known {all = all} {old = old} name rest n step there =
+    not_and (not (is_among name n.before || has_number all old name))
+    (are_new (has_number all old) (name ∷ n.before) rest)
     (there ∙ ap not (known n name))
-    ∙ (sym (ap (are_new (has_number old) n.before) step) ∙ n.read)
+    ∙ (sym (ap (are_new (has_number all old) n.before) step) ∙ n.read)
 
 or_false : (a : Bool) → a ≡ (a || false)
 or_false true = refl
 or_false false = refl
 
 -- where none is left all were new
-pub all_new : {old now : Numbers} {number : ℕ} {left whole : List (List ℕ)} → Numbering old now number left whole
-    → left ≡ [] → true ≡ are_new (has_number old) [] whole
-all_new {old = old} n none = sym (ap (are_new (has_number old) n.before) none) ∙ n.read
+pub all_new : {all : List KeyDoc} {old now : Numbers} {number : ℕ} {left whole : List (List ℕ)}
+    → Numbering all old now number left whole → left ≡ [] → true ≡ are_new (has_number all old) [] whole
+all_new {all = all} {old = old} n none = sym (ap (are_new (has_number all old) n.before) none) ∙ n.read
 
 -- and have the number
-pub all_numbered : {old now : Numbers} {number : ℕ} {left whole : List (List ℕ)} → Numbering old now number left whole
-    → left ≡ [] → (other : List ℕ)
-    → number_of now other ≡ cond (is_among other whole) (Some number) (number_of old other)
-all_numbered {old = old} {number = number} n none other =
-    n.numbered other ∙ ap (λ b. cond b (Some number) (number_of old other))
+pub all_numbered : {all : List KeyDoc} {old now : Numbers} {number : ℕ} {left whole : List (List ℕ)}
+    → Numbering all old now number left whole → left ≡ [] → (other : List ℕ)
+    → number_of all now other ≡ cond (is_among other whole) (Some number) (number_of all old other)
+all_numbered {all = all} {old = old} {number = number} n none other =
+    n.numbered other ∙ ap (λ b. cond b (Some number) (number_of all old other))
     (or_false (is_among other n.before)
     ∙ (sym (ap (λ xs. is_among other n.before || is_among other xs) none) ∙ n.among other))
 

@@ -1,7 +1,6 @@
 -- MongoDB Client Side Encryption, "Key vault": the keys of a file of key documents, one after another
-use Rattle.std.specs.Prelude.{◌≡◌, ◌≤◌, ℕ, zero, suc, ◌+◌, ◌++◌, Bool, true, false, not, ◌||◌, ◌&&◌, nat_lt}
-use Rattle.std.specs.Prelude.{List, [], ◌∷◌}
-use Rattle.std.specs.Prelude.{length, drop, is_some, Option, Some, None, Result, Ok, Err, if◌then◌else◌}
+use Rattle.std.specs.Prelude.{◌≡◌, ◌≤◌, ℕ, zero, suc, ◌+◌, ◌++◌, Bool, true, false, not, ◌||◌, ◌&&◌, nat_lt, List, []}
+use Rattle.std.specs.Prelude.{◌∷◌, length, drop, is_some, Option, Some, None, Result, Ok, Err, if◌then◌else◌}
 use Rattle.bson_tree.specs.Tree.{Items}
 use Rattle.bson_codec.specs.declared.fault.BsonFault.{BsonFault}
 use Rattle.bson_codec.specs.Reading.{front_document}

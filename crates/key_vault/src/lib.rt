@@ -15,6 +15,7 @@ mod kept_key;
 mod loading;
 mod lookup;
 mod numbers;
+mod place;
 mod vault;
 
 pub use cache::KeyCache;

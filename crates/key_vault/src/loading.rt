@@ -1,13 +1,15 @@
 //! Keys read into a vault, one document after another.
 
 ghost use Rattle.std.specs.Prelude.{◌≡◌, ◌<◌, ◌≤◌, [], ◌^◌, ℕ, List, length, bytes_eq, None, Some, Ok, IfOk};
-ghost use Rattle.std.specs.Prelude.{if◌then◌else◌};
+ghost use Rattle.std.specs.Prelude.{if◌then◌else◌, slice_get, OnOk};
 ghost use Rattle.key_vault.specs.Keys.{is_among};
 ghost use Rattle.key_vault.specs.Loading.{Adds, are_new, front_key, Grows, judged, key_behind, kind_by, kind_of};
-ghost use Rattle.key_vault.specs.Numbers.{has_number, number_of};
+ghost use Rattle.key_vault.specs.Numbers.{AreOf, has_number, number_of};
+ghost use Rattle.data_key.specs.declared.key_doc.KeyDoc.{KeyDoc};
 
 use crate::faults::{VaultFault, VaultKind};
 use crate::numbers::Numbers;
+use crate::place::Place;
 use crate::vault::Vault;
 use bson_codec::{RawDoc, first_doc};
 use data_key::{KeyDoc, KeyFault, read_key};
@@ -74,23 +76,25 @@ impl Vault {
         ensures added { Grows self.old self.new document result (judged self.old (Ok key)) }
     {
         let number = self.keys.len() as u32;
-        match put_numbers(alloc, &mut self.ids, &mut self.names, &key, number) {
-            Ok(None) => match self.keys.push(key) {
-                Ok(()) => {
-                    return Ok(());
-                }
-                Err(_) => {
-                    clear(&mut self.keys, &mut self.ids, &mut self.names);
-                    return Err(VaultFault::Memory);
-                }
-            },
+        match self.keys.push(key) {
+            Ok(()) => {}
+            Err(_) => {
+                return Err(VaultFault::Memory);
+            }
+        }
+        let keys = self.keys.as_slice();
+        let key = &keys[number as usize];
+        match put_numbers(alloc, &mut self.ids, &mut self.names, keys, key, number) {
+            Ok(None) => {
+                return Ok(());
+            }
             Ok(Some(kind)) => {
                 clear(&mut self.keys, &mut self.ids, &mut self.names);
-                Err(VaultFault::Bad { document, kind })
+                return Err(VaultFault::Bad { document, kind });
             }
             Err(_) => {
                 clear(&mut self.keys, &mut self.ids, &mut self.names);
-                Err(VaultFault::Memory)
+                return Err(VaultFault::Memory);
             }
         }
     }
@@ -101,20 +105,28 @@ fn put_numbers(
     alloc: Global,
     ids: &mut Numbers,
     names: &mut Numbers,
+    keys: &[KeyDoc],
     key: &KeyDoc,
     number: u32,
 ) -> Result<Option<VaultKind>, Memory>
+    requires key { slice_get keys.now number ≡ Some key.now }
     ensures kind { IfOk result (λ kind. kind
-        ≡ kind_by (has_number ids.old key.now.id) (are_new (has_number names.old) [] key.now.names)) }
-    ensures ids { IfOk result (λ kind. kind ≡ None → (id : List ℕ) → number_of ids.new id
-        ≡ (if bytes_eq key.now.id id then Some number else number_of ids.old id)) }
-    ensures names { IfOk result (λ kind. kind ≡ None → (name : List ℕ) → number_of names.new name
-        ≡ (if is_among name key.now.names then Some number else number_of names.old name)) }
+        ≡ kind_by (has_number keys.now ids.old key.now.id) (are_new (has_number keys.now names.old) [] key.now.names)) }
+    ensures ids { IfOk result (λ kind. kind ≡ None → (id : List ℕ) → number_of keys.now ids.new id
+        ≡ (if bytes_eq key.now.id id then Some number else number_of keys.now ids.old id)) }
+    ensures names { IfOk result (λ kind. kind ≡ None → (name : List ℕ) → number_of keys.now names.new name
+        ≡ (if is_among name key.now.names then Some number else number_of keys.now names.old name)) }
+    ensures of_ids { OnOk result (AreOf keys.now ids.old → AreOf keys.now ids.new) }
+    ensures of_names { OnOk result (AreOf keys.now names.old → AreOf keys.now names.new) }
 {
-    if !ids.put(alloc, &key.id, number)? {
+    let place = Place {
+        key: number,
+        name: None,
+    };
+    if !ids.put(alloc, keys, place, &key.id)? {
         return Ok(Some(VaultKind::IdTwice));
     }
-    if !names.put_all(alloc, key.names.as_slice(), number)? {
+    if !names.put_all(alloc, keys, key, number)? {
         return Ok(Some(VaultKind::NameTwice));
     }
     Ok(None)
@@ -123,8 +135,10 @@ fn put_numbers(
 /// Takes the keys and their numbers away.
 fn clear(keys: &mut Vec<KeyDoc>, ids: &mut Numbers, names: &mut Numbers)
     ensures keys { keys.new.items ≡ [] }
-    ensures ids { (id : List ℕ) → number_of ids.new id ≡ None }
-    ensures names { (name : List ℕ) → number_of names.new name ≡ None }
+    ensures ids { (all : List KeyDoc) → (id : List ℕ) → number_of all ids.new id ≡ None }
+    ensures names { (all : List KeyDoc) → (name : List ℕ) → number_of all names.new name ≡ None }
+    ensures of_ids { (all : List KeyDoc) → AreOf all ids.new }
+    ensures of_names { (all : List KeyDoc) → AreOf all names.new }
 {
     keys.clear();
     ids.clear();

@@ -2,30 +2,26 @@
 //! hash. So a hash is a place in an order, where the first text that has it stands; the others of this hash stand in
 //! the order of the texts. A search takes as many steps as the logarithm of their number, whatever the texts.
 
-ghost use Rattle.std.specs.Prelude.{◌≡◌, ◌==◌, ◌&&◌, [], not, true, ℕ, List, bytes_eq, None, Some};
+ghost use Rattle.std.specs.Prelude.{◌≡◌, ◌==◌, ◌&&◌, [], not, true, ℕ, List, bytes_eq, None, Some, slice_get};
 ghost use Rattle.std.specs.Prelude.{if◌then◌else◌, option_copied, IfOk, OnOk};
+ghost use Rattle.data_key.specs.declared.key_doc.KeyDoc.{KeyDoc};
 ghost use Rattle.key_vault.specs.Keys.{is_among};
 ghost use Rattle.key_vault.specs.Loading.{are_new};
-ghost use Rattle.key_vault.specs.Numbers.{first_of, has_number, hash_of, number_of, number_of_first, number_of_other};
+ghost use Rattle.key_vault.specs.Numbers.{AreOf, first_of, has_number, hash_of, number_of, number_of_first};
+ghost use Rattle.key_vault.specs.Numbers.{is_text, number_of_other, text_at};
 
-use bson_tree::Bytes;
+use crate::place::{Place, is_at};
+use data_key::KeyDoc;
 use fle_outside::Memory;
 use std::alloc::Global;
 use std::collections::BTreeMap;
 use std::hash::{FoldHasher, Hasher};
 
-/// The first text of a hash, with its number.
-#[derive(Drop)]
-pub(crate) struct First {
-    text: Bytes,
-    number: u32,
-}
-
-/// The numbers of texts.
+/// The numbers of texts of keys.
 #[derive(Drop)]
 pub(crate) struct Numbers {
-    /// By a hash the first text that has it.
-    firsts: BTreeMap<u64, First>,
+    /// By a hash the place of the first text that has it.
+    firsts: BTreeMap<u64, Place>,
     /// The numbers of the texts whose hash an earlier one has.
     others: BTreeMap<Vec<u8>, u32>,
 }
@@ -33,7 +29,8 @@ pub(crate) struct Numbers {
 impl Numbers {
     /// No text has a number.
     pub(crate) fn new(alloc: Global) -> Numbers
-        ensures none { (text : List ℕ) → number_of result text ≡ None }
+        ensures none { (keys : List KeyDoc) → (text : List ℕ) → number_of keys result text ≡ None }
+        ensures of { (keys : List KeyDoc) → AreOf keys result }
     {
         Numbers {
             firsts: BTreeMap::new(alloc),
@@ -43,53 +40,99 @@ impl Numbers {
 
     /// Takes all numbers away.
     pub(crate) fn clear(&mut self)
-        ensures none { (text : List ℕ) → number_of self.new text ≡ None }
+        ensures none { (keys : List KeyDoc) → (text : List ℕ) → number_of keys self.new text ≡ None }
+        ensures of { (keys : List KeyDoc) → AreOf keys self.new }
     {
         self.firsts.clear();
         self.others.clear();
     }
 
     /// The number of a text.
-    pub(crate) fn get(&self, text: &[u8]) -> Option<u32>
-        ensures number { result ≡ number_of self.now text.now }
+    pub(crate) fn get(&self, keys: &[KeyDoc], text: &[u8]) -> Option<u32>
+        ensures number { result ≡ number_of keys.now self.now text.now }
     {
         match self.others.get(text) {
             Some(number) => Some(*number),
-            None => number_of_first(self.firsts.get(&hash_of(text)), text),
+            None => number_of_first(keys, self.firsts.get(&hash_of(text)), text),
         }
     }
 
-    /// Gives a text a number where it has none, and tells whether so.
-    pub(crate) fn put(&mut self, alloc: Global, text: &[u8], number: u32) -> Result<bool, Memory>
-        ensures new { IfOk result (λ new. new ≡ not (has_number self.old text.now)) }
-        ensures put { IfOk result (λ new. (other : List ℕ) → number_of self.new other
-            ≡ (if new && bytes_eq text.now other then Some number else number_of self.old other)) }
+    /// Gives the text at a place the number of its key where it has none, and tells whether so.
+    pub(crate) fn put(
+        &mut self,
+        alloc: Global,
+        keys: &[KeyDoc],
+        place: Place,
+        text: &[u8],
+    ) -> Result<bool, Memory>
+        requires text { text_at keys.now place ≡ Some text.now }
+        ensures new { IfOk result (λ new. new ≡ not (has_number keys.now self.old text.now)) }
+        ensures put { IfOk result (λ new. (other : List ℕ) → number_of keys.now self.new other
+            ≡ (if new && bytes_eq text.now other then Some place.key else number_of keys.now self.old other)) }
+        ensures of { OnOk result (AreOf keys.now self.old → AreOf keys.now self.new) }
     {
-        if self.get(text).is_some() {
+        if self.others.contains_key(text) {
             return Ok(false);
         }
         let hash = hash_of(text);
-        if self.firsts.contains_key(&hash) {
-            put_other(alloc, &mut self.others, text, number)?;
-        } else {
-            put_first(alloc, &mut self.firsts, hash, text, number)?;
+        match self.firsts.insert(hash, place) {
+            Ok(None) => {
+                return Ok(true);
+            }
+            Ok(Some(first)) => {
+                return self.put_behind(alloc, keys, first, place.key, text);
+            }
+            Err(_) => {
+                return Err(Memory);
+            }
         }
+    }
+
+    /// Puts the first place of the hash of a text back, and the text behind it where it isn't the one that stands
+    /// there; tells whether so.
+    fn put_behind(
+        &mut self,
+        alloc: Global,
+        keys: &[KeyDoc],
+        first: Place,
+        number: u32,
+        text: &[u8],
+    ) -> Result<bool, Memory>
+        ensures new { IfOk result (λ new. new ≡ not (is_text text.now (text_at keys.now first))) }
+        ensures firsts { OnOk result ((hash : ℕ) → first_of self.new.firsts hash
+            ≡ (if hash_of text.now == hash then Some first else first_of self.old.firsts hash)) }
+        ensures others { IfOk result (λ new. (other : List ℕ) → number_of_other self.new.others other
+            ≡ (if new && bytes_eq text.now other then Some number else number_of_other self.old.others other)) }
+    {
+        put_first(&mut self.firsts, hash_of(text), first)?;
+        if is_at(keys, first, text) {
+            return Ok(false);
+        }
+        put_other(alloc, &mut self.others, text, number)?;
         Ok(true)
     }
 
-    /// Gives each of these names a number where none has one and none stands twice, and tells whether so.
+    /// Gives each name of a key its number where none has one and none stands twice, and tells whether so.
     pub(crate) fn put_all(
         &mut self,
         alloc: Global,
-        names: &[Bytes],
+        keys: &[KeyDoc],
+        key: &KeyDoc,
         number: u32,
     ) -> Result<bool, Memory>
-        ensures new { IfOk result (λ new. new ≡ are_new (has_number self.old) [] names.now) }
-        ensures put { IfOk result (λ new. new ≡ true → (other : List ℕ) → number_of self.new other
-            ≡ (if is_among other names.now then Some number else number_of self.old other)) }
+        requires key { slice_get keys.now number ≡ Some key.now }
+        ensures new { IfOk result (λ new. new ≡ are_new (has_number keys.now self.old) [] key.now.names) }
+        ensures put { IfOk result (λ new. new ≡ true → (other : List ℕ) → number_of keys.now self.new other
+            ≡ (if is_among other key.now.names then Some number else number_of keys.now self.old other)) }
+        ensures of { OnOk result (AreOf keys.now self.old → AreOf keys.now self.new) }
     {
-        for name in names {
-            if !self.put(alloc, name.as_slice(), number)? {
+        let names = key.names.as_slice();
+        for (i, name) in names.iter().enumerate() {
+            let place = Place {
+                key: number,
+                name: Some(i),
+            };
+            if !self.put(alloc, keys, place, name.as_slice())? {
                 return Ok(false);
             }
         }
@@ -98,30 +141,23 @@ impl Numbers {
 }
 
 /// The number of the first text of a hash, where that is this text.
-fn number_of_first(first: Option<&First>, text: &[u8]) -> Option<u32>
-    ensures number { result ≡ number_of_first text.now (option_copied first.entry) }
+fn number_of_first(keys: &[KeyDoc], first: Option<&Place>, text: &[u8]) -> Option<u32>
+    ensures number { result ≡ number_of_first keys.now text.now (option_copied first.entry) }
 {
-    let first = first?;
-    if first.text.as_slice() == text {
-        Some(first.number)
+    let first = *first?;
+    if is_at(keys, first, text) {
+        Some(first.key)
     } else {
         None
     }
 }
 
-/// Puts the first text of a hash.
-fn put_first(
-    alloc: Global,
-    firsts: &mut BTreeMap<u64, First>,
-    hash: u64,
-    text: &[u8],
-    number: u32,
-) -> Result<(), Memory>
+/// Puts the place of the first text of a hash.
+fn put_first(firsts: &mut BTreeMap<u64, Place>, hash: u64, place: Place) -> Result<(), Memory>
     ensures put { OnOk result ((other : ℕ) → first_of firsts.new other
-        ≡ (if hash == other then Some (record { text = text.now; number = number }) else first_of firsts.old other)) }
+        ≡ (if hash == other then Some place else first_of firsts.old other)) }
 {
-    let text = Bytes::from_slice(alloc, text)?;
-    match firsts.insert(hash, First { text, number }) {
+    match firsts.insert(hash, place) {
         Ok(_) => Ok(()),
         Err(_) => Err(Memory),
     }

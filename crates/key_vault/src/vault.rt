@@ -25,14 +25,15 @@ impl Model for Vault {
     ghost use Rattle.std.specs.Prelude.{◌≡◌, ℕ, List};
     ghost use Rattle.data_key.specs.declared.key_doc.KeyDoc.{KeyDoc};
     ghost use Rattle.key_vault.specs.Keys.{has_id, has_name, place_from};
-    ghost use Rattle.key_vault.specs.Numbers.{number_of};
+    ghost use Rattle.key_vault.specs.Numbers.{AreOf, number_of};
 
     ghost Value = { List KeyDoc };
 
     ghost view = { λ v. v.keys.items };
 
-    ghost invariant = { λ v. ((id : List ℕ) → number_of v.ids id ≡ place_from 0 (has_id id) v.keys.items)
-        × ((name : List ℕ) → number_of v.names name ≡ place_from 0 (has_name name) v.keys.items) };
+    ghost invariant = { λ v. ((id : List ℕ) → number_of v.keys.items v.ids id ≡ place_from 0 (has_id id) v.keys.items)
+        × ((name : List ℕ) → number_of v.keys.items v.names name ≡ place_from 0 (has_name name) v.keys.items)
+        × AreOf v.keys.items v.ids × AreOf v.keys.items v.names };
 }
 
 impl Vault {
@@ -81,7 +82,7 @@ impl Vault {
         if self.keys.len() <= FEW {
             return first_key(&self.keys, id);
         }
-        match self.ids.get(id) {
+        match self.ids.get(&self.keys, id) {
             Some(number) => key_at(&self.keys, number as usize),
             None => None,
         }
@@ -91,7 +92,7 @@ impl Vault {
     pub fn by_name(&self, name: &[u8]) -> Option<&KeyDoc>
         ensures found { option_copied result ≡ key_by_name self.now name.now }
     {
-        match self.names.get(name) {
+        match self.names.get(&self.keys, name) {
             Some(number) => key_at(&self.keys, number as usize),
             None => None,
         }

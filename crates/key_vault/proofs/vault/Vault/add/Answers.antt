@@ -1,41 +1,56 @@
 -- The numbers of a key that was added, and what is answered by what the numbers tell of it.
-use Rattle.std.proofs.Common.{◌≡◌, ◌∙◌, length, refl, sym, rules}
-use Rattle.key_vault.proofs.Numbered.{accepted, id_added, is_new, kind_alike, names_added, refused}
+use Rattle.std.proofs.Common.{◌≡◌, ◌∙◌, ◌++◌, ◌∷◌, [], None, Some, length, refl, sym, rules}
+use Rattle.key_vault.proofs.Numbered.{accepted, ids_told, is_new, kind_told, last_is, names_told, of_told, refused}
 use Rattle.key_vault.proofs.vault.Vault.add.Goals as goal
 
-pub invariant_of-self : goal.invariant_of-self
-invariant_of-self c =
+pub invariant_of-self-in-Ok-None : goal.invariant_of-self-in-Ok-None
+invariant_of-self-in-Ok-None c =
     let keys = c.self.inside.keys.items in
+    let ids = c.self.inside.ids in
+    let names = c.self.inside.names in
+    let inv = c.self.invariant in
+    let all : c.as_slice-keys.result.now ≡ c.self.inside.keys.items ++ c.args.key ∷ [] = search rules in
     let count : c.len-number.result ≡ length c.self.inside.keys.items = search rules in
-    let new = is_new _ _ (sym c.in-Ok-None.field-0-is ∙ c.in-Ok-None.ensures.kind
-    ∙ kind_alike keys c.args.key c.self.inside.ids c.self.inside.names c.self.invariant.0 c.self.invariant.1) in
+    let same : c.index-keys-number.result ≡ c.args.key = search (rules, last_is) in
+    let new = is_new _ _ (kind_told keys c.args.key c.index-keys-number.result c.as_slice-keys.result.now ids names None
+    all same inv.2 inv.3 inv.0 inv.1 (sym c.in-Ok-None.field-0-is ∙ c.in-Ok-None.ensures.kind)) in
     rw c.in-Ok.ensures.items (
-      id_added keys c.args.key c.self.inside.ids c.put_numbers.new.ids c.len-number.result
-          (c.in-Ok-None.ensures.ids c.in-Ok-None.field-0-is) c.self.invariant.0 new.0 count,
-      names_added keys c.args.key c.self.inside.names c.put_numbers.new.names c.len-number.result
-          (c.in-Ok-None.ensures.names c.in-Ok-None.field-0-is) c.self.invariant.1 new.1 count,
+      ids_told keys c.args.key c.index-keys-number.result c.as_slice-keys.result.now ids c.put_numbers.new.ids
+          c.len-number.result all same inv.2 inv.0 new.0 count (c.in-Ok-None.ensures.ids c.in-Ok-None.field-0-is),
+      names_told keys c.args.key c.index-keys-number.result c.as_slice-keys.result.now names c.put_numbers.new.names
+          c.len-number.result all same inv.3 inv.1 new.1 count (c.in-Ok-None.ensures.names c.in-Ok-None.field-0-is),
+      of_told keys c.args.key c.as_slice-keys.result.now ids c.put_numbers.new.ids all inv.2
+          c.in-Ok-None.ensures.of_ids,
+      of_told keys c.args.key c.as_slice-keys.result.now names c.put_numbers.new.names all inv.3
+          c.in-Ok-None.ensures.of_names,
     )
 
-pub returns-in-Ok : goal.returns-in-Ok
-returns-in-Ok c =
+pub returns-in-Ok-None : goal.returns-in-Ok-None
+returns-in-Ok-None c =
+    let inv = c.self.invariant in
+    let all : c.as_slice-keys.result.now ≡ c.self.inside.keys.items ++ c.args.key ∷ [] = search rules in
+    let same : c.index-keys-number.result ≡ c.args.key = search (rules, last_is) in
     rw (sym c.self.view_is) record {
       added = (
         c.args.key,
-        accepted c.self.inside.keys.items c.args.key (sym c.in-Ok-None.field-0-is ∙ c.in-Ok-None.ensures.kind
-            ∙ kind_alike c.self.inside.keys.items c.args.key c.self.inside.ids c.self.inside.names
-            c.self.invariant.0 c.self.invariant.1),
+        accepted c.self.inside.keys.items c.args.key (kind_told c.self.inside.keys.items c.args.key
+            c.index-keys-number.result c.as_slice-keys.result.now c.self.inside.ids c.self.inside.names None
+            all same inv.2 inv.3 inv.0 inv.1 (sym c.in-Ok-None.field-0-is ∙ c.in-Ok-None.ensures.kind)),
         c.in-Ok.ensures.items,
       );
     }
 
 pub returns-in-Ok-Some : goal.returns-in-Ok-Some
 returns-in-Ok-Some c =
+    let inv = c.self.invariant in
+    let all : c.as_slice-keys.result.now ≡ c.self.inside.keys.items ++ c.args.key ∷ [] = search rules in
+    let same : c.index-keys-number.result ≡ c.args.key = search (rules, last_is) in
     rw (sym c.self.view_is) record {
       added = (
         refl,
-        refused c.self.inside.keys.items c.args.key c.in-Ok-Some.kind
-            (sym c.in-Ok-Some.field-0-is ∙ c.in-Ok-Some.ensures.kind
-            ∙ kind_alike c.self.inside.keys.items c.args.key c.self.inside.ids c.self.inside.names
-            c.self.invariant.0 c.self.invariant.1),
+        refused c.self.inside.keys.items c.args.key c.in-Ok-Some.kind (kind_told c.self.inside.keys.items c.args.key
+            c.index-keys-number.result c.as_slice-keys.result.now c.self.inside.ids c.self.inside.names
+            (Some c.in-Ok-Some.kind) all same inv.2 inv.3 inv.0 inv.1
+            (sym c.in-Ok-Some.field-0-is ∙ c.in-Ok-Some.ensures.kind)),
       );
     }
