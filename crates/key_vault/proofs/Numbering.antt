@@ -53,8 +53,8 @@ known {all = all} {old = old} {number = number} n name =
 
 -- one more name gets the number
 pub next_numbered : {all : List KeyDoc} {old now : Numbers} {number : ℕ} {left whole : List (List ℕ)}
-    (new : Numbers) (name : List ℕ) (rest : List (List ℕ)) → Numbering all old now number left whole → left ≡ name ∷ rest
-    → true ≡ not (has_number all now name)
+    (new : Numbers) (name : List ℕ) (rest : List (List ℕ))
+    → Numbering all old now number left whole → left ≡ name ∷ rest → true ≡ not (has_number all now name)
     → ((other : List ℕ) → number_of all new other ≡ cond (bytes_eq name other) (Some number) (number_of all now other))
     → Numbering all old new number rest whole
 next_numbered {all = all} {old = old} {now = now} {number = number} {left = left} new name rest n step free put =
