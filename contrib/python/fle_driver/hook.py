@@ -1,7 +1,7 @@
 """A whole pymongo client, by the hook of pymongo's own automatic encryption."""
 from __future__ import annotations
 
-from typing import Any, Mapping, MutableMapping
+from typing import Any, Mapping, MutableMapping, NoReturn
 
 import bson
 import pymongo
@@ -64,3 +64,10 @@ def enable(client: pymongo.MongoClient, fle: Fle) -> None:
     if client._encrypter is not None:
         raise Unsupported("the client has an encrypter already")
     client._encrypter = Hook(fle)
+    if hasattr(pymongo.MongoClient, "bulk_write"):  # pymongo 4.9 sends what it writes past the encrypter
+        client.bulk_write = refuse
+
+
+def refuse(*_: Any, **__: Any) -> NoReturn:
+    """In place of a call whose commands the hook never sees."""
+    raise Unsupported("MongoClient.bulk_write seals nothing: use bulk_write of a collection")

@@ -3,6 +3,7 @@ import shutil
 import unittest
 import uuid
 from concurrent.futures import ThreadPoolExecutor
+from unittest import mock
 
 import bson
 import pymongo
@@ -12,6 +13,7 @@ from bson.errors import InvalidDocument
 from bson.raw_bson import DEFAULT_RAW_BSON_OPTIONS, RawBSONDocument
 from bson.son import SON
 from pymongo.errors import BulkWriteError, DuplicateKeyError, PyMongoError
+from pymongo.write_concern import WriteConcern
 
 from fle_driver import Closed, Fle, Reason, Refused, Unsupported, enable
 from fle_driver.hook import Hook
@@ -39,9 +41,13 @@ def updates(verb, field, *items):
 
 @unittest.skipUnless(Wire and shutil.which("fle"), "no mockupdb, or no fle in PATH")
 class OnTheWire(unittest.TestCase):
+    @classmethod
+    def setUpClass(cls):
+        cls.wire = Wire()
+        cls.addClassCleanup(cls.wire.stop)
+
     def setUp(self):
-        self.wire = Wire()
-        self.addCleanup(self.wire.stop)
+        self.wire.forget()
         self.client = pymongo.MongoClient(self.wire.uri)
         self.addCleanup(self.client.close)
         enable(self.client, Fle(*FILES))
@@ -51,6 +57,12 @@ class OnTheWire(unittest.TestCase):
     def test_an_insert_keeps_every_byte(self):
         self.people.insert_one(RawBSONDocument(PERSON))
         self.assertEqual(self.wire.last("documents"), written(insert(PERSON), "documents"))
+
+    def test_an_insert_that_is_not_acknowledged(self):
+        self.people.with_options(write_concern=WriteConcern(0)).insert_one(RawBSONDocument(PERSON))
+        self.client.hr.command("ping")  # by the same connection
+        insertion, _ = self.wire.came
+        self.assertEqual([person.raw for person in insertion["documents"]], written(insert(PERSON), "documents"))
 
     def test_an_insert_of_a_dictionary_in_a_session(self):
         person = {"_id": 1, "ssn": "123-45-6789", "token": Binary(bytes(16), 4)}
@@ -180,6 +192,13 @@ class Clients(unittest.TestCase):
         enable(self.client, self.fle)
         with self.assertRaises(Unsupported):
             enable(self.client, self.fle)
+
+    def test_a_client_whose_bulk_write_passes_no_encrypter(self):
+        with mock.patch.object(pymongo.MongoClient, "bulk_write", create=True) as past:
+            enable(self.client, self.fle)
+            with self.assertRaises(Unsupported):
+                self.client.bulk_write([])
+        past.assert_not_called()
 
     def test_what_has_no_place_for_an_encrypter(self):
         encrypter = vars(self.client).pop("_encrypter")

@@ -20,10 +20,15 @@ except ImportError:
 
 @unittest.skipUnless(Wire and shutil.which("fle"), "no mockupdb, or no fle in PATH")
 class Pages(unittest.TestCase):
+    @classmethod
+    def setUpClass(cls):
+        cls.wire = Wire()
+        cls.addClassCleanup(cls.wire.stop)
+
     def printed(self, page):
         """What the Python of a page prints, run in a folder that has its files; a find gets one sealed person."""
-        wire = Wire()
-        self.addCleanup(wire.stop)
+        wire = self.wire
+        wire.forget()
         (person,) = [part.value for field in elements(sealed(insert(spelled(string("ssn", "123-45-6789")))))
                      if field.name == "documents" for part in elements(field.value)]
         wire.replies = [{"ok": 1, "n": 1}, batch("firstBatch", 0, person)]

@@ -9,14 +9,19 @@ mockupdb.docs_repr = lambda *documents: "documents"
 
 
 class Wire:
-    """The server: the commands that came, and the replies to those that will come; to more it says that one document was written."""
+    """The server: the commands that came, and the replies to those that will come. To more it says that one document
+    was written. It takes a second to stop, so the tests of a class share one."""
 
     def __init__(self):
-        self.came, self.replies = [], []
+        self.forget()
         self.server = mockupdb.MockupDB(auto_ismaster={"maxWireVersion": 8, "logicalSessionTimeoutMinutes": 30})
         self.server.autoresponds(self.reply)
         self.server.run()
         self.uri, self.stop = self.server.uri, self.server.stop
+
+    def forget(self):
+        """What a test begins with."""
+        self.came, self.replies = [], []
 
     def reply(self, request):
         """Answers a command, but for the handshake."""
@@ -24,6 +29,8 @@ class Wire:
             return None
         if request.command_name != "endSessions":
             self.came.append(request.doc)
+        if request.flags & mockupdb.OP_MSG_FLAGS["moreToCome"]:  # not acknowledged
+            return True
         return request.replies(self.replies.pop(0) if self.replies else {"ok": 1, "n": 1, "nModified": 1})
 
     def last(self, field):
