@@ -158,6 +158,7 @@ fn judge_ready<B: Block256>(
 }
 
 /// Opens each document of the input. It draws no block.
+#[tactic(auto, using(crate::proofs::Unseals::decrypt_draws))]
 pub fn decrypt<S: Source, F: Folder, O: Sink, B: Block256>(
     alloc: Global,
     keys: &str,

@@ -111,6 +111,7 @@ fn judge_reply(reply: Result<Vec<u8>, ReplyFault>) -> Judged
 }
 
 /// Marks each command of the input. It draws no block.
+#[tactic(auto, using(crate::proofs::Marks::mark_draws))]
 pub fn mark<S: Source, F: Folder, O: Sink>(
     alloc: Global,
     db: &str,
