@@ -4,9 +4,17 @@ import shutil
 import struct
 import subprocess
 
+from documents import elements_of, payloads_of
+from forge import cbc, data_key, sealed as sealed_blocks
+
 KEY_ID = bytes.fromhex("00112233445546778899aabbccddeeff")  # that of examples/people.schemas.json
 ENCRYPT = ["encrypt", "hr", "keys.bson", "schemas.json", "master.key"]
 DECRYPT = ["decrypt", "keys.bson", "master.key"]
+HEAD, VECTOR, TAG = 18, 16, 32  # how long the parts of a payload are around its blocks
+TAG_PLACES = (0, 10, 21, 31)
+# Ends of a last block that stand in place of 03 03 03, and are no padding.
+WRONG_ENDS = [bytes.fromhex(end) for end in
+              ("030300", "030302", "030304", "030310", "030311", "0303ff", "020303", "03fd03")]
 
 
 def drawn(turn, name, size):
@@ -81,3 +89,28 @@ def other_runs(command, sealed):
     place = sealed.rindex(b"\x02$db\0") - 3
     changed = sealed[:place] + bytes([sealed[place] ^ 1]) + sealed[place + 1:]
     return [("a value a block longer", ENCRYPT, command), ("a wrong tag", DECRYPT, changed)]
+
+
+def refusal(program, folder, stdin):
+    """The reason for which `fle decrypt` refuses the first document; None where it doesn't."""
+    run = subprocess.run([program] + DECRYPT, input=stdin, cwd=folder, capture_output=True, check=False)
+    return int(run.stderr.split()[3]) if run.returncode == 1 and not run.stdout else None
+
+
+def with_wrong_tags(sealed):
+    """The sealed command with the tag of its last payload changed, at one place after the other."""
+    payload = payloads_of(elements_of(sealed))[-1]
+    tag = sealed.rindex(payload) + len(payload) - TAG
+    return [sealed[:tag + at] + bytes([sealed[tag + at] ^ 0xFF]) + sealed[tag + at + 1:] for at in TAG_PLACES]
+
+
+def with_wrong_paddings(sealed, folder):
+    """The sealed command with other last bytes in the blocks of its last payload, each under its right tag."""
+    with open(f"{folder}/master.key", "rb") as master, open(f"{folder}/keys.bson", "rb") as keys:
+        key = data_key(master.read(), keys.read())
+    payload = payloads_of(elements_of(sealed))[-1]
+    head, vector, blocks = payload[:HEAD], payload[HEAD:HEAD + VECTOR], payload[HEAD + VECTOR:-TAG]
+    plain = cbc("-d", key[32:64], vector, blocks)
+    if not plain.endswith(b"\3\3\3"):
+        raise ValueError("the last value has another padding than three bytes")
+    return [sealed.replace(payload, head + sealed_blocks(key, head, plain[:-3] + end)) for end in WRONG_ENDS]
