@@ -1,0 +1,11 @@
+pub mod Trees
+pub mod Aligned
+pub mod Orderings
+pub mod Marks
+pub mod Pieces
+pub mod Contents
+pub mod Walked
+pub mod Asked
+pub mod Shapes
+pub mod Readings
+pub mod Flags

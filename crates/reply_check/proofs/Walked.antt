@@ -1,0 +1,161 @@
+-- What is asked of the value in the place of an element's, by the next mark.
+use Rattle.std.proofs.Common.{◌≡◌, ◌∙◌, ℕ, ◌+◌, ◌<◌, ◌≤◌, Bool, true, false}
+use Rattle.std.proofs.Common.{◌&&◌, List, [], ◌∷◌, length, Option, Some, ◌-◌}
+use Rattle.std.proofs.Common.{None, refl, sym, ap, ap₂, subst, arith}
+use Rattle.std.proofs.lemmas.Bool.{eq-eqb, ne_eqb, lt-ltb, le-ltb}
+use Rattle.std.specs.Prelude.{◌==◌, nat_lt, bytes_eq}
+use Rattle.bson_codec.specs.Borrowed.{At, Elem, value_tree}
+use Rattle.bson_codec.specs.Elements.{TakesElement}
+use Rattle.bson_codec.specs.Layout.{IsDoc, IsItems, IsValue, level_limit}
+use Rattle.bson_codec.proofs.Fronts.{value_tree_is}
+use Rattle.bson_codec.proofs.Grammar.{same_tree as same_doc}
+use Rattle.bson_tree.specs.Tree.{Tree, leaf, node, Items, no_items, item, tag_of}
+use Rattle.bson_tree.specs.Spelling.{framed, value_bytes, items_bytes, doc_bytes}
+use Rattle.encrypt_schema.specs.declared.command.marks.Mark.{Mark}
+use Rattle.encrypt_schema.specs.Language.Names.{named}
+use Rattle.command_marker.specs.Splices.{left_in, left}
+use Rattle.reply_check.specs.Matches.{matches, matches_in, matches_inside}
+use Rattle.reply_check.specs.Same.{is_same, is_same_tree}
+use Rattle.reply_check.proofs.Trees.{all, both, items_are, one_test, same_items, same_tree, tree_is}
+use Rattle.std.proofs.lemmas.Slice.Eq.{bytes_eq-Decides}
+use Rattle.std.proofs.lemmas.Bool.Decides.{Decides-eqb}
+
+module _ (test : Mark → Tree → Tree → Bool) (at : ℕ) where
+  -- a value is kept
+  abbrev pub Keeps : Tree → List Mark → Type 0
+  Keeps t ms = ((u : Tree) → matches_in test at ms t u ≡ is_same_tree u t) × (left_in at ms t ≡ ms)
+
+  -- no mark is left
+  pub keeps_last : (t : Tree) (ms : List Mark) → ms ≡ [] → Keeps t ms
+  keeps_last (leaf tag bytes) ms e = rw e (λ u. refl, refl)
+  keeps_last (node tag is) ms e = rw e (λ u. refl, refl)
+
+  -- the next mark is the value's own
+  pub tests : (t : Tree) (m : Mark) (ms rest : List Mark) → ms ≡ m ∷ rest → m.start ≡ at
+      → ((u : Tree) → matches_in test at ms t u ≡ test m t u) × (left_in at ms t ≡ rest)
+  tests (leaf tag bytes) m ms rest e s =
+      let on : (m.start == at) ≡ true = eq-eqb m.start at s in rw (e, on) (λ u. refl, refl)
+  tests (node tag is) m ms rest e s =
+      let on : (m.start == at) ≡ true = eq-eqb m.start at s in rw (e, on) (λ u. refl, refl)
+
+  -- no other mark is of a raw value
+  pub keeps_raw : (t : Tree) (tag : ℕ) (bytes : List ℕ) (m : Mark) (ms rest : List Mark) → t ≡ leaf tag bytes
+      → ms ≡ m ∷ rest → (m.start ≡ at → ⊥) → Keeps t ms
+  keeps_raw t tag bytes m ms rest is e s = let off : (m.start == at) ≡ false =
+      ne_eqb m.start at s in rw (is, e, off) (λ u. refl, refl)
+
+  -- the next mark stands behind the value
+  pub keeps_before : (t : Tree) (tag : ℕ) (kids : Items) (m : Mark) (ms rest : List Mark) → t ≡ node tag kids
+      → ms ≡ m ∷ rest → (m.start ≡ at → ⊥)
+      → at + length (value_bytes t) ≤ m.start → Keeps t ms
+  keeps_before t tag kids m ms rest is e s h =
+      let off : (m.start == at) ≡ false = ne_eqb m.start at s in
+      let low : at + length (framed (items_bytes kids)) ≤ m.start =
+      subst (λ (u : Tree). at + length (value_bytes u) ≤ m.start) is h in
+      let shut : nat_lt m.start (at + length (framed (items_bytes kids))) ≡ false =
+      le-ltb m.start (at + length (framed (items_bytes kids))) low in
+      rw (is, e, off, shut) (λ u. refl, refl)
+
+  -- the next mark stands inside the value
+  pub opens : (t : Tree) (tag : ℕ) (kids : Items) (m : Mark) (ms rest : List Mark) → t ≡ node tag kids → ms ≡ m ∷ rest
+      → (m.start ≡ at → ⊥)
+      → m.start < at + length (value_bytes t)
+      → ((u : Tree) → matches_in test at ms t u ≡ matches_inside test (at + 4) ms tag kids u)
+      × (left_in at ms t ≡ left (at + 4) ms kids)
+  opens t tag kids m ms rest is e s h =
+      let off : (m.start == at) ≡ false = ne_eqb m.start at s in
+      let low : m.start < at + length (framed (items_bytes kids)) =
+      subst (λ (u : Tree). m.start < at + length (value_bytes u)) is h in
+      let on : nat_lt m.start (at + length (framed (items_bytes kids))) ≡ true =
+      lt-ltb m.start (at + length (framed (items_bytes kids))) low in
+      rw (is, e, off, on) (λ u. refl, refl)
+
+-- ---- what is left
+
+module _ (test : Mark → Tree → Tree → Bool) where
+  -- two elements, and the others
+  pub next_two : (here rest there behind : At) (e f : Elem) (ms : List Mark) → TakesElement here (Some e) rest
+      → TakesElement there (Some f) behind
+      → matches test here.start ms here.tree there.tree
+      ≡ (bytes_eq f.name e.name && (matches_in test e.start ms e.tree f.tree
+      && matches test rest.start (left_in e.start ms e.tree) rest.tree behind.tree))
+  next_two here rest there behind e f ms taken other =
+      let p : here.start + (2 + length e.name) ≡ e.start = sym taken.1 in
+      let q : e.start + length (value_bytes e.tree) ≡ rest.start = sym taken.2 in
+      ap₂ (λ (is js : Items). matches test here.start ms is js) taken.0 other.0
+      ∙ ap (λ (n : ℕ). bytes_eq f.name e.name && (matches_in test n ms e.tree f.tree
+      && matches test (n + length (value_bytes e.tree)) (left_in n ms e.tree) rest.tree behind.tree)) p
+      ∙ ap (λ (n : ℕ). bytes_eq f.name e.name && (matches_in test e.start ms e.tree f.tree
+      && matches test n (left_in e.start ms e.tree) rest.tree behind.tree)) q
+
+  pub next_left : (here rest : At) (e : Elem) (ms : List Mark) → TakesElement here (Some e) rest
+      → left here.start ms here.tree ≡ left rest.start (left_in e.start ms e.tree) rest.tree
+  next_left here rest e ms taken =
+      let p : here.start + (2 + length e.name) ≡ e.start = sym taken.1 in
+      let q : e.start + length (value_bytes e.tree) ≡ rest.start = sym taken.2 in
+      ap (left here.start ms) taken.0
+      ∙ ap (λ (n : ℕ). left (n + length (value_bytes e.tree)) (left_in n ms e.tree) rest.tree) p
+      ∙ ap (λ (n : ℕ). left n (left_in e.start ms e.tree) rest.tree) q
+
+  -- an element and none in its place
+  pub next_alone : (here rest there behind : At) (e : Elem) (ms : List Mark) → TakesElement here (Some e) rest
+      → TakesElement there None behind → matches test here.start ms here.tree there.tree ≡ false
+  next_alone here rest there behind e ms taken other =
+      ap₂ (λ (is js : Items). matches test here.start ms is js) taken.0 other.0
+
+  -- no element, and one in its place
+  pub over_one : (here rest there behind : At) (f : Elem) (ms : List Mark) → TakesElement here None rest
+      → TakesElement there (Some f) behind → matches test here.start ms here.tree there.tree ≡ false
+  over_one here rest there behind f ms taken other =
+      ap₂ (λ (is js : Items). matches test here.start ms is js) taken.0 other.0
+
+  -- and none there either
+  pub over_none : (here rest there behind : At) (ms : List Mark) → TakesElement here None rest
+      → TakesElement there None behind
+      → (matches test here.start ms here.tree there.tree ≡ true) × (left here.start ms here.tree ≡ ms)
+  over_none here rest there behind ms taken other = (
+    ap₂ (λ (is js : Items). matches test here.start ms is js) taken.0 other.0,
+    ap (left here.start ms) taken.0,
+  )
+
+-- ---- values and documents by their bytes
+
+value_is : (t u : Tree) → IsValue (IsItems (level_limit - 1)) t → IsValue (IsItems (level_limit - 1)) u
+    → tag_of t ≡ tag_of u → value_bytes t ≡ value_bytes u → t ≡ u
+value_is t u a b p q =
+    sym (value_tree_is t a) ∙ ap₂ value_tree p q ∙ value_tree_is u b
+
+-- values of one type with the same bytes are one
+pub same_value : (t u : Tree) → IsValue (IsItems (level_limit - 1)) t → IsValue (IsItems (level_limit - 1)) u
+    → ((tag_of t == tag_of u) && bytes_eq (value_bytes t) (value_bytes u)) ≡ is_same_tree t u
+same_value t u a b =
+    one_test ((tag_of t == tag_of u) && bytes_eq (value_bytes t) (value_bytes u)) (is_same_tree t u)
+    (λ h.
+    let k = both (tag_of t == tag_of u) (bytes_eq (value_bytes t) (value_bytes u)) h in
+    tree_is t u (value_is t u a b ((Decides-eqb (tag_of t) (tag_of u)).0 k.0)
+    ((bytes_eq-Decides (value_bytes t) (value_bytes u)).0 k.1)))
+    (λ h.
+    let e = same_tree t u h in
+    all (tag_of t == tag_of u) (bytes_eq (value_bytes t) (value_bytes u))
+    ((Decides-eqb (tag_of t) (tag_of u)).1 (ap tag_of e))
+    ((bytes_eq-Decides (value_bytes t) (value_bytes u)).1 (ap value_bytes e)))
+
+-- values of two types aren't one
+pub apart : (t u : Tree) → (tag_of t == tag_of u) ≡ false → false ≡ is_same_tree t u
+apart (leaf tag bytes) (leaf kind other) off = rw off refl
+apart (leaf tag bytes) (node kind js) off = refl
+apart (node tag is) (leaf kind other) off = refl
+apart (node tag is) (node kind js) off = rw off refl
+
+-- documents with the same bytes are one
+pub same_document : (is js : Items) → IsDoc is → IsDoc js → bytes_eq (doc_bytes is) (doc_bytes js) ≡ is_same is js
+same_document is js a b =
+    one_test (bytes_eq (doc_bytes is) (doc_bytes js)) (is_same is js)
+    (λ h. items_are is js (same_doc is js a b ((bytes_eq-Decides (doc_bytes is) (doc_bytes js)).0 h)))
+    (λ h. (bytes_eq-Decides (doc_bytes is) (doc_bytes js)).1 (ap doc_bytes (same_items is js h)))
+
+-- ---- names
+
+pub named_is : (name word : List ℕ) → named name word ≡ bytes_eq name word
+unfolding named
+named_is name word = refl
