@@ -10,7 +10,6 @@ use Rattle.key_vault.specs.Cached.{Cached}
 use Rattle.fle_files.proofs.Loaded.{did_stop, ends_stop}
 use Rattle.fle_runner.proofs.VerbEnds.{IsMemory, bytes_enough, stream_reads, took_none}
 use Rattle.fle_runner.specs.Decrypt.{decrypt_verdict, with_opening}
-use Rattle.fle_runner.proofs.Unseals.{decrypt_draws}
 use Rattle.fle_runner.proofs.decrypt.decrypt.Goals as goal
 
 pub returns-in-Err : goal.returns-in-Err

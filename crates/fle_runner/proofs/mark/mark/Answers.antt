@@ -8,7 +8,6 @@ use Rattle.fle_stream.specs.Turn.{IsOfStream}
 use Rattle.fle_stream.proofs.Programs.{did_task, ends_each, ends_task}
 use Rattle.fle_files.proofs.Loaded.{did_stop, ends_stop}
 use Rattle.fle_runner.specs.Mark.{mark_verdict}
-use Rattle.fle_runner.proofs.Marks.{mark_draws}
 use Rattle.fle_runner.proofs.VerbEnds.{bytes_enough, stream_reads, took_none}
 use Rattle.fle_runner.proofs.mark.mark.Goals as goal
 
