@@ -2,7 +2,7 @@
 
 use fle_outside::*;
 use std::alloc::{AllocError, Global};
-use std::io::{Cursor, ErrorKind, Read, Seek, SeekFrom, Write};
+use std::io::{BufRead, ErrorKind, Read, Write};
 use std::os::fd::AsRawFd;
 use std::{fs, io};
 
@@ -80,7 +80,7 @@ fn sink_takes_bytes_until_it_is_full(rt: HostRuntime) {
 
 #[test]
 fn standard_input_is_read_to_its_end(rt: HostRuntime) {
-    let mut source = StdinSource::new(Cursor::new(b"xyz".as_slice()));
+    let mut source = StdinSource::new(b"xyz".as_slice());
     let mut piece = [0u8; 2];
     assert!(rt; source.read(&mut piece) == ReadAnswer::Took(2));
     assert!(rt; piece == *b"xy");
@@ -193,95 +193,54 @@ fn system_gives_different_blocks(rt: HostRuntime) {
     }
 }
 
-/// A reader of sevens that counts its calls, whose reads of one number a signal cuts off, and which has a place where
-/// seeking to it is let.
+/// A reader of sevens that holds one byte at a time, and whose first look a signal cuts off.
 #[derive(Drop)]
-struct Sevens {
-    reads: u64,
-    cut_off: u64,
-    place: Option<u64>,
-    can_go_back: bool,
+struct CutOff {
+    looks: u64,
+    held: usize,
 }
 
-impl Sevens {
-    /// The reader before its first call.
-    fn new(cut_off: u64, place: Option<u64>, can_go_back: bool) -> Sevens {
-        Sevens {
-            reads: 0,
-            cut_off,
-            place,
-            can_go_back,
-        }
+impl Read for CutOff {
+    fn read(&mut self, buf: &mut [u8]) -> io::Result<usize> {
+        let n = if self.held > 0 {
+            buf.len().min(1)
+        } else {
+            buf.len()
+        };
+        self.held = 0;
+        buf[..n].fill(7);
+        Ok(n)
     }
 }
 
-impl Read for Sevens {
-    fn read(&mut self, buf: &mut [u8]) -> io::Result<usize> {
-        self.reads = self.reads.saturating_add(1);
-        if self.reads == self.cut_off {
+impl BufRead for CutOff {
+    fn fill_buf(&mut self) -> io::Result<&[u8]> {
+        self.looks = self.looks.saturating_add(1);
+        if self.looks == 1 {
             return Err(io::Error::from(ErrorKind::Interrupted));
         }
-        if let Some(place) = &mut self.place {
-            *place = place.saturating_add(buf.len() as u64);
-        }
-        buf.fill(7);
-        Ok(buf.len())
+        self.held = 1;
+        Ok(&[7])
     }
-}
 
-impl Seek for Sevens {
-    fn seek(&mut self, to: SeekFrom) -> io::Result<u64> {
-        match (self.place, to) {
-            (Some(place), SeekFrom::Current(0)) => Ok(place),
-            (Some(place), SeekFrom::Current(back)) if self.can_go_back => {
-                let place = place.saturating_add_signed(back);
-                self.place = Some(place);
-                Ok(place)
-            }
-            _ => Err(io::Error::from(ErrorKind::NotSeekable)),
-        }
+    fn consume(&mut self, _amount: usize) {
+        self.held = 0;
     }
 }
 
 #[test]
 fn interrupted_read_is_made_again(rt: HostRuntime) {
-    let mut source = StdinSource::new(Sevens::new(1, None, false));
+    let mut source = StdinSource::new(CutOff { looks: 0, held: 0 });
     let mut piece = [0u8; 2];
-    assert!(rt; source.read(&mut piece) == ReadAnswer::Took(2));
-    assert!(rt; piece == [7, 7]);
+    assert!(rt; source.read(&mut piece) == ReadAnswer::Took(1));
+    assert!(rt; piece == [7, 0]);
 }
 
 #[test]
-fn file_is_read_ahead_and_set_back(rt: HostRuntime) {
-    let mut file = Sevens::new(0, Some(10), true);
-    let mut source = StdinSource::new(&mut file);
+fn reader_that_holds_a_byte_at_a_time_is_not_looked_at_again(rt: HostRuntime) {
+    let mut source = StdinSource::new(CutOff { looks: 1, held: 0 });
     let mut piece = [0u8; 4];
-    for _ in 0..5 {
-        assert!(rt; source.read(&mut piece) == ReadAnswer::Took(4));
-    }
-    assert!(rt; source.set_back() == Ok(()));
-    assert!(rt; source.set_back() == Ok(()));
-    drop(source);
-    assert!(rt; file.reads == 1 && file.place == Some(30));
-}
-
-#[test]
-fn file_that_cannot_be_set_back_fails(rt: HostRuntime) {
-    let mut source = StdinSource::new(Sevens::new(0, Some(0), false));
-    let mut piece = [0u8; 4];
-    assert!(rt; source.set_back() == Ok(()));
-    assert!(rt; source.read(&mut piece) == ReadAnswer::Took(4));
-    assert!(rt; source.set_back() == Err(Failed));
-}
-
-#[test]
-fn no_byte_of_a_pipe_is_taken_that_was_not_asked_for(rt: HostRuntime) {
-    let mut pipe = Sevens::new(0, None, false);
-    let mut source = StdinSource::new(&mut pipe);
-    let mut piece = [0u8; 4];
-    assert!(rt; source.read(&mut piece[..1]) == ReadAnswer::Took(1));
+    assert!(rt; source.read(&mut piece) == ReadAnswer::Took(1));
     assert!(rt; source.read(&mut piece[1..]) == ReadAnswer::Took(3));
-    assert!(rt; source.set_back() == Ok(()));
-    drop(source);
-    assert!(rt; piece == [7; 4] && pipe.reads == 2);
+    assert!(rt; piece == [7; 4]);
 }

@@ -19,13 +19,11 @@ ghost use Rattle.aes_block.specs.Cipher.{cipher, inv_cipher};
 
 use aes_block::{Schedule, cipher_tables, inv_cipher_tables, inv_cipher_tables_pair};
 use crypto_hooks::Hooks;
-use fle_outside::{
-    Failed, FileFolder, Sink, StandardInput, StderrSink, StdinSource, StdoutSink, SystemEntropy,
-};
+use fle_outside::{FileFolder, Sink, StderrSink, StdinSource, StdoutSink, SystemEntropy};
 use fle_runner::{HELP, VERSION, fle, tell};
 use fle_stream::{Cut, End, Finish, Status, Why, report};
 use std::env;
-use std::io::{ErrorKind, Read, Seek};
+use std::io::{ErrorKind, Input};
 use std::process::ExitCode;
 use std::rt::{Clock, Env};
 use std::time::SystemTime;
@@ -54,7 +52,7 @@ fn over_system<O: Sink, G: Sink>(
     out: &mut O,
     diag: &mut G,
 ) -> Status {
-    let mut input = StdinSource::new(StandardInput::new(rt.stdin()));
+    let mut input = StdinSource::new(rt.reader());
     let mut files = FileFolder::new(rt);
     let mut entropy = SystemEntropy::new(rt);
     let seal = |s: &Schedule, b: [u8; 16]| -> [u8; 16]
@@ -69,7 +67,7 @@ fn over_system<O: Sink, G: Sink>(
     { inv_cipher_tables_pair(s, a, b) };
     let hooks = Hooks::with_pairs(seal, unseal, unseal_two);
     let now = now_ms(rt);
-    let status = fle(
+    fle(
         rt.alloc(),
         words,
         now,
@@ -79,21 +77,7 @@ fn over_system<O: Sink, G: Sink>(
         diag,
         &mut entropy,
         &hooks,
-    );
-    set_back(&mut input, diag, status)
-}
-
-/// Sets the input back to the first byte that wasn't handed out. Where that fails, a run that had done everything ends
-/// as one whose input failed; every other status stays, and its line is written already.
-fn set_back<R: Read + Seek, G: Sink>(
-    input: &mut StdinSource<R>,
-    diag: &mut G,
-    status: Status,
-) -> Status {
-    match (input.set_back(), status) {
-        (Err(Failed), Status::Done) => report(diag, &End::unread(Why::Cut(Cut::Input))),
-        _ => status,
-    }
+    )
 }
 
 /// The words after the program's name. One that isn't UTF-8 has no form.

@@ -27,9 +27,10 @@ mod rules;
 mod sealing;
 
 use crate::job::{Direction, KeySetup, MOST_BYTES, Subject, subject_of};
-use fle_outside::{StandardInput, StdinSource};
+use fle_outside::StdinSource;
 use std::alloc::Global;
 use std::env;
+use std::io::Input;
 
 /// Runs the subject that the words name, so many times, and writes its line.
 fn main(rt: HostRuntime) -> anyhow::Result<()> {
@@ -102,5 +103,5 @@ fn run_document(
 fn read_input(rt: &HostRuntime, size: usize) -> anyhow::Result<Vec<u8>>
     ensures len { IfOk result (λ v. length v.items ≡ size) }
 {
-    Ok(bson::document(rt.alloc(), &mut StdinSource::new(StandardInput::new(rt.stdin())), size)?)
+    Ok(bson::document(rt.alloc(), &mut StdinSource::new(rt.reader()), size)?)
 }

@@ -14,7 +14,6 @@
 //! It decodes nothing and knows no format. No clause says what a real stream or file holds.
 #![tactic(auto)]
 
-mod ahead;
 pub mod answers;
 mod counts;
 pub mod entropy;
@@ -26,7 +25,6 @@ pub mod memory_sink;
 pub mod memory_source;
 pub mod sink;
 pub mod source;
-pub mod standard_input;
 pub mod streams;
 pub mod system_entropy;
 pub mod system_folder;
@@ -42,7 +40,6 @@ pub use memory_sink::MemSink;
 pub use memory_source::MemSource;
 pub use sink::Sink;
 pub use source::Source;
-pub use standard_input::StandardInput;
 pub use streams::{StderrSink, StdinSource, StdoutSink};
 pub use system_entropy::SystemEntropy;
 pub use system_folder::FileFolder;

@@ -1,28 +1,30 @@
 //! The system's standard input, standard output and standard error.
 
-ghost use Rattle.std.specs.Prelude.{◌≡◌, ◌<◌, ◌≤◌, false, length, IfOk, None, OnErr};
-ghost use Rattle.fle_outside.specs.Counts.{Rose};
+ghost use Rattle.std.specs.Prelude.{◌≡◌, ◌<◌, ◌≤◌, false, length, true, IfOk, None};
 ghost use Rattle.fle_outside.specs.Reads.{ReadWithin, ReadCause};
 ghost use Rattle.fle_outside.specs.Writes.{WriteWithin, WriteCause};
 
-use crate::ahead::{Ahead, MOST};
-use crate::answers::{Failed, ReadAnswer, WriteAnswer};
+use crate::answers::{ReadAnswer, WriteAnswer};
 use crate::sink::Sink;
 use crate::source::Source;
-use std::io::{self, ErrorKind, Read, Seek, Write};
+use std::io::{self, BufRead, ErrorKind, Write};
 
 /// How often a call is made again that a signal cut off.
 pub(crate) const TURNS: u64 = u64::MAX;
 
+/// From this length on a piece is read as it is, in bytes: the lock on standard input holds no more.
+const AHEAD: usize = 4096;
+
 /// Standard input, or another reader of the system. It tells nothing and is assured of nothing.
 ///
-/// Where the reader has a place, as a file has, small pieces are copies of bytes that were read ahead, and `set_back`
-/// sets the reader back to the first byte that wasn't handed out. From a pipe no byte is taken that wasn't asked for.
+/// Small pieces are copies of bytes that the reader holds. The lock on standard input, `rt.reader()`,
+/// reads ahead where the input is a file, and when it is dropped sets the file back to the first byte
+/// that wasn't handed out. From a pipe it would take one byte at a time; so where its first look gives
+/// a single byte, each piece is read as it is, and no byte of a pipe is taken that wasn't asked for.
 #[derive(Drop)]
 pub struct StdinSource<R> {
     reader: R,
     reads_ahead: bool,
-    ahead: Ahead,
     taken: u64,
     faults: u64,
 }
@@ -41,39 +43,17 @@ pub struct StderrSink<W> {
     faults: u64,
 }
 
-impl<R: Read + Seek> StdinSource<R> {
+impl<R: BufRead> StdinSource<R> {
     /// A source over this reader, with no fault so far.
     pub fn new(reader: R) -> StdinSource<R>
-        ensures untaken { result.taken ≡ 0 }
-        ensures faultless { result.faults ≡ 0 }
+        ensures begins { result ≡ record { reader = reader; reads_ahead = true; taken = 0; faults = 0 } }
     {
-        let mut reader = reader;
-        let reads_ahead = reader.stream_position().is_ok();
         StdinSource {
             reader,
-            reads_ahead,
-            ahead: Ahead::empty(),
+            reads_ahead: true,
             taken: 0,
             faults: 0,
         }
-    }
-
-    /// Sets the reader back to the first byte that wasn't handed out.
-    pub fn set_back(&mut self) -> Result<(), Failed>
-        ensures taken { self.new.taken ≡ self.old.taken }
-        ensures later { self.old.faults ≤ self.new.faults }
-        ensures cause { OnErr result (Rose self.old.faults self.new.faults) }
-    {
-        let unread = self.ahead.len();
-        if unread == 0 {
-            return Ok(());
-        }
-        if self.reader.seek_relative(-(unread as i64)).is_err() {
-            self.faults = self.faults.saturating_add(1);
-            return Err(Failed);
-        }
-        self.ahead.clear();
-        Ok(())
     }
 
     /// Reads once, counts each error, and reads again after one that came from a signal.
@@ -98,19 +78,17 @@ impl<R: Read + Seek> StdinSource<R> {
         ReadAnswer::Failed
     }
 
-    /// Reads once, out of what was read ahead where there is some, and ahead where the piece is small.
+    /// Reads once, out of what the reader holds where the piece is small.
     fn read_once(&mut self, piece: &mut [u8]) -> io::Result<usize>
         ensures within { IfOk result (λ n. n ≤ length piece.new) }
         ensures taken { self.new.taken ≡ self.old.taken }
         ensures faults { self.new.faults ≡ self.old.faults }
     {
-        if self.ahead.len() == 0 {
-            if !self.reads_ahead || piece.len() >= MOST {
-                return self.reader.read(piece);
-            }
-            self.ahead.fill(&mut self.reader)?;
+        if self.reads_ahead && piece.len() < AHEAD {
+            let held = self.reader.fill_buf()?.len();
+            self.reads_ahead = held != 1 || self.taken > 0;
         }
-        Ok(self.ahead.take(piece))
+        self.reader.read(piece)
     }
 }
 
@@ -132,7 +110,7 @@ impl<W: Write> StderrSink<W> {
     }
 }
 
-impl<R: Read + Seek> Source for StdinSource<R> {
+impl<R: BufRead> Source for StdinSource<R> {
     ghost seen = { λ s. record { told = None; taken = s.taken; faults = s.faults; assured = false } };
 
     fn read(&mut self, piece: &mut [u8]) -> ReadAnswer {
