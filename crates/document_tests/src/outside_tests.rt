@@ -137,9 +137,17 @@ fn piece_that_does_not_follow_is_read_at_its_place(rt: HostRuntime) {
     fs::write(&rt, name, b"abcdef").expect(&rt, "no file is written");
     let mut piece = [0u8; 2];
     let mut folder = FileFolder::new(&rt);
-    let places: &[(u64, [u8; 2])] = &[(0, *b"ab"), (4, *b"ef"), (2, *b"cd"), (1, *b"bc"), (0, *b"ab")];
+    let places: &[(u64, [u8; 2])] = &[
+        (0, *b"ab"),
+        (4, *b"ef"),
+        (2, *b"cd"),
+        (1, *b"bc"),
+        (0, *b"ab"),
+    ];
     for (at, bytes) in places {
-        assert!(rt; folder.read_at(name, *at, &mut piece) == FileAnswer::Took(2) && piece == *bytes);
+        assert!(rt;
+            folder.read_at(name, *at, &mut piece) == FileAnswer::Took(2) && piece == *bytes
+        );
     }
     fs::remove_file(&rt, name).expect(&rt, "the file stays");
 }
@@ -147,7 +155,9 @@ fn piece_that_does_not_follow_is_read_at_its_place(rt: HostRuntime) {
 #[test]
 fn pipe_is_read_by_its_name_from_front_to_end(rt: HostRuntime) {
     let (reader, mut writer) = io::pipe(&rt).expect(&rt, "no pipe");
-    writer.write_all(b"abcd").expect(&rt, "the pipe takes nothing");
+    writer
+        .write_all(b"abcd")
+        .expect(&rt, "the pipe takes nothing");
     drop(writer);
     let name = format!(in rt.alloc(); "/dev/fd/{}", reader.as_raw_fd()).expect(&rt, "no memory");
     let mut piece = [0u8; 3];

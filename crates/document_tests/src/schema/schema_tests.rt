@@ -189,7 +189,11 @@ fn rules_for_other_names_stand_in_good_schemas_without_patterns(rt: HostRuntime)
         (&ROOT, &[OTHERS_ENCRYPT, PATTERNS], SchemaFault::Misplaced),
         (&A, &[PATTERNS, OTHERS_ENCRYPT], SchemaFault::Misplaced),
         (&[b"not"], &[OTHERS_ENCRYPT], SchemaFault::Misplaced),
-        (&[b"additionalItems"], &[OTHERS_ENCRYPT], SchemaFault::Misplaced),
+        (
+            &[b"additionalItems"],
+            &[OTHERS_ENCRYPT],
+            SchemaFault::Misplaced,
+        ),
     ];
     for (path, parts, expected) in cases {
         assert!(rt; has_fault(rt.alloc(), path, parts, Some(*expected)));
@@ -237,14 +241,17 @@ fn a_rule_for_other_names_is_judged_where_it_stands(rt: HostRuntime) {
 }
 
 /// `properties: {"x.y": {}}`.
-const LISTED_DOT: &[u8] =
-    b"\x03properties\x00\x0F\x00\x00\x00\x03x.y\x00\x05\x00\x00\x00\x00\x00";
+const LISTED_DOT: &[u8] = b"\x03properties\x00\x0F\x00\x00\x00\x03x.y\x00\x05\x00\x00\x00\x00\x00";
 
 #[test]
 fn names_on_the_way_are_plain_and_listed_ones_may_be_any(rt: HostRuntime) {
     let alloc = rt.alloc();
-    let rule = within(alloc, &[b"additionalProperties", b"encrypt"], &[KEY_1, RANDOM])
-        .expect(&rt, "no rule");
+    let rule = within(
+        alloc,
+        &[b"additionalProperties", b"encrypt"],
+        &[KEY_1, RANDOM],
+    )
+    .expect(&rt, "no rule");
     let dotted: [&[u8]; 2] = [b"properties", b"a.b"];
     assert!(rt; has_fault(alloc, &dotted, &[&rule], Some(SchemaFault::Name)));
     assert!(rt; has_fault(alloc, &A, &[LISTED_DOT, &rule], None));
