@@ -1,6 +1,6 @@
 -- Which command it is, why it is refused itself, and that its places are those of its fields.
 use Rattle.std.proofs.Common.{◌≡◌, ◌∙◌, ℕ, ◌+◌, Bool, true, false, cond, List, [], ◌∷◌, ◌++◌, length, Ok, Err, ◌<◌}
-use Rattle.std.proofs.Common.{arith, codes, Option, Some, Result, refl, sym, ap}
+use Rattle.std.proofs.Common.{arith, codes, Option, Some, None, Result, refl, sym, ap}
 use Rattle.std.proofs.lemmas.Bool.{false≢true}
 use Rattle.bson_tree.specs.Tree.{Items, no_items, item}
 use Rattle.bson_codec.specs.Borrowed.{At}
@@ -14,7 +14,9 @@ use Rattle.encrypt_schema.specs.Language.Row.{Row}
 use Rattle.encrypt_schema.specs.Commands.Stations.{Entry, Station, Outside, Insert, Update, Delete, Find, Passed}
 use Rattle.encrypt_schema.specs.Commands.Stations.{Unknown, is_passed, command_of}
 use Rattle.encrypt_schema.specs.Commands.Offences.{when, least, is_marked, of_role, command_lacks, ruled_offence}
-use Rattle.encrypt_schema.specs.Commands.Visits.{Visit, names_of, command_entry, command_visit, command_visits, visits}
+use Rattle.encrypt_schema.specs.Commands.Offences.{first_reason, pointer_offence}
+use Rattle.encrypt_schema.specs.Commands.Visits.{Visit, names_of, command_entry, command_visit, command_visits}
+use Rattle.encrypt_schema.specs.Commands.Visits.{part_visits}
 use Rattle.encrypt_schema.specs.Commands.Visits.{mark_at, marks, ruled_of, refused_at, or_else, first_refusal}
 use Rattle.encrypt_schema.specs.Views.Walking.{MarksPlaces}
 use Rattle.encrypt_schema.proofs.Commands.Elements.{told_as}
@@ -107,9 +109,26 @@ pub lacking : (rows : List Row) (at : ℕ) (c : Items) (n : CommandName) → nam
     → when true BadField ≡ command_lacks (name_station n) (names_of c)
     → first_refusal (ruled_of rows) (command_visits rows at c) ≡ Some (record { reason = BadField; at = 0 })
 lacking rows at c n stands has =
-    ap (λ (r : Option Reason). or_else (refused_at 0 r)
-    (first_refusal (ruled_of rows) (visits rows (command_of (names_of c)) (at + 4) [] c)))
+    ap (λ (r : Option Reason). or_else
+    (refused_at 0 (first_reason r (pointer_offence rows [] (command_of (names_of c)))))
+    (first_refusal (ruled_of rows) (part_visits rows (command_of (names_of c)) at c)))
     (own_offence rows c n true stands has)
+
+-- a command has no key
+no_pointer : (rows : List Row) (n : CommandName) → pointer_offence rows [] (name_station n) ≡ None
+no_pointer rows names.Insert = refl
+no_pointer rows names.Update = refl
+no_pointer rows names.Delete = refl
+no_pointer rows names.Find = refl
+
+-- a command that lacks nothing isn't refused itself
+own_clean : (rows : List Row) (c : Items) (n : CommandName) → name_station n ≡ command_of (names_of c)
+    → when false BadField ≡ command_lacks (name_station n) (names_of c)
+    → ruled_of rows (command_visit c) ≡ None
+own_clean rows c n stands has =
+    ap (λ (r : Option Reason). first_reason r (pointer_offence rows [] (command_of (names_of c))))
+    (own_offence rows c n false stands has)
+    ∙ ap (pointer_offence rows []) (sym stands) ∙ no_pointer rows n
 
 unmarked_name : (n : CommandName) (v : Visit) → mark_at (name_station n) v ≡ []
 unmarked_name names.Insert v = refl
@@ -122,19 +141,19 @@ pub complete : (rows : List Row) (command : At) (n : CommandName) (before after 
     (result : Result (Unit {0}) MarkFault)
     → name_station n ≡ command_of (names_of command.tree)
     → when false BadField ≡ command_lacks (name_station n) (names_of command.tree)
-    → MarksPlaces rows (visits rows (name_station n) (command.start + 4) [] command.tree) before after result
+    → MarksPlaces rows (part_visits rows (name_station n) command.start command.tree) before after result
     → MarksPlaces rows (command_visits rows command.start command.tree) before after result
 complete rows command n before after result stands has told =
     let c = command.tree in
-    let at = command.start + 4 in
+    let at = command.start in
     told_as _ _ _ _ before after result
-    (sym (ap (λ (ms : List Mark). ms ++ marks rows (visits rows (name_station n) at [] c))
+    (sym (ap (λ (ms : List Mark). ms ++ marks rows (part_visits rows (name_station n) at c))
     (unmarked_name n (command_visit c)))
-    ∙ ap (λ (s : Station). mark_at s (command_visit c) ++ marks rows (visits rows s at [] c)) stands)
-    (ap (λ (s : Station). first_refusal (ruled_of rows) (visits rows s at [] c)) stands
+    ∙ ap (λ (s : Station). mark_at s (command_visit c) ++ marks rows (part_visits rows s at c)) stands)
+    (ap (λ (s : Station). first_refusal (ruled_of rows) (part_visits rows s at c)) stands
     ∙ sym (ap (λ (r : Option Reason). or_else (refused_at 0 r)
-    (first_refusal (ruled_of rows) (visits rows (command_of (names_of c)) at [] c)))
-    (own_offence rows c n false stands has)))
+    (first_refusal (ruled_of rows) (part_visits rows (command_of (names_of c)) at c)))
+    (own_clean rows c n stands has)))
     told
 
 -- without rules a command has no marks and isn't refused

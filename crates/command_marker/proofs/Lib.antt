@@ -12,3 +12,4 @@ pub mod Unmarked
 pub mod MarkedPlaces
 pub mod ToldPlaces
 pub mod Judged
+mod Wholes

@@ -14,6 +14,7 @@ use Rattle.encrypt_schema.specs.Commands.Chains.{station_along}
 use Rattle.encrypt_schema.specs.Language.Policies.{policy_at}
 use Rattle.encrypt_schema.specs.Language.Row.{Row}
 use Rattle.encrypt_schema.specs.Commands.Stations.{Station, Outside, Store, Compare, station, has_role}
+use Rattle.encrypt_schema.specs.Commands.Pointers.{Targets, pointed}
 use Rattle.encrypt_schema.specs.Commands.Visits.{entry, command_entry, Visit, visit, mark_at, marks, roles}
 use Rattle.encrypt_schema.proofs.Commands.Worlds.{shown_in, shown}
 use Rattle.encrypt_schema.proofs.Commands.Apart.{own_marks, roles_shown}
@@ -146,55 +147,60 @@ filled_node rows _ v tag is inside rest p q =
     ∙ ap (node tag) (q refl)
 
 -- inside a value without a role all is shown
-shown_node : (rows : List Row) (u : Station) (at tag : ℕ) (is : Items) → has_role u ≡ false
-    → marks rows (shown_in rows u at (node tag is)) ≡ marks rows (shown rows u (at + 4) [] is)
-shown_node rows u at tag is h = ap (λ (b : Bool). marks rows (cond b [] (shown rows u (at + 4) [] is))) h
+shown_node : (rows : List Row) (u : Station) (ts : Targets) (at tag : ℕ) (is : Items) → has_role u ≡ false
+    → marks rows (shown_in rows u ts at (node tag is))
+    ≡ marks rows (shown rows u (pointed rows u ts at is) (at + 4) [] is)
+shown_node rows u ts at tag is h =
+    ap (λ (b : Bool). marks rows (cond b [] (shown rows u (pointed rows u ts at is) (at + 4) [] is))) h
 
 mutual
-  offsets_in : (rows : List Row) (s : Station) (at : ℕ) (elder : List (List ℕ)) (name : List ℕ) (t : Tree)
+  offsets_in : (rows : List Row) (s : Station) (ts : Targets) (at : ℕ) (elder : List (List ℕ)) (name : List ℕ)
+      (t : Tree)
       (rest : List Mark)
       → AreBehind (at + (2 + length name) + length (value_bytes t)) rest
-      → fill_tree (put_at (marked_by rows) (own_marks rows s elder at name t ++ rest)) (at + (2 + length name)) t
+      → fill_tree (put_at (marked_by rows) (own_marks rows s ts elder at name t ++ rest)) (at + (2 + length name)) t
       ≡ covered_in rows (station rows s (entry name t)) t
-  offsets_in rows s at elder name (leaf tag bytes) rest b =
+  offsets_in rows s ts at elder name (leaf tag bytes) rest b =
       filled_leaf rows (station rows s (entry name (leaf tag bytes)))
-      (visit s elder at name (leaf tag bytes)) tag bytes [] rest
+      (visit s ts elder at name (leaf tag bytes)) tag bytes [] rest
       (λ h. earlier (at + (2 + length name)) (at + (2 + length name) + length bytes) rest (omega arith) b)
-  offsets_in rows s at elder name (node tag is) rest b =
+  offsets_in rows s ts at elder name (node tag is) rest b =
       let u = station rows s (entry name (node tag is)) in
       let p = at + (2 + length name) in
       let low : AreBehind (p + 4 + length (items_bytes is)) rest =
       earlier (p + 4 + length (items_bytes is)) (p + length (framed (items_bytes is))) rest
       (omega (arith, framed_size (items_bytes is))) b in
-      filled_node rows u (visit s elder at name (node tag is)) tag is
-      (marks rows (shown_in rows u p (node tag is))) rest
-      (λ h. subst (λ (ms : List Mark). AreBehind p (ms ++ rest)) (sym (shown_node rows u p tag is h))
-      (earlier p (p + 4) (marks rows (shown rows u (p + 4) [] is) ++ rest) (omega arith)
-      (behind (takes_among rows u (p + 4) [] is rest) low)))
+      filled_node rows u (visit s ts elder at name (node tag is)) tag is
+      (marks rows (shown_in rows u ts p (node tag is))) rest
+      (λ h. subst (λ (ms : List Mark). AreBehind p (ms ++ rest)) (sym (shown_node rows u ts p tag is h))
+      (earlier p (p + 4) (marks rows (shown rows u (pointed rows u ts p is) (p + 4) [] is) ++ rest) (omega arith)
+      (behind (takes_among rows u (pointed rows u ts p is) (p + 4) [] is rest) low)))
       (λ h. subst (λ (ms : List Mark). fill_items (put_at (marked_by rows) (ms ++ rest)) (p + 4) is ≡ covered rows u is)
-      (sym (shown_node rows u p tag is h))
-      (offsets_among rows u (p + 4) [] is rest low))
+      (sym (shown_node rows u ts p tag is h))
+      (offsets_among rows u (pointed rows u ts p is) (p + 4) [] is rest low))
 
-  offsets_among : (rows : List Row) (s : Station) (at : ℕ) (elder : List (List ℕ)) (is : Items) (rest : List Mark)
+  offsets_among : (rows : List Row) (s : Station) (ts : Targets) (at : ℕ) (elder : List (List ℕ)) (is : Items)
+      (rest : List Mark)
       → AreBehind (at + length (items_bytes is)) rest
-      → fill_items (put_at (marked_by rows) (marks rows (shown rows s at elder is) ++ rest)) at is ≡ covered rows s is
-  offsets_among rows s at elder no_items rest b = refl
-  offsets_among rows s at elder (item name t is) rest b =
+      → fill_items (put_at (marked_by rows) (marks rows (shown rows s ts at elder is) ++ rest)) at is
+      ≡ covered rows s is
+  offsets_among rows s ts at elder no_items rest b = refl
+  offsets_among rows s ts at elder (item name t is) rest b =
       let p = at + (2 + length name) in
       let q = p + length (value_bytes t) in
-      let mid = marks rows (shown rows s q (elder ++ name ∷ []) is) ++ rest in
-      let all = own_marks rows s elder at name t ++ mid in
+      let mid = marks rows (shown rows s ts q (elder ++ name ∷ []) is) ++ rest in
+      let all = own_marks rows s ts elder at name t ++ mid in
       let low : AreBehind (q + length (items_bytes is)) rest =
       earlier (q + length (items_bytes is)) (at + length (items_bytes (item name t is))) rest
       (omega (arith, items_length name t is)) b in
       let first : fill_tree (put_at (marked_by rows) all) p t ≡ covered_in rows (station rows s (entry name t)) t =
-      offsets_in rows s at elder name t mid (behind (takes_among rows s q (elder ++ name ∷ []) is rest) low) in
+      offsets_in rows s ts at elder name t mid (behind (takes_among rows s ts q (elder ++ name ∷ []) is rest) low) in
       let others : fill_items (put_at (marked_by rows) all) q is ≡ covered rows s is =
       alike (put_at (marked_by rows) all) (put_at (marked_by rows) mid) q
-      (λ k v h. passed_in (marked_by rows) (takes_value rows s at elder name t mid) k v h) q is (omega arith)
-      ∙ offsets_among rows s q (elder ++ name ∷ []) is rest low in
+      (λ k v h. passed_in (marked_by rows) (takes_value rows s ts at elder name t mid) k v h) q is (omega arith)
+      ∙ offsets_among rows s ts q (elder ++ name ∷ []) is rest low in
       ap (λ (ms : List Mark). fill_items (put_at (marked_by rows) ms) at (item name t is))
-      (marks_item rows s at elder name t is rest)
+      (marks_item rows s ts at elder name t is rest)
       ∙ ap₂ (λ (v : Tree) (js : Items). item name v js) first others
 
 -- a command filled with the markings of its marks, wherever it begins
@@ -204,12 +210,13 @@ covered_roles : (rows : List Row) (at : ℕ) (c : Items)
 covered_roles rows at c =
     let s = station rows Outside (command_entry c) in
     let p = at + 4 in
+    let ts = pointed rows s [] at c in
     ap (λ (ms : List Mark). fill_items (marking_at rows ms) p c)
-    (roles_shown rows at c ∙ sym (append-nil (marks rows (shown rows s p [] c))))
-    ∙ sym (alike (put_at (marked_by rows) (marks rows (shown rows s p [] c) ++ []))
-    (marking_at rows (marks rows (shown rows s p [] c) ++ [])) p
-    (λ q u h. put_marking rows (marks rows (shown rows s p [] c) ++ []) q u) p c (omega arith))
-    ∙ offsets_among rows s p [] c [] tt
+    (roles_shown rows at c ∙ sym (append-nil (marks rows (shown rows s ts p [] c))))
+    ∙ sym (alike (put_at (marked_by rows) (marks rows (shown rows s ts p [] c) ++ []))
+    (marking_at rows (marks rows (shown rows s ts p [] c) ++ [])) p
+    (λ q u h. put_marking rows (marks rows (shown rows s ts p [] c) ++ []) q u) p c (omega arith))
+    ∙ offsets_among rows s ts p [] c [] tt
 
 -- the marked command is the command filled with the markings of its marks, wherever it begins
 pub marked_roles : (rows : List Row) (at : ℕ) (c : Items)

@@ -142,7 +142,7 @@ later_reason db command others e =
 -- later fields behind these
 later_fields : (db : List ℕ) (s : Station) (at : ℕ) (command : List ℕ) (others : List (List ℕ)) (is : Items)
     → is_marked s ≡ true
-    → fields_refusal (target_of db) s at (command ∷ others) is
+    → fields_refusal (target_of db) s [] at (command ∷ others) is
     ≡ later_refusal db command (is_among (codes "$db") others) at is
 later_fields db s at command others no_items h = refl
 later_fields db s at command others (item name t is) h =
@@ -154,7 +154,7 @@ later_fields db s at command others (item name t is) h =
 
 by_command : (db name : List ℕ) (t : Tree) (is : Items) (n m : ℕ) (i u d f p : Bool) → p ≡ false
     → or_else (refused_at n (target_offence db (station_by i u d f p) [] (entry name t)))
-    (fields_refusal (target_of db) (station_by i u d f p) m (name ∷ []) is)
+    (fields_refusal (target_of db) (station_by i u d f p) [] m (name ∷ []) is)
     ≡ or_else
     (refused_at n
     (least
@@ -181,7 +181,7 @@ pub fields_told : (db : List ℕ) (at : ℕ) (name : List ℕ) (t : Tree) (is : 
     (later_refusal db name false (at + 4 + (2 + length name) + length (value_bytes t)) is)
 fields_told db at name t is h =
     let c : Items = item name t is in
-    let fields = fields_refusal (target_of db) (command_of (name ∷ names_of is)) (at + 4) [] c in
+    let fields = fields_refusal (target_of db) (command_of (name ∷ names_of is)) [] (at + 4) [] c in
     command_alone (target_of db) [] at c (target_shallow db)
     ∙ ap (λ (r : Option Reason). or_else (refused_at 0 r) fields) (root_free db name t is)
     ∙ by_command db name t is (at + 4 + (2 + length name)) (at + 4 + (2 + length name) + length (value_bytes t))

@@ -7,7 +7,9 @@ use Rattle.bson_tree.specs.Places.{start_in, start_from, start_of, places, place
 use Rattle.bson_codec.proofs.Spots.{place_begun, place_of_head}
 use Rattle.encrypt_schema.specs.declared.command.reason.Reason.{Reason}
 use Rattle.encrypt_schema.specs.Commands.Chains.{Chain, onward, link, chain, chain_in, chain_from, visit_along}
-use Rattle.encrypt_schema.specs.Commands.Chains.{width_at, offence_at, refusal_at, first_of, first_refusal_at}
+use Rattle.encrypt_schema.specs.Commands.Pointers.{Targets}
+use Rattle.encrypt_schema.specs.Commands.Chains.{targets_at, width_at, offence_at, refusal_at, first_of}
+use Rattle.encrypt_schema.specs.Commands.Chains.{first_refusal_at}
 use Rattle.encrypt_schema.specs.Language.Collection.{Collection}
 use Rattle.encrypt_schema.specs.Language.Row.{Row}
 use Rattle.encrypt_schema.specs.Commands.Skeletons.{skeleton}
@@ -40,18 +42,20 @@ refused_there at None r e = absurd cc
 refused_there at (Some reason) r e = ap (λ (o : Option Refusal). unwrap_or (option_map (λ x. x.at) o) at) (sym e)
 
 -- the refusal of a place stands where its value begins
-refused_where : (pass : Visit → Option Reason) (rows : List Row) (start width : ℕ) (o : Option Chain) (r : Refusal)
-    → option_and_then (refusal pass) (option_map (visit_along rows Outside start width) o) ≡ Some r → r.at ≡ start
-refused_where pass rows start width None r e = absurd cc
-refused_where pass rows start width (Some links) r e =
-    refused_there start (pass (visit_along rows Outside start width links)) r e
+refused_where : (pass : Visit → Option Reason) (rows : List Row) (ts : Targets) (start width : ℕ) (o : Option Chain)
+    (r : Refusal)
+    → option_and_then (refusal pass) (option_map (visit_along rows Outside ts start width) o) ≡ Some r → r.at ≡ start
+refused_where pass rows ts start width None r e = absurd cc
+refused_where pass rows ts start width (Some links) r e =
+    refused_there start (pass (visit_along rows Outside ts start width links)) r e
 
 -- what has no chain isn't refused
-unrefused : (pass : Visit → Option Reason) (rows : List Row) (start width : ℕ) (o : Option Chain) (r : Refusal)
-    → o ≡ None → option_and_then (refusal pass) (option_map (visit_along rows Outside start width) o) ≡ Some r → ⊥
-unrefused pass rows start width o r none e =
+unrefused : (pass : Visit → Option Reason) (rows : List Row) (ts : Targets) (start width : ℕ) (o : Option Chain)
+    (r : Refusal)
+    → o ≡ None → option_and_then (refusal pass) (option_map (visit_along rows Outside ts start width) o) ≡ Some r → ⊥
+unrefused pass rows ts start width o r none e =
     let gone = sym (ap (λ (x : Option Chain). option_and_then (refusal pass)
-    (option_map (visit_along rows Outside start width) x)) none) ∙ e in
+    (option_map (visit_along rows Outside ts start width) x)) none) ∙ e in
     cc
 
 -- by where the value begins
@@ -59,11 +63,14 @@ told_by : (pass : Visit → Option Reason) (rows : List Row) (c : Items) (i : �
     (o : Option ℕ) → start_of (i ∷ place) c ≡ o
     → refusal_at pass rows 0 c (i ∷ place) ≡ Some r → place_of r.at c ≡ i ∷ place
 told_by pass rows c i place r None none e =
-    absurd (unrefused pass rows (unwrap_or (start_of (i ∷ place) c) 0) (width_at (i ∷ place) (node 3 c))
+    absurd
+    (unrefused pass rows (targets_at rows 0 c (i ∷ place)) (unwrap_or (start_of (i ∷ place) c) 0)
+    (width_at (i ∷ place) (node 3 c))
     (chain (i ∷ place) c) r
     (no_chain_in [] [] (i ∷ place) 0 (node 3 c) none) e)
 told_by pass rows c i place r (Some start) begins e =
-    let at = refused_where pass rows (unwrap_or (start_of (i ∷ place) c) 0) (width_at (i ∷ place) (node 3 c))
+    let at = refused_where pass rows (targets_at rows 0 c (i ∷ place)) (unwrap_or (start_of (i ∷ place) c) 0)
+    (width_at (i ∷ place) (node 3 c))
     (chain (i ∷ place) c) r e in
     ap (λ (n : ℕ). place_of n c) (at ∙ ap (λ (x : Option ℕ). unwrap_or x 0) begins)
     ∙ place_begun start c (i ∷ place) begins
@@ -73,7 +80,7 @@ pub told_there : (pass : Visit → Option Reason) (rows : List Row) (c : Items) 
     → refusal_at pass rows 0 c place ≡ Some r
     → place_of r.at c ≡ place
 told_there pass rows c [] r e =
-    let at = refused_where pass rows 0 (width_at [] (node 3 c)) (chain [] c) r e in
+    let at = refused_where pass rows (targets_at rows 0 c []) 0 (width_at [] (node 3 c)) (chain [] c) r e in
     ap (λ (n : ℕ). place_of n c) at ∙ place_of_head c
 told_there pass rows c (i ∷ place) r e = told_by pass rows c i place r (start_of (i ∷ place) c) refl e
 
@@ -115,10 +122,10 @@ told_places db info rows c =
 -- the place at which a refusal is told has an offence for its reason
 pub offence_told : (db : List ℕ) (info : Option Collection) (rows : List Row) (c : Items) (r : Refusal)
     → verdict_on db info rows (command_visits rows 0 c) ≡ Some r
-    → offence_at db info rows c (place_of r.at c) ≡ Some r.reason
+    → offence_at db info rows 0 c (place_of r.at c) ≡ Some r.reason
 offence_told db info rows c r e =
     let at = refused db info rows c r e in
-    ap (offence_at db info rows c) (told_there at.pass rows c at.place r at.is) ∙ at.offence
+    ap (offence_at db info rows 0 c) (told_there at.pass rows c at.place r at.is) ∙ at.offence
 
 -- of two commands with equal skeletons it is told at one place
 pub equal_told : (db : List ℕ) (info : Option Collection) (rows : List Row) (c d : Items) (r : Refusal)

@@ -19,7 +19,7 @@ ghost use Rattle.encrypt_schema.specs.Commands.Skeletons.{AreApart, blank, hole_
 ghost use Rattle.encrypt_schema.specs.Commands.Stations.{Station, has_role};
 ghost use Rattle.encrypt_schema.specs.Commands.Targets.{info_of, rows_of, verdict};
 ghost use Rattle.encrypt_schema.specs.Commands.Visits.{Refusal, command_visits, content_verdict, roles, station_of};
-ghost use Rattle.encrypt_schema.specs.Commands.Visits.{visits};
+ghost use Rattle.encrypt_schema.specs.Commands.Visits.{part_visits};
 ghost use Rattle.command_marker.specs.Commands.{passes};
 ghost use Rattle.command_marker.specs.Marked.{marked};
 ghost use Rattle.command_marker.specs.MarkedPlaces.{marking_of};
@@ -45,10 +45,10 @@ pub fn two_worlds()
         → roles rows at c ≡ roles rows at d }
     ensures shown { (rows : List Row) (c d : Items) → skeleton rows c ≡ skeleton rows d → (place : List ℕ)
         → is_shown rows c place ≡ is_shown rows d place }
-    ensures offences { (db : List ℕ) (info : Option Collection) (rows : List Row) (c d : Items)
+    ensures offences { (db : List ℕ) (info : Option Collection) (rows : List Row) (at : ℕ) (c d : Items)
         → skeleton rows c ≡ skeleton rows d
         → (place : List ℕ) → is_shown rows c place ≡ true
-        → offence_at db info rows c place ≡ offence_at db info rows d place }
+        → offence_at db info rows at c place ≡ offence_at db info rows at d place }
     ensures starts { (rows : List Row) (at : ℕ) (c d : Items) → skeleton rows c ≡ skeleton rows d → (place : List ℕ)
         → is_shown rows c place ≡ true
         → option_map (λ v. v.start) (visit_at rows at c place) ≡ option_map (λ v. v.start) (visit_at rows at d place) }
@@ -94,27 +94,27 @@ pub fn by_place()
     ensures stations { (rows : List Row) (at : ℕ) (c : Items)
         → map (station_at rows c) (places c) ≡ map (λ v. Some (station_of rows v)) (command_visits rows at c) }
     ensures offences { (db : List ℕ) (info : Option Collection) (rows : List Row) (at : ℕ) (c : Items)
-        → map (offence_at db info rows c) (places c) ≡ map (λ v. offence db info rows v.parent v.elder v.entry)
-        (command_visits rows at c) }
+        → map (offence_at db info rows at c) (places c)
+        ≡ map (λ v. offence db info rows v.targets v.parent v.elder v.entry) (command_visits rows at c) }
     ensures roles { (rows : List Row) (at : ℕ) (c : Items) → roles rows at c ≡ flat_map (mark_of rows at c) (places c) }
     ensures parts { (rows : List Row) (s : Station) (at : ℕ) (is : Items)
-        → map (part_visit_at rows s at is) (places_from 0 is) ≡ map Some (visits rows s (at + 4) [] is) }
+        → map (part_visit_at rows s at is) (places_from 0 is) ≡ map Some (part_visits rows s at is) }
     ensures part_stations { (rows : List Row) (s : Station) (at : ℕ) (is : Items)
         → map (part_station_at rows s is) (places_from 0 is)
-        ≡ map (λ v. Some (station_of rows v)) (visits rows s (at + 4) [] is) }
+        ≡ map (λ v. Some (station_of rows v)) (part_visits rows s at is) }
     ensures part_offences { (db : List ℕ) (info : Option Collection) (rows : List Row) (s : Station) (at : ℕ)
         (is : Items)
-        → map (part_offence_at db info rows s is) (places_from 0 is)
-        ≡ map (λ v. offence db info rows v.parent v.elder v.entry) (visits rows s (at + 4) [] is) }
+        → map (part_offence_at db info rows s at is) (places_from 0 is)
+        ≡ map (λ v. offence db info rows v.targets v.parent v.elder v.entry) (part_visits rows s at is) }
     ensures marked { (rows : List Row) (c : Items) → marked rows c ≡ filled (marking_of rows c) c }
     ensures verdict { (db : List ℕ) (collections : List Collection) (at : ℕ) (c : Items)
         → verdict db collections at c ≡ verdict_at db (info_of collections c) (rows_of collections c) at c }
     ensures accepted { (db : List ℕ) (collections : List Collection) (at : ℕ) (c : Items)
         → is_none (verdict db collections at c) ≡ list_all is_none
-        (map (offence_at db (info_of collections c) (rows_of collections c) c) (places c)) }
+        (map (offence_at db (info_of collections c) (rows_of collections c) at c) (places c)) }
     ensures refused { (db : List ℕ) (collections : List Collection) (c : Items) (r : Refusal)
         → verdict db collections 0 c ≡ Some r
-        → offence_at db (info_of collections c) (rows_of collections c) c (place_of r.at c) ≡ Some r.reason }
+        → offence_at db (info_of collections c) (rows_of collections c) 0 c (place_of r.at c) ≡ Some r.reason }
     ensures told { (db : List ℕ) (collections : List Collection) (c : Items)
         → option_map (told c) (verdict db collections 0 c)
         ≡ first_refused db (info_of collections c) (rows_of collections c) c (places c) }

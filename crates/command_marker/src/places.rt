@@ -79,6 +79,21 @@ impl Place for CommandPlace {
         }
     }
 
+    #[tactic(auto, using(crate::proofs::Wholes::whole_command))]
+    fn is_whole(self) -> bool {
+        match self {
+            CommandPlace::Update(at) => at.is_whole(),
+            CommandPlace::Command(_) => false,
+            CommandPlace::Inserts => false,
+            CommandPlace::Updates => false,
+            CommandPlace::Deletes => false,
+            CommandPlace::UpdateItem => false,
+            CommandPlace::DeleteItem => false,
+            CommandPlace::Projection => false,
+            CommandPlace::Filter(at) => at.is_whole(),
+        }
+    }
+
     ghost unprotected = { command_unprotected };
 }
 

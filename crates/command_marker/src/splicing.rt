@@ -61,8 +61,10 @@ pub(crate) fn policy_of<'a>(rows: &'a Rows, mark: &Mark) -> &'a Policy
 fn key_id_of(policy: &Policy) -> [u8; 16]
     ensures id { result ≡ key_id policy.now.key }
 {
-    let KeyRef::Id(id) = policy.key;
-    id
+    match &policy.key {
+        KeyRef::Id(id) => *id,
+        KeyRef::Pointer(_) => [0; 16],
+    }
 }
 
 /// How many bytes a marking, as it stands in a command, has more than its value.

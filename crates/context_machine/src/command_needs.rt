@@ -67,6 +67,8 @@ fn need_of(mark: &Mark, rows: &Rows) -> Need
 fn id_of(policy: &Policy) -> [u8; 16]
     ensures id { result ≡ key_id policy.now.key }
 {
-    let KeyRef::Id(id) = policy.key;
-    id
+    match &policy.key {
+        KeyRef::Id(id) => *id,
+        KeyRef::Pointer(_) => [0; 16],
+    }
 }

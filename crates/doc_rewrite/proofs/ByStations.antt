@@ -16,6 +16,7 @@ use Rattle.encrypt_schema.specs.declared.schema.policy.Algorithm.TheVariants.{De
 use Rattle.encrypt_schema.specs.Language.Policies.{policy_at}
 use Rattle.encrypt_schema.specs.Language.Row.{Row}
 use Rattle.encrypt_schema.specs.Commands.Stations.{Station, Outside, Store, Compare, station, has_role}
+use Rattle.encrypt_schema.specs.Commands.Pointers.{Targets, pointed}
 use Rattle.encrypt_schema.specs.Commands.Visits.{entry, command_entry, Visit, visit, mark_at, marks, roles}
 use Rattle.encrypt_schema.proofs.Commands.Plans as plans
 use Rattle.encrypt_schema.proofs.Commands.Plans.{own, raw, inside, done, next}
@@ -145,66 +146,71 @@ module _ (keys : Lookup) (rows : List Row) (Had : ℕ → Type 0) where
     )
 
     -- inside a value without a role all is shown
-    shown_node : (u : Station) (at tag : ℕ) (is : Items) → has_role u ≡ false
-        → marks rows (shown_in rows u at (node tag is)) ≡ marks rows (shown rows u (at + 4) [] is)
-    shown_node u at tag is h = ap (λ (b : Bool). marks rows (cond b [] (shown rows u (at + 4) [] is))) h
+    shown_node : (u : Station) (ts : Targets) (at tag : ℕ) (is : Items) → has_role u ≡ false
+        → marks rows (shown_in rows u ts at (node tag is))
+        ≡ marks rows (shown rows u (pointed rows u ts at is) (at + 4) [] is)
+    shown_node u ts at tag is h =
+        ap (λ (b : Bool). marks rows (cond b [] (shown rows u (pointed rows u ts at is) (at + 4) [] is))) h
 
     mutual
-      value_sealed : (s : Station) (at : ℕ) (elder : List (List ℕ)) (name : List ℕ) (t : Tree) (rest : List Mark)
+      value_sealed : (s : Station) (ts : Targets) (at : ℕ) (elder : List (List ℕ)) (name : List ℕ) (t : Tree)
+          (rest : List Mark)
           (blocks : List Block)
           → plans.AreBehind (at + (2 + length name) + length (value_bytes t)) rest → AreBlocks blocks
-          → AllHad Had (own_marks rows s elder at name t ++ rest)
+          → AllHad Had (own_marks rows s ts elder at name t ++ rest)
           → SealedIn S rows (station rows s (entry name t)) t
-          (fill_tree (put_at (puts (own_marks rows s elder at name t ++ rest) blocks)) (at + (2 + length name)) t)
-      value_sealed s at elder name (leaf tag bytes) rest blocks b are had =
+          (fill_tree (put_at (puts (own_marks rows s ts elder at name t ++ rest) blocks)) (at + (2 + length name)) t)
+      value_sealed s ts at elder name (leaf tag bytes) rest blocks b are had =
           sealed_leaf (station rows s (entry name (leaf tag bytes)))
-          (visit s elder at name (leaf tag bytes)) tag bytes [] rest blocks are had
+          (visit s ts elder at name (leaf tag bytes)) tag bytes [] rest blocks are had
           (λ h. behind_puts (at + (2 + length name)) rest blocks
           (plans.earlier (at + (2 + length name)) (at + (2 + length name) + length bytes) rest (omega arith) b))
-      value_sealed s at elder name (node tag is) rest blocks b are had =
+      value_sealed s ts at elder name (node tag is) rest blocks b are had =
           let u = station rows s (entry name (node tag is)) in
           let p = at + (2 + length name) in
           let low : plans.AreBehind (p + 4 + length (items_bytes is)) rest =
           plans.earlier (p + 4 + length (items_bytes is)) (p + length (framed (items_bytes is))) rest
           (omega (arith, framed_size (items_bytes is))) b in
-          sealed_node u (visit s elder at name (node tag is)) tag is
-          (marks rows (shown_in rows u p (node tag is))) rest blocks are had
-          (λ h. behind_puts p (marks rows (shown_in rows u p (node tag is)) ++ rest) blocks
-          (subst (λ (ms : List Mark). plans.AreBehind p (ms ++ rest)) (sym (shown_node u p tag is h))
-          (plans.earlier p (p + 4) (marks rows (shown rows u (p + 4) [] is) ++ rest) (omega arith)
-          (plans.behind (takes_among rows u (p + 4) [] is rest) low))))
+          sealed_node u (visit s ts elder at name (node tag is)) tag is
+          (marks rows (shown_in rows u ts p (node tag is))) rest blocks are had
+          (λ h. behind_puts p (marks rows (shown_in rows u ts p (node tag is)) ++ rest) blocks
+          (subst (λ (ms : List Mark). plans.AreBehind p (ms ++ rest)) (sym (shown_node u ts p tag is h))
+          (plans.earlier p (p + 4) (marks rows (shown rows u (pointed rows u ts p is) (p + 4) [] is) ++ rest)
+          (omega arith)
+          (plans.behind (takes_among rows u (pointed rows u ts p is) (p + 4) [] is rest) low))))
           (λ h all. subst (λ (ms : List Mark). AreSealed S rows u is
-          (fill_items (put_at (puts (ms ++ rest) blocks)) (p + 4) is)) (sym (shown_node u p tag is h))
-          (items_sealed u (p + 4) [] is rest blocks low are
-          (subst (λ (ms : List Mark). AllHad Had (ms ++ rest)) (shown_node u p tag is h) all)))
+          (fill_items (put_at (puts (ms ++ rest) blocks)) (p + 4) is)) (sym (shown_node u ts p tag is h))
+          (items_sealed u (pointed rows u ts p is) (p + 4) [] is rest blocks low are
+          (subst (λ (ms : List Mark). AllHad Had (ms ++ rest)) (shown_node u ts p tag is h) all)))
 
-      pub items_sealed : (s : Station) (at : ℕ) (elder : List (List ℕ)) (is : Items) (rest : List Mark)
+      pub items_sealed : (s : Station) (ts : Targets) (at : ℕ) (elder : List (List ℕ)) (is : Items) (rest : List Mark)
           (blocks : List Block)
           → plans.AreBehind (at + length (items_bytes is)) rest → AreBlocks blocks
-          → AllHad Had (marks rows (shown rows s at elder is) ++ rest)
-          → AreSealed S rows s is (fill_items (put_at (puts (marks rows (shown rows s at elder is) ++ rest) blocks)) at
+          → AllHad Had (marks rows (shown rows s ts at elder is) ++ rest)
+          → AreSealed S rows s is
+          (fill_items (put_at (puts (marks rows (shown rows s ts at elder is) ++ rest) blocks)) at
           is)
-      items_sealed s at elder no_items rest blocks b are had = refl
-      items_sealed s at elder (item name t is) rest blocks b are had =
+      items_sealed s ts at elder no_items rest blocks b are had = refl
+      items_sealed s ts at elder (item name t is) rest blocks b are had =
           let p = at + (2 + length name) in
           let q = p + length (value_bytes t) in
-          let mid = marks rows (shown rows s q (elder ++ name ∷ []) is) ++ rest in
-          let all = own_marks rows s elder at name t ++ mid in
+          let mid = marks rows (shown rows s ts q (elder ++ name ∷ []) is) ++ rest in
+          let all = own_marks rows s ts elder at name t ++ mid in
           let low : plans.AreBehind (q + length (items_bytes is)) rest =
           plans.earlier (q + length (items_bytes is)) (at + length (items_bytes (item name t is))) rest
           (omega (arith, element_size name t is)) b in
-          let had' : AllHad Had all = subst (AllHad Had) (marks_item rows s at elder name t is rest) had in
-          let first = value_sealed s at elder name t mid blocks
-          (plans.behind (takes_among rows s q (elder ++ name ∷ []) is rest) low) are had' in
-          let i = taken_in (takes_value rows s at elder name t mid) blocks are had' in
+          let had' : AllHad Had all = subst (AllHad Had) (marks_item rows s ts at elder name t is rest) had in
+          let first = value_sealed s ts at elder name t mid blocks
+          (plans.behind (takes_among rows s ts q (elder ++ name ∷ []) is rest) low) are had' in
+          let i = taken_in (takes_value rows s ts at elder name t mid) blocks are had' in
           let same : fill_items (put_at (puts all blocks)) q is ≡ fill_items (put_at (puts mid i.after)) q is =
           alike (put_at (puts all blocks)) (put_at (puts mid i.after)) q (λ k v h. passed_in i.taken k v h) q is
           (omega arith) in
           let others = subst (AreSealed S rows s is) (sym same)
-          (items_sealed s q (elder ++ name ∷ []) is rest i.after low i.are i.had) in
+          (items_sealed s ts q (elder ++ name ∷ []) is rest i.after low i.are i.had) in
           subst (λ (ms : List Mark). AreSealed S rows s (item name t is)
           (fill_items (put_at (puts ms blocks)) at (item name t is)))
-          (sym (marks_item rows s at elder name t is rest))
+          (sym (marks_item rows s ts at elder name t is rest))
           (fill_tree (put_at (puts all blocks)) p t, fill_items (put_at (puts all blocks)) q is, refl, first, others)
 
     -- a command sealed at the sites of its roles
@@ -216,7 +222,8 @@ module _ (keys : Lookup) (rows : List Row) (Had : ℕ → Type 0) where
         let c = d.tree in
         let s = station rows Outside (command_entry c) in
         let from = d.start + 4 in
-        let same : roles rows d.start c ≡ marks rows (shown rows s from [] c) ++ [] =
-        roles_shown rows d.start c ∙ sym (append-nil (marks rows (shown rows s from [] c))) in
+        let ts = pointed rows s [] d.start c in
+        let same : roles rows d.start c ≡ marks rows (shown rows s ts from [] c) ++ [] =
+        roles_shown rows d.start c ∙ sym (append-nil (marks rows (shown rows s ts from [] c))) in
         subst (λ (ms : List Mark). AreSealed S rows s c (fill_items (put_at (puts ms blocks)) from c)) (sym same)
-        (items_sealed s from [] c [] blocks tt are (subst (AllHad Had) same had))
+        (items_sealed s ts from [] c [] blocks tt are (subst (AllHad Had) same had))

@@ -8,6 +8,7 @@ use Rattle.bson_codec.specs.Layout.{IsDoc, IsValue}
 use Rattle.encrypt_schema.specs.Commands.Stations.{Outside, station}
 use Rattle.encrypt_schema.specs.Commands.Visits.{command_entry, command_visit, content_of, content_verdict}
 use Rattle.encrypt_schema.specs.Commands.Visits.{refused_at}
+use Rattle.encrypt_schema.specs.Commands.Pointers.{pointed}
 use Rattle.encrypt_schema.specs.Language.Policies.{policy_at}
 use Rattle.encrypt_schema.specs.Language.Row.{Row}
 use Rattle.encrypt_schema.proofs.Commands.Ruled.{station_ruled}
@@ -37,7 +38,7 @@ module _ (keys : Lookup) (rows : List Row) where
   opens_again ring c d doc none free all sealed =
       let s = station rows Outside (command_entry c.tree) in
       let own = refused_at 0 (content_of rows (command_visit c.tree)) in
-      let fine = fine_items Sealed rows s (c.start + 4) [] c.tree d.tree
+      let fine = fine_items Sealed rows s (pointed rows s [] c.start c.tree) (c.start + 4) [] c.tree d.tree
       (station_ruled rows Outside (command_entry c.tree) tt) (later_none own _ none) sealed in
       let b = back_items (value_of ring) (IsRight ring) (Sealable Sealed rows) rows
       (λ levels i t u low h laid. sealed_back keys ring all (policy_at i rows) levels t u low h.0 h.1 laid) 99 s

@@ -171,8 +171,10 @@ fn id_of(policy: &Policy) -> [u8; 16]
     ensures id { result ≡ key_id policy.now.key }
     ensures long { length result ≡ 16 }
 {
-    let KeyRef::Id(id) = policy.key;
-    as_id(id)
+    match &policy.key {
+        KeyRef::Id(id) => as_id(*id),
+        KeyRef::Pointer(_) => as_id([0; 16]),
+    }
 }
 
 /// The same 16 bytes; contracts then see how many they are.

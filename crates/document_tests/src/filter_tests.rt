@@ -29,6 +29,7 @@ fn are_strings_at(marks: &Marks, starts: &[u32]) -> bool {
             tag: 0x02,
             policy: 0,
             role: Role::Compare,
+            name: None,
         };
         if marks.get(i) != Some(compared) {
             return false;

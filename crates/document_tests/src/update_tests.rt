@@ -135,6 +135,7 @@ fn int_at(start: u32, end: u32) -> Mark {
         tag: 0x10,
         policy: 0,
         role: Role::Store,
+        name: None,
     }
 }
 

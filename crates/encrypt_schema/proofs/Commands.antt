@@ -5,6 +5,11 @@ pub mod WorkedFilters
 pub mod WorkedUpdates
 pub mod Tables
 pub mod Widths
+pub mod Pointed
+pub mod Only
+pub mod PointerSpans
+pub mod PointerTexts
+pub mod EqualTexts
 pub mod Worlds
 pub mod Silence
 pub mod Apart
@@ -15,6 +20,7 @@ pub mod EqualOffences
 pub mod Blanks
 pub mod Sites
 pub mod EqualPlaces
+pub mod BlankTexts
 pub mod Parts
 pub mod Unmarked
 pub mod Fields

@@ -15,3 +15,4 @@ pub mod Opened
 pub mod Splits
 pub mod Walks
 pub mod WorkedClasses
+pub mod Roots

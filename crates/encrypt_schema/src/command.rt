@@ -2,6 +2,7 @@
 
 pub(crate) mod marks;
 pub(crate) mod operators;
+pub(crate) mod pointers;
 pub(crate) mod reason;
 pub(crate) mod stored;
 pub(crate) mod walking;

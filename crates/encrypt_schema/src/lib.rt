@@ -20,7 +20,7 @@ mod command;
 mod path;
 mod schema;
 
-pub use command::marks::{Mark, MarkFault, Marks, Role};
+pub use command::marks::{Mark, MarkFault, Marks, Role, Span};
 pub use command::operators::{Operator, Subject};
 pub use command::reason::Reason;
 pub use command::stored::{type_allowed, type_allowed_under};

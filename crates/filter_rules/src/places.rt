@@ -1,9 +1,9 @@
 //! What documents and arrays are in a filter.
 
-ghost use Rattle.std.specs.Prelude.{◌≡◌, ◌+◌, [], ℕ, List, None, Some, IfErr, IfOk, ⊤, take};
+ghost use Rattle.std.specs.Prelude.{◌≡◌, ℕ, List, None, Some, IfErr, IfOk, ⊤, take};
 ghost use Rattle.encrypt_schema.specs.Commands.Offences.{ruled_offence};
 ghost use Rattle.encrypt_schema.specs.Commands.Stations.{Filter, station};
-ghost use Rattle.encrypt_schema.specs.Commands.Visits.{entry, names_of, visits};
+ghost use Rattle.encrypt_schema.specs.Commands.Visits.{entry, names_of, part_visits};
 ghost use Rattle.encrypt_schema.specs.Views.Walking.{Begins, MarksPlaces, StandsNext, station_next};
 ghost use Rattle.filter_rules.specs.Places.{station_by, unprotected};
 
@@ -32,6 +32,15 @@ impl Place for FilterPlace {
 
     ghost unprotected = { unprotected };
 
+    fn is_whole(self) -> bool {
+        match self {
+            FilterPlace::Filter => false,
+            FilterPlace::Cases => false,
+            FilterPlace::Test(_) => false,
+            FilterPlace::Elements(_) => false,
+        }
+    }
+
     #[tactic(auto, using(crate::proofs::Standing::stands_next))]
     fn judge(
         self,
@@ -54,7 +63,7 @@ impl Place for FilterPlace {
 ///
 /// With `Refused` and `Memory` too the marks begin with those that were there before.
 pub fn mark_filter(marks: &mut Marks, rows: &Rows, filter: &RawDoc<'_>) -> Result<(), MarkFault>
-    ensures marked { MarksPlaces rows.now (visits rows.now Filter (filter.now.start + 4) [] filter.now.tree)
+    ensures marked { MarksPlaces rows.now (part_visits rows.now Filter filter.now.start filter.now.tree)
         marks.old marks.new result }
     ensures kept { Begins marks.old marks.new }
 {

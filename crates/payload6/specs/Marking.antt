@@ -1,17 +1,18 @@
 -- MongoDB Client Side Encryption, BSON binary subtype 6, intent-to-encrypt marking: the value with its
 -- policy, for who seals it
-use Rattle.std.specs.Prelude.{ℕ, List, [], ◌∷◌, ◌++◌, length, codes}
+use Rattle.std.specs.Prelude.{ℕ, List, [], ◌∷◌, ◌++◌, length, codes, replicate}
 use Rattle.std.specs.Int.{to_le_bytes, w32}
 use Rattle.bson_tree.specs.Tree.{Tree, Items, leaf, no_items, item}
 use Rattle.bson_tree.specs.Spelling.{doc_bytes}
 use Rattle.encrypt_schema.specs.declared.schema.policy.KeyRef.{KeyRef}
-use Rattle.encrypt_schema.specs.declared.schema.policy.KeyRef.TheVariants.{Id}
+use Rattle.encrypt_schema.specs.declared.schema.policy.KeyRef.TheVariants.{Id, Pointer}
 use Rattle.encrypt_schema.specs.declared.schema.policy.Policy.{Policy}
 use Rattle.payload6.specs.Payload.{algorithm_number}
 
--- the 16 bytes of a key id
+-- the 16 bytes of a key id; a marking has no other, and 00s stand there for a pointer, which no schema states
 abbrev pub key_id : KeyRef → List ℕ
 key_id (Id bytes) = bytes
+key_id (Pointer names) = replicate 16 0
 
 -- a binary of this subtype
 abbrev pub binary : ℕ → List ℕ → Tree

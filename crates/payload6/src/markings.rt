@@ -106,8 +106,10 @@ fn put_key_id(out: &mut Vec<u8>, id: &[u8; 16]) -> Result<(), Memory>
 fn id_of(policy: &Policy) -> [u8; 16]
     ensures { result ≡ key_id policy.now.key }
 {
-    let KeyRef::Id(id) = policy.key;
-    id
+    match &policy.key {
+        KeyRef::Id(id) => *id,
+        KeyRef::Pointer(_) => [0; 16],
+    }
 }
 
 /// The number of an algorithm.

@@ -172,8 +172,10 @@ fn behind<'a>(bytes: &'a [u8], front: &[u8]) -> Option<&'a [u8]>
 fn id_of(policy: &Policy) -> [u8; 16]
     ensures id { result ≡ key_id policy.now.key }
 {
-    let KeyRef::Id(id) = policy.key;
-    id
+    match &policy.key {
+        KeyRef::Id(id) => *id,
+        KeyRef::Pointer(_) => [0; 16],
+    }
 }
 
 /// The number of an algorithm.

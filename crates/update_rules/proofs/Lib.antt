@@ -1,2 +1,3 @@
 pub mod Offences
 pub mod Reasons
+pub mod Wholes

@@ -1,9 +1,9 @@
 //! The marks of stored documents and of updates.
 
-ghost use Rattle.std.specs.Prelude.{◌≡◌, ◌+◌, [], ℕ, List};
+ghost use Rattle.std.specs.Prelude.{◌≡◌, ℕ, List};
 ghost use Rattle.encrypt_schema.specs.Paths.Classes.{class};
 ghost use Rattle.encrypt_schema.specs.Commands.Stations.{Document, is_dollar_first, update_of};
-ghost use Rattle.encrypt_schema.specs.Commands.Visits.{names_of, visits};
+ghost use Rattle.encrypt_schema.specs.Commands.Visits.{names_of, part_visits};
 ghost use Rattle.encrypt_schema.specs.Views.Cursors.{Stands};
 ghost use Rattle.encrypt_schema.specs.Views.Walking.{Begins, MarksPlaces};
 ghost use Rattle.update_rules.specs.UpdatePlaces.{UpdateStands, update_station};
@@ -26,7 +26,7 @@ pub fn mark_document(
 ) -> Result<(), MarkFault>
     requires above { (path : List (List ℕ)) × Stands rows.now at path × (class rows.now path ≡ Class.Above) }
     ensures marked { (path : List (List ℕ)) → Stands rows.now at path → class rows.now path ≡ Class.Above
-        → MarksPlaces rows.now (visits rows.now (Document path) (document.now.start + 4) [] document.now.tree)
+        → MarksPlaces rows.now (part_visits rows.now (Document path) document.now.start document.now.tree)
         marks.old marks.new result }
     ensures kept { Begins marks.old marks.new }
 {
@@ -64,7 +64,7 @@ pub fn update_place(rows: &Rows, update: &RawDoc<'_>) -> UpdatePlace
 /// refused here whatever the rules.
 pub fn mark_update(marks: &mut Marks, rows: &Rows, update: &RawDoc<'_>) -> Result<(), MarkFault>
     ensures marked { MarksPlaces rows.now
-        (visits rows.now (update_of (names_of update.now.tree)) (update.now.start + 4) [] update.now.tree)
+        (part_visits rows.now (update_of (names_of update.now.tree)) update.now.start update.now.tree)
         marks.old marks.new result }
     ensures kept { Begins marks.old marks.new }
 {

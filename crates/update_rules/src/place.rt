@@ -42,5 +42,15 @@ impl Place for UpdatePlace {
         }
     }
 
+    #[tactic(auto, using(crate::proofs::Wholes::whole_document))]
+    fn is_whole(self) -> bool {
+        match self {
+            UpdatePlace::Document(at) => at.is_root(),
+            UpdatePlace::Operators => false,
+            UpdatePlace::Sets => false,
+            UpdatePlace::Argument(_) => false,
+        }
+    }
+
     ghost unprotected = { update_unprotected };
 }

@@ -115,6 +115,7 @@ pub(crate) fn stored(start: u32, end: u32, tag: u8, policy: u32) -> Option<Mark>
         tag,
         policy,
         role: Role::Store,
+        name: None,
     })
 }
 
@@ -126,6 +127,7 @@ fn compared(start: u32, end: u32, tag: u8, policy: u32) -> Option<Mark> {
         tag,
         policy,
         role: Role::Compare,
+        name: None,
     })
 }
 

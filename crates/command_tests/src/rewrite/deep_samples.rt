@@ -135,6 +135,7 @@ pub(crate) const UNDER_47_NAMES: Sample = Sample {
         tag: 16,
         policy: 0,
         role: Role::Store,
+        name: None,
     }],
     sealed: &[
         b"\x04\x02\x00\x00\x02insert\x00\x05\x00\x00\x00deep\x00\x04documents\x00\xd7\x01\x00\x00",

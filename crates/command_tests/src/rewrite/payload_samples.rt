@@ -77,6 +77,7 @@ pub(crate) const OF_A_DOCUMENT: Sample = Sample {
         tag: 3,
         policy: 1,
         role: Role::Store,
+        name: None,
     }],
     sealed: HOLDING,
 };

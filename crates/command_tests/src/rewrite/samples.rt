@@ -26,6 +26,7 @@ pub(crate) const ONE_STRING: Sample = Sample {
         tag: 2,
         policy: 0,
         role: Role::Store,
+        name: None,
     }],
     sealed: &[
         b"\xaf\x00\x00\x00\x02insert\x00\x07\x00\x00\x00people\x00\x04documents\x00\x80",
@@ -49,6 +50,7 @@ pub(crate) const ONE_INT: Sample = Sample {
         tag: 16,
         policy: 1,
         role: Role::Store,
+        name: None,
     }],
     sealed: &[
         b"\x9b\x00\x00\x00\x02insert\x00\x07\x00\x00\x00people\x00\x04documents\x00l\x00",
@@ -78,6 +80,7 @@ pub(crate) const TWO_DOCUMENTS: Sample = Sample {
             tag: 16,
             policy: 1,
             role: Role::Store,
+            name: None,
         },
         Mark {
             start: 70,
@@ -85,6 +88,7 @@ pub(crate) const TWO_DOCUMENTS: Sample = Sample {
             tag: 2,
             policy: 0,
             role: Role::Store,
+            name: None,
         },
         Mark {
             start: 94,
@@ -92,6 +96,7 @@ pub(crate) const TWO_DOCUMENTS: Sample = Sample {
             tag: 16,
             policy: 1,
             role: Role::Store,
+            name: None,
         },
     ],
     sealed: &[
@@ -121,6 +126,7 @@ pub(crate) const EQUAL_NAMES: Sample = Sample {
             tag: 2,
             policy: 0,
             role: Role::Store,
+            name: None,
         },
         Mark {
             start: 61,
@@ -128,6 +134,7 @@ pub(crate) const EQUAL_NAMES: Sample = Sample {
             tag: 2,
             policy: 0,
             role: Role::Store,
+            name: None,
         },
     ],
     sealed: &[
@@ -156,6 +163,7 @@ pub(crate) const IN_LIST: Sample = Sample {
             tag: 2,
             policy: 0,
             role: Role::Compare,
+            name: None,
         },
         Mark {
             start: 63,
@@ -163,6 +171,7 @@ pub(crate) const IN_LIST: Sample = Sample {
             tag: 2,
             policy: 0,
             role: Role::Compare,
+            name: None,
         },
         Mark {
             start: 72,
@@ -170,6 +179,7 @@ pub(crate) const IN_LIST: Sample = Sample {
             tag: 2,
             policy: 0,
             role: Role::Compare,
+            name: None,
         },
     ],
     sealed: &[
@@ -213,6 +223,7 @@ pub(crate) const DOTTED: Sample = Sample {
         tag: 16,
         policy: 0,
         role: Role::Store,
+        name: None,
     }],
     sealed: &[
         b"\xb0\x00\x00\x00\x02update\x00\x06\x00\x00\x00staff\x00\x04updates\x00\x84\x00",
@@ -238,6 +249,7 @@ pub(crate) const NESTED: Sample = Sample {
         tag: 16,
         policy: 0,
         role: Role::Store,
+        name: None,
     }],
     sealed: &[
         b"\xb6\x00\x00\x00\x02update\x00\x06\x00\x00\x00staff\x00\x04updates\x00\x8a\x00",
@@ -267,6 +279,7 @@ pub(crate) const FROM_A_DRIVER: Sample = Sample {
             tag: 2,
             policy: 0,
             role: Role::Store,
+            name: None,
         },
         Mark {
             start: 170,
@@ -274,6 +287,7 @@ pub(crate) const FROM_A_DRIVER: Sample = Sample {
             tag: 16,
             policy: 1,
             role: Role::Store,
+            name: None,
         },
     ],
     sealed: &[

@@ -66,7 +66,7 @@ fn is_policy(policy: Option<&Policy>, algorithm: Algorithm, int: bool) -> bool {
     match policy {
         Some(policy) => {
             policy.algorithm == algorithm
-                && policy.key == KeyRef::Id(KEY)
+                && policy.key.is_same(&KeyRef::Id(KEY))
                 && policy.types.has(0x02)
                 && policy.types.has(0x10) == int
         }

@@ -26,7 +26,7 @@ fn three_rules(alloc: Global) -> Option<Rows> {
 /// Whether the policy has the key of sixteen such bytes.
 fn has_key(policy: Option<&Policy>, key: u8) -> bool {
     match policy {
-        Some(policy) => policy.key == KeyRef::Id([key; 16]),
+        Some(policy) => policy.key.is_same(&KeyRef::Id([key; 16])),
         None => false,
     }
 }

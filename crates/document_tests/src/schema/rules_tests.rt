@@ -48,7 +48,7 @@ fn is_policy(policy: Option<&Policy>, algorithm: Algorithm, key: u8, string: boo
     match policy {
         Some(policy) => {
             policy.algorithm == algorithm
-                && policy.key == KeyRef::Id([key; 16])
+                && policy.key.is_same(&KeyRef::Id([key; 16]))
                 && policy.types.has(0x10)
                 && policy.types.has(0x02) == string
         }

@@ -16,10 +16,12 @@ use Rattle.encrypt_schema.specs.Language.Row.{Row}
 use Rattle.encrypt_schema.specs.Language.Collection.{Collection}
 use Rattle.encrypt_schema.specs.Commands.Offences.{offence}
 use Rattle.encrypt_schema.specs.Commands.Stations.{Station, Outside, station}
+use Rattle.encrypt_schema.specs.Commands.Pointers.{Targets, pointed}
 use Rattle.encrypt_schema.specs.Commands.Visits.{Refusal, refused_at, or_else, first_refusal, verdict_on, target_of}
 use Rattle.encrypt_schema.specs.Commands.Visits.{view_of, content_of, entry, command_entry, Visit, visit, visits_in}
 use Rattle.encrypt_schema.specs.Commands.Visits.{visits, command_visit, command_visits, station_of, mark_at, marks}
-use Rattle.encrypt_schema.specs.Commands.Visits.{roles}
+use Rattle.encrypt_schema.specs.Commands.Visits.{roles, part_visits}
+use Rattle.encrypt_schema.specs.Commands.Chains.{targets_in, targets_from, targets_at}
 use Rattle.encrypt_schema.specs.Commands.Chains.{Link, Chain, onward, link, chain, chain_from, station_along}
 use Rattle.encrypt_schema.specs.Commands.Chains.{offence_along, station_at, offence_at, width_at, visit_along, start_at}
 use Rattle.encrypt_schema.specs.Commands.Chains.{visit_at, mark_of, refusal_at, first_of, first_refusal_at, verdict_at}
@@ -27,22 +29,22 @@ use Rattle.encrypt_schema.specs.Commands.Chains.{chain_inside, part_visit_at, pa
 
 -- a place below elements, with what it is carried down
 abbrev mutual
-  pub visit_in : List Row → Station → ℕ → ℕ → List ℕ → Tree → Option Visit
-  visit_in rows s at i place (leaf tag bytes) = None
-  visit_in rows s at i place (node tag is) = visit_from rows s (at + 4) [] i place is
+  pub visit_in : List Row → Station → Targets → ℕ → ℕ → List ℕ → Tree → Option Visit
+  visit_in rows s ts at i place (leaf tag bytes) = None
+  visit_in rows s ts at i place (node tag is) = visit_from rows s (pointed rows s ts at is) (at + 4) [] i place is
 
-  pub visit_from : List Row → Station → ℕ → List (List ℕ) → ℕ → List ℕ → Items → Option Visit
-  visit_from rows s at elder i place no_items = None
-  visit_from rows s at elder zero [] (item name t is) = Some (visit s elder at name t)
-  visit_from rows s at elder zero (j ∷ place) (item name t is) =
-      visit_in rows (station rows s (entry name t)) (at + (2 + length name)) j place t
-  visit_from rows s at elder (suc i) place (item name t is) =
-      visit_from rows s (at + (2 + length name) + length (value_bytes t)) (elder ++ name ∷ []) i place is
+  pub visit_from : List Row → Station → Targets → ℕ → List (List ℕ) → ℕ → List ℕ → Items → Option Visit
+  visit_from rows s ts at elder i place no_items = None
+  visit_from rows s ts at elder zero [] (item name t is) = Some (visit s ts elder at name t)
+  visit_from rows s ts at elder zero (j ∷ place) (item name t is) =
+      visit_in rows (station rows s (entry name t)) ts (at + (2 + length name)) j place t
+  visit_from rows s ts at elder (suc i) place (item name t is) =
+      visit_from rows s ts (at + (2 + length name) + length (value_bytes t)) (elder ++ name ∷ []) i place is
 
 -- the same, and something else for the empty place
-abbrev pub visit_below : Option Visit → List Row → Station → ℕ → List (List ℕ) → Items → List ℕ → Option Visit
-visit_below o rows s at elder is [] = o
-visit_below o rows s at elder is (i ∷ place) = visit_from rows s at elder i place is
+abbrev pub visit_below : Option Visit → List Row → Station → Targets → ℕ → List (List ℕ) → Items → List ℕ → Option Visit
+visit_below o rows s ts at elder is [] = o
+visit_below o rows s ts at elder is (i ∷ place) = visit_from rows s ts at elder i place is
 
 -- a place inside a document
 abbrev pub is_inside : List ℕ → Bool
@@ -71,116 +73,135 @@ places_next i (item name t is) =
     cc
 
 -- the next sibling's place among elements is the place among those behind the first
-pub below_next : (o : Option Visit) (rows : List Row) (s : Station) (at : ℕ) (elder : List (List ℕ)) (name : List ℕ)
+pub below_next : (o : Option Visit) (rows : List Row) (s : Station) (ts : Targets) (at : ℕ) (elder : List (List ℕ))
+    (name : List ℕ)
     (t : Tree) (is : Items) (place : List ℕ)
-    → visit_below o rows s at elder (item name t is) (next place)
-    ≡ visit_below o rows s (at + (2 + length name) + length (value_bytes t)) (elder ++ name ∷ []) is place
-below_next o rows s at elder name t is [] = refl
-below_next o rows s at elder name t is (i ∷ place) =
-    ap (λ (n : ℕ). visit_from rows s at elder n place (item name t is)) (add-one i)
+    → visit_below o rows s ts at elder (item name t is) (next place)
+    ≡ visit_below o rows s ts (at + (2 + length name) + length (value_bytes t)) (elder ++ name ∷ []) is place
+below_next o rows s ts at elder name t is [] = refl
+below_next o rows s ts at elder name t is (i ∷ place) =
+    ap (λ (n : ℕ). visit_from rows s ts at elder n place (item name t is)) (add-one i)
 
 -- the places in one element, and those in the elements behind it
-by_item : (o : Option Visit) (rows : List Row) (s : Station) (at : ℕ) (elder : List (List ℕ)) (name : List ℕ) (t : Tree)
+by_item : (o : Option Visit) (rows : List Row) (s : Station) (ts : Targets) (at : ℕ) (elder : List (List ℕ))
+    (name : List ℕ) (t : Tree)
     (is : Items)
-    → map (λ (p : List ℕ). visit_from rows s at elder 0 p (item name t is)) (places_in t)
-    ≡ Some (visit s elder at name t) ∷ map Some (visits_in rows (station rows s (entry name t))
+    → map (λ (p : List ℕ). visit_from rows s ts at elder 0 p (item name t is)) (places_in t)
+    ≡ Some (visit s ts elder at name t) ∷ map Some (visits_in rows (station rows s (entry name t)) ts
     (at + (2 + length name)) t)
-    → map (visit_below o rows s (at + (2 + length name) + length (value_bytes t)) (elder ++ name ∷ []) is)
+    → map (visit_below o rows s ts (at + (2 + length name) + length (value_bytes t)) (elder ++ name ∷ []) is)
     (places_from 0 is)
-    ≡ map Some (visits rows s (at + (2 + length name) + length (value_bytes t)) (elder ++ name ∷ []) is)
-    → map (visit_below o rows s at elder (item name t is)) (places_from 0 (item name t is))
-    ≡ map Some (visits rows s at elder (item name t is))
-by_item o rows s at elder name t is inside behind =
-    let f = visit_below o rows s at elder (item name t is) in
-    let g = visit_below o rows s (at + (2 + length name) + length (value_bytes t)) (elder ++ name ∷ []) is in
-    let within = visits_in rows (station rows s (entry name t)) (at + (2 + length name)) t in
-    let after = visits rows s (at + (2 + length name) + length (value_bytes t)) (elder ++ name ∷ []) is in
+    ≡ map Some (visits rows s ts (at + (2 + length name) + length (value_bytes t)) (elder ++ name ∷ []) is)
+    → map (visit_below o rows s ts at elder (item name t is)) (places_from 0 (item name t is))
+    ≡ map Some (visits rows s ts at elder (item name t is))
+by_item o rows s ts at elder name t is inside behind =
+    let f = visit_below o rows s ts at elder (item name t is) in
+    let g = visit_below o rows s ts (at + (2 + length name) + length (value_bytes t)) (elder ++ name ∷ []) is in
+    let within = visits_in rows (station rows s (entry name t)) ts (at + (2 + length name)) t in
+    let after = visits rows s ts (at + (2 + length name) + length (value_bytes t)) (elder ++ name ∷ []) is in
     let a = map-append f (map (λ (p : List ℕ). 0 ∷ p) (places_in t)) (places_from 1 is) in
     let b = map-map f (λ (p : List ℕ). 0 ∷ p) (places_in t) in
     let c : map f (places_from 1 is) ≡ map f (map next (places_from 0 is)) = ap (map f) (places_next 0 is) in
     let d = map-map f next (places_from 0 is) in
     let e : map (λ (p : List ℕ). f (next p)) (places_from 0 is) ≡ map g (places_from 0 is)
-    = map_same (λ (p : List ℕ). f (next p)) g (places_from 0 is) (below_next o rows s at elder name t is) in
+    = map_same (λ (p : List ℕ). f (next p)) g (places_from 0 is) (below_next o rows s ts at elder name t is) in
     let h = map-append (λ (v : Visit). Some v) within after in
-    let left : map f (map (λ (p : List ℕ). 0 ∷ p) (places_in t)) ≡ Some (visit s elder at name t) ∷ map Some within =
+    let left : map f (map (λ (p : List ℕ). 0 ∷ p) (places_in t)) ≡ Some (visit s ts elder at name t) ∷ map Some within =
     b ∙ inside in
     let right : map f (places_from 1 is) ≡ map Some after = c ∙ (d ∙ (e ∙ behind)) in
     a
     ∙ (ap (λ (xs : List (Option Visit)). xs ++ map f (places_from 1 is)) left
-    ∙ (ap (λ (ys : List (Option Visit)). Some (visit s elder at name t) ∷ (map Some within ++ ys)) right
-    ∙ ap (λ (ys : List (Option Visit)). Some (visit s elder at name t) ∷ ys) (sym h)))
+    ∙ (ap (λ (ys : List (Option Visit)). Some (visit s ts elder at name t) ∷ (map Some within ++ ys)) right
+    ∙ ap (λ (ys : List (Option Visit)). Some (visit s ts elder at name t) ∷ ys) (sym h)))
 
-within_node : (rows : List Row) (s : Station) (at : ℕ) (elder : List (List ℕ)) (name : List ℕ) (tag : ℕ) (js is : Items)
-    → map (visit_below (Some (visit s elder at name (node tag js))) rows (station rows s (entry name (node tag js)))
+within_node : (rows : List Row) (s : Station) (ts : Targets) (at : ℕ) (elder : List (List ℕ)) (name : List ℕ) (tag : ℕ)
+    (js is : Items)
+    → map
+    (visit_below (Some (visit s ts elder at name (node tag js))) rows (station rows s (entry name (node tag js)))
+    (pointed rows (station rows s (entry name (node tag js))) ts (at + (2 + length name)) js)
     (at + (2 + length name) + 4) [] js) (places_from 0 js)
-    ≡ map Some (visits rows (station rows s (entry name (node tag js))) (at + (2 + length name) + 4) [] js)
-    → map (λ (p : List ℕ). visit_from rows s at elder 0 p (item name (node tag js) is)) (places_in (node tag js))
-    ≡ Some (visit s elder at name (node tag js)) ∷ map Some
-    (visits_in rows (station rows s (entry name (node tag js))) (at + (2 + length name)) (node tag js))
-within_node rows s at elder name tag js is h =
-    let v = visit s elder at name (node tag js) in
+    ≡ map Some
+    (visits rows (station rows s (entry name (node tag js)))
+    (pointed rows (station rows s (entry name (node tag js))) ts (at + (2 + length name)) js)
+    (at + (2 + length name) + 4) [] js)
+    → map (λ (p : List ℕ). visit_from rows s ts at elder 0 p (item name (node tag js) is)) (places_in (node tag js))
+    ≡ Some (visit s ts elder at name (node tag js)) ∷ map Some
+    (visits_in rows (station rows s (entry name (node tag js))) ts (at + (2 + length name)) (node tag js))
+within_node rows s ts at elder name tag js is h =
+    let v = visit s ts elder at name (node tag js) in
     let u = station rows s (entry name (node tag js)) in
-    let f : List ℕ → Option Visit = λ p. visit_from rows s at elder 0 p (item name (node tag js) is) in
-    let g = visit_below (Some v) rows u (at + (2 + length name) + 4) [] js in
+    let f : List ℕ → Option Visit = λ p. visit_from rows s ts at elder 0 p (item name (node tag js) is) in
+    let g = visit_below (Some v) rows u (pointed rows u ts (at + (2 + length name)) js) (at + (2 + length name) + 4) []
+    js in
     ap (λ (vs : List (Option Visit)). Some v ∷ vs)
     (map_same f g (places_from 0 js) (λ p. elim p as (λ q. f q ≡ g q) [ [] ↦ refl | j ∷ q ↦ refl ]) ∙ h)
 
 mutual
-  places_within : (rows : List Row) (s : Station) (at : ℕ) (elder : List (List ℕ)) (name : List ℕ) (t : Tree)
+  places_within : (rows : List Row) (s : Station) (ts : Targets) (at : ℕ) (elder : List (List ℕ)) (name : List ℕ)
+      (t : Tree)
       (is : Items)
-      → map (λ (p : List ℕ). visit_from rows s at elder 0 p (item name t is)) (places_in t)
-      ≡ Some (visit s elder at name t) ∷ map Some (visits_in rows (station rows s (entry name t))
+      → map (λ (p : List ℕ). visit_from rows s ts at elder 0 p (item name t is)) (places_in t)
+      ≡ Some (visit s ts elder at name t) ∷ map Some (visits_in rows (station rows s (entry name t)) ts
       (at + (2 + length name)) t)
-  places_within rows s at elder name (leaf tag bytes) is = refl
-  places_within rows s at elder name (node tag js) is =
-      within_node rows s at elder name tag js is
-      (places_below (Some (visit s elder at name (node tag js))) rows (station rows s (entry name (node tag js)))
+  places_within rows s ts at elder name (leaf tag bytes) is = refl
+  places_within rows s ts at elder name (node tag js) is =
+      within_node rows s ts at elder name tag js is
+      (places_below (Some (visit s ts elder at name (node tag js))) rows (station rows s (entry name (node tag js)))
+      (pointed rows (station rows s (entry name (node tag js))) ts (at + (2 + length name)) js)
       (at + (2 + length name) + 4) [] js)
 
-  places_below : (o : Option Visit) (rows : List Row) (s : Station) (at : ℕ) (elder : List (List ℕ)) (is : Items)
-      → map (visit_below o rows s at elder is) (places_from 0 is) ≡ map Some (visits rows s at elder is)
-  places_below o rows s at elder no_items = refl
-  places_below o rows s at elder (item name t is) =
-      by_item o rows s at elder name t is
-      (places_within rows s at elder name t is)
-      (places_below o rows s (at + (2 + length name) + length (value_bytes t)) (elder ++ name ∷ []) is)
+  places_below : (o : Option Visit) (rows : List Row) (s : Station) (ts : Targets) (at : ℕ) (elder : List (List ℕ))
+      (is : Items)
+      → map (visit_below o rows s ts at elder is) (places_from 0 is) ≡ map Some (visits rows s ts at elder is)
+  places_below o rows s ts at elder no_items = refl
+  places_below o rows s ts at elder (item name t is) =
+      by_item o rows s ts at elder name t is
+      (places_within rows s ts at elder name t is)
+      (places_below o rows s ts (at + (2 + length name) + length (value_bytes t)) (elder ++ name ∷ []) is)
 
 -- the length of the value at a place below elements
 abbrev pub width_from : ℕ → List ℕ → Items → ℕ
 width_from i place is =
     unwrap_or (option_map (λ value. length (value_bytes value)) (option_and_then (tree_at place) (nth i is))) 0
 
-option_onward : (rows : List Row) (s : Station) (start width : ℕ) (l : Link) (o : Option Chain)
-    → option_map (visit_along rows s start width) (option_map (onward l) o)
-    ≡ option_map (visit_along rows (station rows s l.entry) start width) o
-option_onward rows s start width l None = refl
-option_onward rows s start width l (Some c) = refl
+option_onward : (rows : List Row) (s : Station) (ts : Targets) (start width : ℕ) (l : Link) (o : Option Chain)
+    → option_map (visit_along rows s ts start width) (option_map (onward l) o)
+    ≡ option_map (visit_along rows (station rows s l.entry) ts start width) o
+option_onward rows s ts start width l None = refl
+option_onward rows s ts start width l (Some c) = refl
 
 -- a place with what is carried down is the place read from its chain
-pub from_chain : (rows : List Row) (s : Station) (at : ℕ) (elder : List (List ℕ)) (i : ℕ) (place : List ℕ) (is : Items)
-    → visit_from rows s at elder i place is
-    ≡ option_map (visit_along rows s (unwrap_or (start_from i place at is) 0) (width_from i place is))
-    (chain_from elder i place is)
-from_chain rows s at elder i place no_items = refl
-from_chain rows s at elder zero [] (item name t is) = refl
-from_chain rows s at elder zero (j ∷ place) (item name (leaf tag bytes) is) = refl
-from_chain rows s at elder zero (j ∷ place) (item name (node tag js) is) =
-    from_chain rows (station rows s (entry name (node tag js))) (at + (2 + length name) + 4) [] j place js
-    ∙ sym (option_onward rows s _ _ (link elder name (node tag js)) (chain_from [] j place js))
-from_chain rows s at elder (suc i) place (item name t is) =
-    from_chain rows s (at + (2 + length name) + length (value_bytes t)) (elder ++ name ∷ []) i place is
+pub from_chain : (rows : List Row) (s : Station) (ts : Targets) (at : ℕ) (elder : List (List ℕ)) (i : ℕ)
+    (place : List ℕ) (is : Items)
+    → visit_from rows s ts at elder i place is
+    ≡ option_map (visit_along rows s (targets_from rows s ts at i place is)
+    (unwrap_or (start_from i place at is) 0) (width_from i place is)) (chain_from elder i place is)
+from_chain rows s ts at elder i place no_items = refl
+from_chain rows s ts at elder zero [] (item name t is) = refl
+from_chain rows s ts at elder zero (j ∷ place) (item name (leaf tag bytes) is) = refl
+from_chain rows s ts at elder zero (j ∷ place) (item name (node tag js) is) =
+    from_chain rows (station rows s (entry name (node tag js)))
+    (pointed rows (station rows s (entry name (node tag js))) ts (at + (2 + length name)) js)
+    (at + (2 + length name) + 4) [] j place js
+    ∙ sym (option_onward rows s _ _ _ (link elder name (node tag js)) (chain_from [] j place js))
+from_chain rows s ts at elder (suc i) place (item name t is) =
+    from_chain rows s ts (at + (2 + length name) + length (value_bytes t)) (elder ++ name ∷ []) i place is
 
 -- a place of a command below it
 pub visit_at_from : (rows : List Row) (at : ℕ) (c : Items) (i : ℕ) (place : List ℕ)
-    → visit_at rows at c (i ∷ place) ≡ visit_from rows (station rows Outside (command_entry c)) (at + 4) [] i place c
+    → visit_at rows at c (i ∷ place) ≡ visit_from rows (station rows Outside (command_entry c))
+    (pointed rows (station rows Outside (command_entry c)) [] at c) (at + 4) [] i place c
 visit_at_from rows at c i place =
-    option_onward rows Outside _ _ (link [] [] (node 3 c)) (chain_from [] i place c)
-    ∙ sym (from_chain rows (station rows Outside (command_entry c)) (at + 4) [] i place c)
+    option_onward rows Outside _ _ _ (link [] [] (node 3 c)) (chain_from [] i place c)
+    ∙ sym
+    (from_chain rows (station rows Outside (command_entry c))
+    (pointed rows (station rows Outside (command_entry c)) [] at c) (at + 4) [] i place c)
 
 -- a place of a command, by what is carried down
 pub visit_at_below : (rows : List Row) (at : ℕ) (c : Items) (place : List ℕ)
     → visit_at rows at c place
-    ≡ visit_below (Some (command_visit c)) rows (station rows Outside (command_entry c)) (at + 4) [] c place
+    ≡ visit_below (Some (command_visit c)) rows (station rows Outside (command_entry c))
+    (pointed rows (station rows Outside (command_entry c)) [] at c) (at + 4) [] c place
 visit_at_below rows at c [] = refl
 visit_at_below rows at c (i ∷ place) = visit_at_from rows at c i place
 
@@ -191,35 +212,39 @@ by_place rows at c =
     let s = station rows Outside (command_entry c) in
     let first = Some (command_visit c) in
     ap (λ (vs : List (Option Visit)). first ∷ vs)
-    (map_same (visit_at rows at c) (visit_below first rows s (at + 4) [] c) (places_from 0 c) (visit_at_below rows at c)
-    ∙ places_below first rows s (at + 4) [] c)
+    (map_same (visit_at rows at c) (visit_below first rows s (pointed rows s [] at c) (at + 4) [] c) (places_from 0 c)
+    (visit_at_below rows at c)
+    ∙ places_below first rows s (pointed rows s [] at c) (at + 4) [] c)
 
 -- the station of a place is told by its chain
-visit_station : (rows : List Row) (start width : ℕ) (o : Option Chain)
-    → option_map (station_of rows) (option_map (visit_along rows Outside start width) o)
+visit_station : (rows : List Row) (ts : Targets) (start width : ℕ) (o : Option Chain)
+    → option_map (station_of rows) (option_map (visit_along rows Outside ts start width) o)
     ≡ option_map (station_along rows Outside) o
-visit_station rows start width None = refl
-visit_station rows start width (Some links) = refl
+visit_station rows ts start width None = refl
+visit_station rows ts start width (Some links) = refl
 
 pub station_read : (rows : List Row) (at : ℕ) (c : Items) (place : List ℕ)
     → option_map (station_of rows) (visit_at rows at c place) ≡ station_at rows c place
-station_read rows at c place = visit_station rows (start_at at place c) (width_at place (node 3 c)) (chain place c)
+station_read rows at c place = visit_station rows (targets_at rows at c place) (start_at at place c)
+    (width_at place (node 3 c)) (chain place c)
 
 -- and so is its offence
 abbrev pub offence_by : List ℕ → Option Collection → List Row → Visit → Option Reason
-offence_by db info rows v = offence db info rows v.parent v.elder v.entry
+offence_by db info rows v = offence db info rows v.targets v.parent v.elder v.entry
 
-visit_offence : (db : List ℕ) (info : Option Collection) (rows : List Row) (s : Station) (start width : ℕ)
+visit_offence : (db : List ℕ) (info : Option Collection) (rows : List Row) (s : Station) (ts : Targets)
+    (start width : ℕ)
     (o : Option Chain)
-    → option_and_then (offence_by db info rows) (option_map (visit_along rows s start width) o)
-    ≡ option_and_then (offence_along db info rows s) o
-visit_offence db info rows s start width None = refl
-visit_offence db info rows s start width (Some links) = refl
+    → option_and_then (offence_by db info rows) (option_map (visit_along rows s ts start width) o)
+    ≡ option_and_then (offence_along db info rows s ts) o
+visit_offence db info rows s ts start width None = refl
+visit_offence db info rows s ts start width (Some links) = refl
 
 pub offence_read : (db : List ℕ) (info : Option Collection) (rows : List Row) (at : ℕ) (c : Items) (place : List ℕ)
-    → option_and_then (offence_by db info rows) (visit_at rows at c place) ≡ offence_at db info rows c place
+    → option_and_then (offence_by db info rows) (visit_at rows at c place) ≡ offence_at db info rows at c place
 offence_read db info rows at c place =
-    visit_offence db info rows Outside (start_at at place c) (width_at place (node 3 c)) (chain place c)
+    visit_offence db info rows Outside (targets_at rows at c place) (start_at at place c) (width_at place (node 3 c))
+    (chain place c)
 
 -- what each place is, in reading order
 pub stations_by_place : (rows : List Row) (at : ℕ) (c : Items)
@@ -233,10 +258,10 @@ stations_by_place rows at c =
 
 -- the offence of each place, in reading order
 pub offences_by_place : (db : List ℕ) (info : Option Collection) (rows : List Row) (at : ℕ) (c : Items)
-    → map (offence_at db info rows c) (places c) ≡ map (offence_by db info rows) (command_visits rows at c)
+    → map (offence_at db info rows at c) (places c) ≡ map (offence_by db info rows) (command_visits rows at c)
 offences_by_place db info rows at c =
     let f : Option Visit → Option Reason = λ o. option_and_then (offence_by db info rows) o in
-    map_same (offence_at db info rows c) (λ p. f (visit_at rows at c p)) (places c)
+    map_same (offence_at db info rows at c) (λ p. f (visit_at rows at c p)) (places c)
     (λ p. sym (offence_read db info rows at c p))
     ∙ sym (map-map f (visit_at rows at c) (places c))
     ∙ ap (map f) (by_place rows at c)
@@ -246,9 +271,10 @@ offences_by_place db info rows at c =
 
 -- a place inside a part, with what is carried down
 part_from : (rows : List Row) (s : Station) (at : ℕ) (is : Items) (o : Option Visit) (place : List ℕ)
-    → is_inside place ≡ true → part_visit_at rows s at is place ≡ visit_below o rows s (at + 4) [] is place
+    → is_inside place ≡ true → part_visit_at rows s at is place ≡ visit_below o rows s (pointed rows s [] at is)
+    (at + 4) [] is place
 part_from rows s at is o [] h = absurd (false≢true h)
-part_from rows s at is o (i ∷ place) h = sym (from_chain rows s (at + 4) [] i place is)
+part_from rows s at is o (i ∷ place) h = sym (from_chain rows s (pointed rows s [] at is) (at + 4) [] i place is)
 
 map_from : {B : Type 0} (f g : List ℕ → B) (i : ℕ) (is : Items)
     → ((place : List ℕ) → is_inside place ≡ true → f place ≡ g place)
@@ -265,39 +291,41 @@ map_from {B = B} f g i (item name t is) e =
 
 -- the places inside a part, each read from its chain, are those of one descent
 pub part_by_place : (rows : List Row) (s : Station) (at : ℕ) (is : Items)
-    → map (part_visit_at rows s at is) (places_from 0 is) ≡ map Some (visits rows s (at + 4) [] is)
+    → map (part_visit_at rows s at is) (places_from 0 is) ≡ map Some (part_visits rows s at is)
 part_by_place rows s at is =
-    map_from (part_visit_at rows s at is) (visit_below None rows s (at + 4) [] is) 0 is (part_from rows s at is None)
-    ∙ places_below None rows s (at + 4) [] is
+    map_from (part_visit_at rows s at is) (visit_below None rows s (pointed rows s [] at is) (at + 4) [] is) 0 is
+    (part_from rows s at is None)
+    ∙ places_below None rows s (pointed rows s [] at is) (at + 4) [] is
 
-part_visit_station : (rows : List Row) (s : Station) (start width : ℕ) (o : Option Chain)
-    → option_map (station_of rows) (option_map (visit_along rows s start width) o) ≡ option_map (station_along rows s) o
-part_visit_station rows s start width None = refl
-part_visit_station rows s start width (Some links) = refl
+part_visit_station : (rows : List Row) (s : Station) (ts : Targets) (start width : ℕ) (o : Option Chain)
+    → option_map (station_of rows) (option_map (visit_along rows s ts start width) o)
+    ≡ option_map (station_along rows s) o
+part_visit_station rows s ts start width None = refl
+part_visit_station rows s ts start width (Some links) = refl
 
 -- and so are their stations
 pub part_stations : (rows : List Row) (s : Station) (at : ℕ) (is : Items)
     → map (part_station_at rows s is) (places_from 0 is)
-    ≡ map (λ v. Some (station_of rows v)) (visits rows s (at + 4) [] is)
+    ≡ map (λ v. Some (station_of rows v)) (part_visits rows s at is)
 part_stations rows s at is =
     let f : Option Visit → Option Station = λ o. option_map (station_of rows) o in
     map_same (part_station_at rows s is) (λ p. f (part_visit_at rows s at is p)) (places_from 0 is)
-    (λ p. sym (part_visit_station rows s _ _ (chain_inside p is)))
+    (λ p. sym (part_visit_station rows s _ _ _ (chain_inside p is)))
     ∙ sym (map-map f (part_visit_at rows s at is) (places_from 0 is))
     ∙ ap (map f) (part_by_place rows s at is)
-    ∙ map-map f (λ (v : Visit). Some v) (visits rows s (at + 4) [] is)
+    ∙ map-map f (λ (v : Visit). Some v) (part_visits rows s at is)
 
 -- and their offences
 pub part_offences : (db : List ℕ) (info : Option Collection) (rows : List Row) (s : Station) (at : ℕ) (is : Items)
-    → map (part_offence_at db info rows s is) (places_from 0 is)
-    ≡ map (offence_by db info rows) (visits rows s (at + 4) [] is)
+    → map (part_offence_at db info rows s at is) (places_from 0 is)
+    ≡ map (offence_by db info rows) (part_visits rows s at is)
 part_offences db info rows s at is =
     let f : Option Visit → Option Reason = λ o. option_and_then (offence_by db info rows) o in
-    map_same (part_offence_at db info rows s is) (λ p. f (part_visit_at rows s at is p)) (places_from 0 is)
-    (λ p. sym (visit_offence db info rows s _ _ (chain_inside p is)))
+    map_same (part_offence_at db info rows s at is) (λ p. f (part_visit_at rows s at is p)) (places_from 0 is)
+    (λ p. sym (visit_offence db info rows s _ _ _ (chain_inside p is)))
     ∙ sym (map-map f (part_visit_at rows s at is) (places_from 0 is))
     ∙ ap (map f) (part_by_place rows s at is)
-    ∙ map-map f (λ (v : Visit). Some v) (visits rows s (at + 4) [] is)
+    ∙ map-map f (λ (v : Visit). Some v) (part_visits rows s at is)
 
 flat_marks : (rows : List Row) (vs : List Visit)
     → marks rows vs ≡ flat_map (λ v. mark_at (station_of rows v) v) vs

@@ -4,10 +4,12 @@ use Rattle.std.specs.Prelude.{option_map, option_and_then, is_some}
 use Rattle.bson_tree.specs.Tree.{node, Items}
 use Rattle.encrypt_schema.specs.Language.Row.{Row}
 use Rattle.encrypt_schema.specs.Commands.Stations.{Station, Outside, station}
+use Rattle.encrypt_schema.specs.Commands.Pointers.{Targets, pointed}
+use Rattle.encrypt_schema.proofs.Commands.Pointed.{seen_pointed, pointed_kept}
 use Rattle.encrypt_schema.specs.Commands.Visits.{command_entry, Visit}
 use Rattle.encrypt_schema.specs.Language.Collection.{Collection}
 use Rattle.encrypt_schema.specs.Commands.Offences.{first_reason}
-use Rattle.encrypt_schema.specs.Commands.Skeletons.{branch, Skeletons, skeleton}
+use Rattle.encrypt_schema.specs.Commands.Skeletons.{branch, Skeletons, skeletons, skeleton}
 use Rattle.encrypt_schema.specs.Commands.Chains.{link, chain_from, visit_at, offence_at, is_shown}
 use Rattle.encrypt_schema.proofs.Commands.Tables.{command_without_role}
 use Rattle.encrypt_schema.proofs.Commands.Widths.{entry_in, names_kept}
@@ -19,7 +21,8 @@ use Rattle.encrypt_schema.proofs.Commands.ShownPlaces.{seen_from, shows_node, sh
 -- a place below a command that begins at `at`, read from its skeleton
 abbrev pub seen_below : List Row → ℕ → Skeletons → ℕ → List ℕ → Option Visit
 seen_below rows at ks i place =
-    seen_from rows (station rows Outside (entry_in [] (branch 3 ks))) (at + 4) [] i place ks
+    seen_from rows (station rows Outside (entry_in [] (branch 3 ks)))
+    (seen_pointed rows (station rows Outside (entry_in [] (branch 3 ks))) [] at ks) (at + 4) [] i place ks
 
 command_station : (rows : List Row) (c : Items)
     → station rows Outside (command_entry c) ≡ station rows Outside (entry_in [] (branch 3 (skeleton rows c)))
@@ -39,8 +42,10 @@ shown_below : (rows : List Row) (c : Items) (i : ℕ) (place : List ℕ)
 shown_below rows c i place =
     let u = station rows Outside (command_entry c) in
     shows_node rows Outside (link [] [] (node 3 c)) (chain_from [] i place c) false _
-    (command_without_role rows (command_entry c)) (shows_seen rows u 4 [] i place c)
-    ∙ ap (λ (s : Station). is_some (seen_from rows s 4 [] i place (skeleton rows c))) (command_station rows c)
+    (command_without_role rows (command_entry c)) (shows_seen rows u (pointed rows u [] 0 c) 4 [] i place c)
+    ∙ ap (λ (x : Targets). is_some (seen_from rows u x 4 [] i place (skeletons rows u c))) (pointed_kept rows u [] 0 c)
+    ∙ ap (λ (s : Station). is_some (seen_from rows s (seen_pointed rows s [] 0 (skeleton rows c)) 4 [] i place
+    (skeleton rows c))) (command_station rows c)
 
 veiled_below : (rows : List Row) (at : ℕ) (c : Items) (i : ℕ) (place : List ℕ) → is_shown rows c (i ∷ place) ≡ true
     → option_map (veil rows) (visit_at rows at c (i ∷ place)) ≡ seen_below rows at (skeleton rows c) i place
@@ -48,9 +53,12 @@ veiled_below rows at c i place h =
     let u = station rows Outside (command_entry c) in
     ap (option_map (veil rows)) (visit_at_from rows at c i place)
     ∙ (veiled_node rows Outside (link [] [] (node 3 c)) (chain_from [] i place c) false
-    (visit_from rows u (at + 4) [] i place c) _ (command_without_role rows (command_entry c))
-    (veiled_seen rows u (at + 4) [] i place c) h
-    ∙ ap (λ (s : Station). seen_from rows s (at + 4) [] i place (skeleton rows c)) (command_station rows c))
+    (visit_from rows u (pointed rows u [] at c) (at + 4) [] i place c) _ (command_without_role rows (command_entry c))
+    (veiled_seen rows u (pointed rows u [] at c) (at + 4) [] i place c) h
+    ∙ ap (λ (x : Targets). seen_from rows u x (at + 4) [] i place (skeletons rows u c)) (pointed_kept rows u [] at c)
+    ∙ ap
+    (λ (s : Station). seen_from rows s (seen_pointed rows s [] at (skeleton rows c)) (at + 4) [] i place
+    (skeleton rows c)) (command_station rows c))
 
 -- commands with equal skeletons have the same places with no protected ancestor
 pub equal_shown : (rows : List Row) (c d : Items) → skeleton rows c ≡ skeleton rows d → (place : List ℕ)
@@ -87,16 +95,16 @@ offence_behind db info rows None = refl
 offence_behind db info rows (Some v) = offence_veiled db info rows v
 
 -- and has the same offence
-pub equal_offences : (db : List ℕ) (info : Option Collection) (rows : List Row) (c d : Items)
+pub equal_offences : (db : List ℕ) (info : Option Collection) (rows : List Row) (at : ℕ) (c d : Items)
     → skeleton rows c ≡ skeleton rows d → (place : List ℕ)
     → is_shown rows c place ≡ true
-    → offence_at db info rows c place ≡ offence_at db info rows d place
-equal_offences db info rows c d e place h =
-    sym (offence_read db info rows 0 c place)
-    ∙ sym (offence_behind db info rows (visit_at rows 0 c place))
-    ∙ ap (option_and_then (offence_by db info rows)) (equal_visits rows 0 c d e place h)
-    ∙ offence_behind db info rows (visit_at rows 0 d place)
-    ∙ offence_read db info rows 0 d place
+    → offence_at db info rows at c place ≡ offence_at db info rows at d place
+equal_offences db info rows at c d e place h =
+    sym (offence_read db info rows at c place)
+    ∙ sym (offence_behind db info rows (visit_at rows at c place))
+    ∙ ap (option_and_then (offence_by db info rows)) (equal_visits rows at c d e place h)
+    ∙ offence_behind db info rows (visit_at rows at d place)
+    ∙ offence_read db info rows at d place
 
 start_behind : (rows : List Row) (o : Option Visit)
     → option_map (λ v. v.start) (option_map (veil rows) o) ≡ option_map (λ v. v.start) o

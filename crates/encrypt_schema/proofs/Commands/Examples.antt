@@ -75,7 +75,14 @@ find_in collection filter projection =
 
 -- the mark from one offset to another
 abbrev pub mark_at : ℕ → ℕ → ℕ → ℕ → Role → Mark
-mark_at start end tag policy why = record { start = start; end = end; tag = tag; policy = policy; role = why }
+mark_at start end tag policy why = record {
+  start = start;
+  end = end;
+  tag = tag;
+  policy = policy;
+  role = why;
+  name = None;
+}
 
 -- the refusal for a reason at an offset
 abbrev pub refusal : Reason → ℕ → Option Refusal

@@ -23,6 +23,7 @@ use Rattle.encrypt_schema.specs.Commands.Stations.{is_operators, is_dollar_first
 use Rattle.encrypt_schema.specs.Commands.Stations.{is_membership, is_set, is_random_field, dotted, stored_at, tested_at}
 use Rattle.encrypt_schema.specs.Commands.Stations.{compared_with, command_of, station}
 use Rattle.encrypt_schema.specs.Commands.Offences.{is_marked, is_view, when, least, target_offence, view_offence}
+use Rattle.encrypt_schema.specs.Commands.Pointers.{Targets, pointed}
 use Rattle.encrypt_schema.specs.Commands.Visits.{names_of, entry, Visit, visit, visits_in, visits, command_visit}
 use Rattle.encrypt_schema.specs.Commands.Visits.{command_visits, target_of, view_of, Refusal, refused_at, or_else}
 use Rattle.encrypt_schema.specs.Commands.Visits.{first_refusal, target_verdict}
@@ -133,49 +134,53 @@ pub view_shallow : (info : Option Collection) → IsShallow (view_of info)
 view_shallow info = record { clear = λ v h. view_inner info v.parent v.elder v.entry h }
 
 mutual
-  nothing_in : (pass : Visit → Option Reason) (rows : List Row) (s : Station) (at : ℕ) (t : Tree) → IsShallow pass
+  nothing_in : (pass : Visit → Option Reason) (rows : List Row) (s : Station) (ts : Targets) (at : ℕ) (t : Tree)
+      → IsShallow pass
       → is_inner s ≡ true
-      → first_refusal pass (visits_in rows s at t) ≡ None
-  nothing_in pass rows s at (leaf tag bytes) p h = refl
-  nothing_in pass rows s at (node tag is) p h = nothing_among pass rows s (at + 4) [] is p h
+      → first_refusal pass (visits_in rows s ts at t) ≡ None
+  nothing_in pass rows s ts at (leaf tag bytes) p h = refl
+  nothing_in pass rows s ts at (node tag is) p h = nothing_among pass rows s (pointed rows s ts at is) (at + 4) [] is p
+      h
 
-  nothing_among : (pass : Visit → Option Reason) (rows : List Row) (s : Station) (at : ℕ) (elder : List (List ℕ))
+  nothing_among : (pass : Visit → Option Reason) (rows : List Row) (s : Station) (ts : Targets) (at : ℕ)
+      (elder : List (List ℕ))
       (is : Items) → IsShallow pass → is_inner s ≡ true
-      → first_refusal pass (visits rows s at elder is) ≡ None
-  nothing_among pass rows s at elder no_items p h = refl
-  nothing_among pass rows s at elder (item name t is) p h =
+      → first_refusal pass (visits rows s ts at elder is) ≡ None
+  nothing_among pass rows s ts at elder no_items p h = refl
+  nothing_among pass rows s ts at elder (item name t is) p h =
       let u = station rows s (entry name t) in
-      let inside = visits_in rows u (at + (2 + length name)) t in
-      let behind = visits rows s (at + (2 + length name) + length (value_bytes t)) (elder ++ name ∷ []) is in
+      let inside = visits_in rows u ts (at + (2 + length name)) t in
+      let behind = visits rows s ts (at + (2 + length name) + length (value_bytes t)) (elder ++ name ∷ []) is in
       ap (λ (r : Option Reason). or_else (refused_at (at + (2 + length name)) r)
-      (first_refusal pass (inside ++ behind))) (p.clear (visit s elder at name t) h)
+      (first_refusal pass (inside ++ behind))) (p.clear (visit s ts elder at name t) h)
       ∙ refusal_append pass inside behind
       ∙ ap₂ or_else
-      (nothing_in pass rows u (at + (2 + length name)) t p (inner_child rows s (entry name t) (not_outside s h)))
-      (nothing_among pass rows s (at + (2 + length name) + length (value_bytes t)) (elder ++ name ∷ []) is p h)
+      (nothing_in pass rows u ts (at + (2 + length name)) t p (inner_child rows s (entry name t) (not_outside s h)))
+      (nothing_among pass rows s ts (at + (2 + length name) + length (value_bytes t)) (elder ++ name ∷ []) is p h)
 
 -- the first refusal in a pass of the fields of a document at this station, without what is inside them
-abbrev pub fields_refusal : (Visit → Option Reason) → Station → ℕ → List (List ℕ) → Items → Option Refusal
-fields_refusal pass s at elder no_items = None
-fields_refusal pass s at elder (item name t is) =
+abbrev pub fields_refusal : (Visit → Option Reason) → Station → Targets → ℕ → List (List ℕ) → Items → Option Refusal
+fields_refusal pass s ts at elder no_items = None
+fields_refusal pass s ts at elder (item name t is) =
     or_else
-    (refused_at (at + (2 + length name)) (pass (visit s elder at name t)))
-    (fields_refusal pass s (at + (2 + length name) + length (value_bytes t)) (elder ++ name ∷ []) is)
+    (refused_at (at + (2 + length name)) (pass (visit s ts elder at name t)))
+    (fields_refusal pass s ts (at + (2 + length name) + length (value_bytes t)) (elder ++ name ∷ []) is)
 
 -- such a pass reads the fields of a command alone
-pub fields_alone : (pass : Visit → Option Reason) (rows : List Row) (s : Station) (at : ℕ) (elder : List (List ℕ))
+pub fields_alone : (pass : Visit → Option Reason) (rows : List Row) (s : Station) (ts : Targets) (at : ℕ)
+    (elder : List (List ℕ))
     (is : Items) → IsShallow pass → is_outside s ≡ false
-    → first_refusal pass (visits rows s at elder is) ≡ fields_refusal pass s at elder is
-fields_alone pass rows s at elder no_items p h = refl
-fields_alone pass rows s at elder (item name t is) p h =
+    → first_refusal pass (visits rows s ts at elder is) ≡ fields_refusal pass s ts at elder is
+fields_alone pass rows s ts at elder no_items p h = refl
+fields_alone pass rows s ts at elder (item name t is) p h =
     let u = station rows s (entry name t) in
-    let inside = visits_in rows u (at + (2 + length name)) t in
-    let behind = visits rows s (at + (2 + length name) + length (value_bytes t)) (elder ++ name ∷ []) is in
-    ap (or_else (refusal pass (visit s elder at name t)))
+    let inside = visits_in rows u ts (at + (2 + length name)) t in
+    let behind = visits rows s ts (at + (2 + length name) + length (value_bytes t)) (elder ++ name ∷ []) is in
+    ap (or_else (refusal pass (visit s ts elder at name t)))
     (refusal_append pass inside behind
     ∙ ap₂ or_else
-    (nothing_in pass rows u (at + (2 + length name)) t p (inner_child rows s (entry name t) h))
-    (fields_alone pass rows s (at + (2 + length name) + length (value_bytes t)) (elder ++ name ∷ []) is p h))
+    (nothing_in pass rows u ts (at + (2 + length name)) t p (inner_child rows s (entry name t) h))
+    (fields_alone pass rows s ts (at + (2 + length name) + length (value_bytes t)) (elder ++ name ∷ []) is p h))
 
 outside_cond : (b : Bool) (s u : Station) → is_outside s ≡ false → is_outside u ≡ false
     → is_outside (cond b s u) ≡ false
@@ -193,10 +198,12 @@ command_inside (n ∷ ns) =
 -- the first refusal of a command in such a pass, by itself and its fields
 pub command_alone : (pass : Visit → Option Reason) (rows : List Row) (at : ℕ) (c : Items) → IsShallow pass
     → first_refusal pass (command_visits rows at c)
-    ≡ or_else (refused_at 0 (pass (command_visit c))) (fields_refusal pass (command_of (names_of c)) (at + 4) [] c)
+    ≡ or_else (refused_at 0 (pass (command_visit c)))
+    (fields_refusal pass (command_of (names_of c)) (pointed rows (command_of (names_of c)) [] at c) (at + 4) [] c)
 command_alone pass rows at c p =
     ap (or_else (refusal pass (command_visit c)))
-    (fields_alone pass rows (command_of (names_of c)) (at + 4) [] c p (command_inside (names_of c)))
+    (fields_alone pass rows (command_of (names_of c)) (pointed rows (command_of (names_of c)) [] at c) (at + 4) [] c p
+    (command_inside (names_of c)))
 
 -- the target pass whatever the rules are
 pub target_anyhow : (db : List ℕ) (rows : List Row) (at : ℕ) (c : Items)
@@ -211,16 +218,17 @@ not_first : (marked view : Bool) → least (when (marked && false && view) View)
 not_first true view = refl
 not_first false view = refl
 
-later_views : (info : Option Collection) (s : Station) (at : ℕ) (first : List ℕ) (elder : List (List ℕ)) (is : Items)
-    → fields_refusal (view_of info) s at (first ∷ elder) is ≡ None
+later_views : (info : Option Collection) (s : Station) (ts : Targets) (at : ℕ) (first : List ℕ) (elder : List (List ℕ))
+    (is : Items)
+    → fields_refusal (view_of info) s ts at (first ∷ elder) is ≡ None
 unfolding view_offence
-later_views info s at first elder no_items = refl
-later_views info s at first elder (item name t is) =
-    let behind = fields_refusal (view_of info) s (at + (2 + length name) + length (value_bytes t))
+later_views info s ts at first elder no_items = refl
+later_views info s ts at first elder (item name t is) =
+    let behind = fields_refusal (view_of info) s ts (at + (2 + length name) + length (value_bytes t))
     (first ∷ (elder ++ name ∷ [])) is in
     ap (λ (r : Option Reason). or_else (refused_at (at + (2 + length name)) r) behind)
     (not_first (is_marked s) (is_view info))
-    ∙ later_views info s (at + (2 + length name) + length (value_bytes t)) first (elder ++ name ∷ []) is
+    ∙ later_views info s ts (at + (2 + length name) + length (value_bytes t)) first (elder ++ name ∷ []) is
 
 nothing_behind : (r : Option Refusal) → or_else r None ≡ r
 nothing_behind None = refl
@@ -240,5 +248,5 @@ view_alone info rows at name t is =
     let s = command_of (name ∷ names_of is) in
     let own = refused_at (at + 4 + (2 + length name)) (least (when (is_marked s && true && is_view info) View)) in
     command_alone (view_of info) rows at (item name t is) (view_shallow info)
-    ∙ ap (or_else own) (later_views info s (at + 4 + (2 + length name) + length (value_bytes t)) name [] is)
+    ∙ ap (or_else own) (later_views info s [] (at + 4 + (2 + length name) + length (value_bytes t)) name [] is)
     ∙ nothing_behind own

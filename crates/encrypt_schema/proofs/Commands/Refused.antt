@@ -12,12 +12,13 @@ use Rattle.encrypt_schema.specs.Language.Collection.{Collection}
 use Rattle.encrypt_schema.specs.Language.Row.{Row}
 use Rattle.encrypt_schema.specs.Commands.Stations.{Station, Outside, station, has_role, is_silent}
 use Rattle.encrypt_schema.specs.Commands.Offences.{first_reason}
+use Rattle.encrypt_schema.specs.Commands.Pointers.{Targets}
 use Rattle.encrypt_schema.specs.Commands.Visits.{Visit, command_visits, target_of, view_of, content_of, Refusal}
 use Rattle.encrypt_schema.specs.Commands.Visits.{refused_at, or_else, first_refusal, verdict_on}
 use Rattle.encrypt_schema.specs.Commands.Skeletons.{skeleton}
 use Rattle.encrypt_schema.specs.Commands.Chains.{Chain, last, onward, chain, parent_along, visit_along, visit_at}
 use Rattle.encrypt_schema.specs.Commands.Chains.{width_at, start_at, offence_at, refusal_at, first_of, first_refusal_at}
-use Rattle.encrypt_schema.specs.Commands.Chains.{is_below_role, is_shown}
+use Rattle.encrypt_schema.specs.Commands.Chains.{targets_at, is_below_role, is_shown}
 use Rattle.encrypt_schema.proofs.Commands.Silence.{IsQuiet, child_passed, role_silent, target_quiet, view_quiet}
 use Rattle.encrypt_schema.proofs.Commands.Silence.{content_quiet}
 use Rattle.encrypt_schema.proofs.Commands.Worlds.{IsVeiled, veil, target_veiled, view_veiled, content_veiled}
@@ -100,7 +101,7 @@ pub record Refused (db : List ℕ) (info : Option Collection) (rows : List Row) 
   pub read : IsVeiled pass rows
   pub place : List ℕ
   pub is : refusal_at pass rows 0 c place ≡ Some r
-  pub offence : offence_at db info rows c place ≡ Some r.reason
+  pub offence : offence_at db info rows 0 c place ≡ Some r.reason
 
 -- by the first pass that refuses
 refused_by : (db : List ℕ) (info : Option Collection) (rows : List Row) (c : Items) (r : Refusal)
@@ -171,30 +172,33 @@ below_silent rows s (onward l rest) h =
     below_cases rows (station rows s l.entry) rest (has_role (station rows s l.entry)) refl h
     (below_silent rows (station rows s l.entry) rest)
 
-shown_by : (pass : Visit → Option Reason) (rows : List Row) (start width : ℕ) (links : Chain) (r : Refusal) (b : Bool)
+shown_by : (pass : Visit → Option Reason) (rows : List Row) (ts : Targets) (start width : ℕ) (links : Chain)
+    (r : Refusal) (b : Bool)
     → IsQuiet pass
-    → is_below_role rows Outside links ≡ b → refusal pass (visit_along rows Outside start width links) ≡ Some r
+    → is_below_role rows Outside links ≡ b → refusal pass (visit_along rows Outside ts start width links) ≡ Some r
     → not b ≡ true
-shown_by pass rows start width links r true quiet h e =
-    let none = quiet.clear (visit_along rows Outside start width links) (below_silent rows Outside links h) in
+shown_by pass rows ts start width links r true quiet h e =
+    let none = quiet.clear (visit_along rows Outside ts start width links) (below_silent rows Outside links h) in
     let gone = sym (ap (refused_at start) none) ∙ e in
     absurd cc
-shown_by pass rows start width links r false quiet h e = refl
+shown_by pass rows ts start width links r false quiet h e = refl
 
-shown_in : (pass : Visit → Option Reason) (rows : List Row) (start width : ℕ) (o : Option Chain) (r : Refusal)
+shown_in : (pass : Visit → Option Reason) (rows : List Row) (ts : Targets) (start width : ℕ) (o : Option Chain)
+    (r : Refusal)
     → IsQuiet pass
-    → option_and_then (refusal pass) (option_map (visit_along rows Outside start width) o) ≡ Some r
+    → option_and_then (refusal pass) (option_map (visit_along rows Outside ts start width) o) ≡ Some r
     → option_map_or (λ links. not (is_below_role rows Outside links)) o false ≡ true
-shown_in pass rows start width None r quiet e = absurd cc
-shown_in pass rows start width (Some links) r quiet e =
-    shown_by pass rows start width links r (is_below_role rows Outside links) quiet refl e
+shown_in pass rows ts start width None r quiet e = absurd cc
+shown_in pass rows ts start width (Some links) r quiet e =
+    shown_by pass rows ts start width links r (is_below_role rows Outside links) quiet refl e
 
 -- a place that is refused has no protected ancestor
 pub refused_shown : (pass : Visit → Option Reason) (rows : List Row) (c : Items) (place : List ℕ) (r : Refusal)
     → IsQuiet pass
     → refusal_at pass rows 0 c place ≡ Some r → is_shown rows c place ≡ true
 refused_shown pass rows c place r quiet e =
-    shown_in pass rows (start_at 0 place c) (width_at place (node 3 c)) (chain place c) r quiet e
+    shown_in pass rows (targets_at rows 0 c place) (start_at 0 place c) (width_at place (node 3 c)) (chain place c) r
+    quiet e
 
 refusal_veiled : (pass : Visit → Option Reason) (rows : List Row) (o : Option Visit) → IsVeiled pass rows
     → option_and_then (refusal pass) (option_map (veil rows) o) ≡ option_and_then (refusal pass) o
@@ -263,7 +267,7 @@ none_at db info rows v =
 -- nothing is refused exactly where no place has an offence
 pub accepted : (db : List ℕ) (info : Option Collection) (rows : List Row) (at : ℕ) (c : Items)
     → is_none (verdict_on db info rows (command_visits rows at c))
-    ≡ list_all is_none (map (offence_at db info rows c) (places c))
+    ≡ list_all is_none (map (offence_at db info rows at c) (places c))
 accepted db info rows at c =
     let vs = command_visits rows at c in
     let t : Visit → Bool = λ v. is_none (target_of db v) in

@@ -19,6 +19,7 @@ use Rattle.encrypt_schema.specs.Commands.Stations.{Store, Compare, Bare, Passed,
 use Rattle.encrypt_schema.specs.Commands.Stations.{is_array, is_operators, is_dollar_first, has_name, is_logical}
 use Rattle.encrypt_schema.specs.Commands.Stations.{is_equality, is_membership, is_set, is_random_field, dotted}
 use Rattle.encrypt_schema.specs.Commands.Stations.{command_of, update_of, stored_at, tested_at, compared_with, station}
+use Rattle.encrypt_schema.specs.Commands.Pointers.{Targets, pointed}
 use Rattle.encrypt_schema.specs.Commands.Visits.{entry, command_entry, Visit, visit, visits_in, visits, command_visit}
 use Rattle.encrypt_schema.specs.Commands.Visits.{mark_at, marks, roles}
 use Rattle.encrypt_schema.proofs.Commands.Silence.{marks_append}
@@ -149,31 +150,33 @@ ruled_mark n (Compare i) v h = (h, tt)
 ruled_mark n _ v h = tt
 
 mutual
-  ruled_in : (rows : List Row) (s : Station) (at : ℕ) (t : Tree) → IsRuled (length rows) s
-      → AreRuled (length rows) (marks rows (visits_in rows s at t))
-  ruled_in rows s at (leaf tag bytes) h = tt
-  ruled_in rows s at (node tag is) h = ruled_among rows s (at + 4) [] is h
+  ruled_in : (rows : List Row) (s : Station) (ts : Targets) (at : ℕ) (t : Tree) → IsRuled (length rows) s
+      → AreRuled (length rows) (marks rows (visits_in rows s ts at t))
+  ruled_in rows s ts at (leaf tag bytes) h = tt
+  ruled_in rows s ts at (node tag is) h = ruled_among rows s (pointed rows s ts at is) (at + 4) [] is h
 
-  ruled_among : (rows : List Row) (s : Station) (at : ℕ) (elder : List (List ℕ)) (is : Items) → IsRuled (length rows) s
-      → AreRuled (length rows) (marks rows (visits rows s at elder is))
-  ruled_among rows s at elder no_items h = tt
-  ruled_among rows s at elder (item name t is) h =
+  ruled_among : (rows : List Row) (s : Station) (ts : Targets) (at : ℕ) (elder : List (List ℕ)) (is : Items)
+      → IsRuled (length rows) s
+      → AreRuled (length rows) (marks rows (visits rows s ts at elder is))
+  ruled_among rows s ts at elder no_items h = tt
+  ruled_among rows s ts at elder (item name t is) h =
       let u = station rows s (entry name t) in
       let here : IsRuled (length rows) u = station_ruled rows s (entry name t) h in
-      let inside = visits_in rows u (at + (2 + length name)) t in
-      let behind = visits rows s (at + (2 + length name) + length (value_bytes t)) (elder ++ name ∷ []) is in
-      ruled_append (length rows) (mark_at u (visit s elder at name t)) (marks rows (inside ++ behind))
-      (ruled_mark (length rows) u (visit s elder at name t) here)
+      let inside = visits_in rows u ts (at + (2 + length name)) t in
+      let behind = visits rows s ts (at + (2 + length name) + length (value_bytes t)) (elder ++ name ∷ []) is in
+      ruled_append (length rows) (mark_at u (visit s ts elder at name t)) (marks rows (inside ++ behind))
+      (ruled_mark (length rows) u (visit s ts elder at name t) here)
       (subst (AreRuled (length rows)) (sym (marks_append rows inside behind))
       (ruled_append (length rows) (marks rows inside) (marks rows behind)
-      (ruled_in rows u (at + (2 + length name)) t here)
-      (ruled_among rows s (at + (2 + length name) + length (value_bytes t)) (elder ++ name ∷ []) is h)))
+      (ruled_in rows u ts (at + (2 + length name)) t here)
+      (ruled_among rows s ts (at + (2 + length name) + length (value_bytes t)) (elder ++ name ∷ []) is h)))
 
 -- the numbers of the marks of a command are those of rules
 pub roles_ruled : (rows : List Row) (at : ℕ) (c : Items) → AreRuled (length rows) (roles rows at c)
 roles_ruled rows at c =
     let s = station rows Outside (command_entry c) in
     let here : IsRuled (length rows) s = station_ruled rows Outside (command_entry c) tt in
-    ruled_append (length rows) (mark_at s (command_visit c)) (marks rows (visits rows s (at + 4) [] c))
+    ruled_append (length rows) (mark_at s (command_visit c))
+    (marks rows (visits rows s (pointed rows s [] at c) (at + 4) [] c))
     (ruled_mark (length rows) s (command_visit c) here)
-    (ruled_among rows s (at + 4) [] c here)
+    (ruled_among rows s (pointed rows s [] at c) (at + 4) [] c here)

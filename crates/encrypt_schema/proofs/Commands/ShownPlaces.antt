@@ -9,6 +9,8 @@ use Rattle.bson_tree.specs.Tree.{leaf, node, Items, no_items, item}
 use Rattle.bson_tree.specs.Spelling.{framed, value_bytes, items_bytes}
 use Rattle.encrypt_schema.specs.Language.Row.{Row}
 use Rattle.encrypt_schema.specs.Commands.Stations.{Station, Outside, Store, Compare, Passed, station, has_role}
+use Rattle.encrypt_schema.specs.Commands.Pointers.{Targets, pointed}
+use Rattle.encrypt_schema.proofs.Commands.Pointed.{seen_pointed, pointed_kept}
 use Rattle.encrypt_schema.specs.Commands.Visits.{is_payload, entry, Visit}
 use Rattle.encrypt_schema.specs.Commands.Skeletons.{Skeleton, hole, plain, branch, Skeletons, no_more, more}
 use Rattle.encrypt_schema.specs.Commands.Skeletons.{skeleton_in, skeletons, width_of}
@@ -57,18 +59,18 @@ no_role_below rows c place h = no_role_in rows (chain place c) h
 
 -- a place, read from a skeleton
 abbrev mutual
-  pub seen_in : List Row → Station → ℕ → ℕ → List ℕ → Skeleton → Option Visit
-  seen_in rows s at i place (hole tag width payload) = None
-  seen_in rows s at i place (plain tag bytes) = None
-  seen_in rows s at i place (branch tag ks) = seen_from rows s (at + 4) [] i place ks
+  pub seen_in : List Row → Station → Targets → ℕ → ℕ → List ℕ → Skeleton → Option Visit
+  seen_in rows s ts at i place (hole tag width payload) = None
+  seen_in rows s ts at i place (plain tag bytes) = None
+  seen_in rows s ts at i place (branch tag ks) = seen_from rows s (seen_pointed rows s ts at ks) (at + 4) [] i place ks
 
-  pub seen_from : List Row → Station → ℕ → List (List ℕ) → ℕ → List ℕ → Skeletons → Option Visit
-  seen_from rows s at elder i place no_more = None
-  seen_from rows s at elder zero [] (more name k ks) = Some (skeleton_visit s elder at name k)
-  seen_from rows s at elder zero (j ∷ place) (more name k ks) =
-      seen_in rows (station rows s (entry_in name k)) (at + (2 + length name)) j place k
-  seen_from rows s at elder (suc i) place (more name k ks) =
-      seen_from rows s (at + (2 + length name) + width_of k) (elder ++ name ∷ []) i place ks
+  pub seen_from : List Row → Station → Targets → ℕ → List (List ℕ) → ℕ → List ℕ → Skeletons → Option Visit
+  seen_from rows s ts at elder i place no_more = None
+  seen_from rows s ts at elder zero [] (more name k ks) = Some (skeleton_visit s ts elder at name k)
+  seen_from rows s ts at elder zero (j ∷ place) (more name k ks) =
+      seen_in rows (station rows s (entry_in name k)) ts (at + (2 + length name)) j place k
+  seen_from rows s ts at elder (suc i) place (more name k ks) =
+      seen_from rows s ts (at + (2 + length name) + width_of k) (elder ++ name ∷ []) i place ks
 
 -- no ancestor is protected
 abbrev pub shows : List Row → Station → Option Chain → Bool
@@ -86,52 +88,59 @@ shows_node rows s l None false seen h p = p
 shows_node rows s l (Some links) false seen h p =
     ap (λ (b : Bool). not (b || is_below_role rows (station rows s l.entry) links)) h ∙ p
 
-seen_hidden : (rows : List Row) (u v : Station) (at i : ℕ) (place : List ℕ) (tag width : ℕ) (ks : Skeletons)
-    → seen_in rows v at i place (cond (has_role u) (hole tag width false) (branch tag ks))
-    ≡ cond (has_role u) None (seen_from rows v (at + 4) [] i place ks)
-seen_hidden rows u v at i place tag width ks =
-    elim (has_role u) as (λ b. seen_in rows v at i place (cond b (hole tag width false) (branch tag ks))
-    ≡ cond b None (seen_from rows v (at + 4) [] i place ks))
+seen_hidden : (rows : List Row) (u v : Station) (ts : Targets) (at i : ℕ) (place : List ℕ) (tag width : ℕ)
+    (ks : Skeletons)
+    → seen_in rows v ts at i place (cond (has_role u) (hole tag width false) (branch tag ks))
+    ≡ cond (has_role u) None (seen_from rows v (seen_pointed rows v ts at ks) (at + 4) [] i place ks)
+seen_hidden rows u v ts at i place tag width ks =
+    elim (has_role u) as (λ b. seen_in rows v ts at i place (cond b (hole tag width false) (branch tag ks))
+    ≡ cond b None (seen_from rows v (seen_pointed rows v ts at ks) (at + 4) [] i place ks))
     [ true ↦ refl | false ↦ refl ]
 
-seen_leaf : (rows : List Row) (u v : Station) (at i : ℕ) (place : List ℕ) (tag : ℕ) (bytes : List ℕ)
-    → seen_in rows v at i place (skeleton_in rows u (leaf tag bytes)) ≡ None
-seen_leaf rows u v at i place tag bytes =
-    elim (has_role u) as (λ b. seen_in rows v at i place
+seen_leaf : (rows : List Row) (u v : Station) (ts : Targets) (at i : ℕ) (place : List ℕ) (tag : ℕ) (bytes : List ℕ)
+    → seen_in rows v ts at i place (skeleton_in rows u (leaf tag bytes)) ≡ None
+seen_leaf rows u v ts at i place tag bytes =
+    elim (has_role u) as (λ b. seen_in rows v ts at i place
     (cond b (hole tag (length bytes) (is_payload tag bytes)) (plain tag bytes)) ≡ None)
     [ true ↦ refl | false ↦ refl ]
 
 -- in a skeleton, what is seen of an embedded document or array
-seen_node : (rows : List Row) (s : Station) (at j : ℕ) (place : List ℕ) (name : List ℕ) (tag : ℕ) (js : Items)
+seen_node : (rows : List Row) (s : Station) (ts : Targets) (at j : ℕ) (place : List ℕ) (name : List ℕ) (tag : ℕ)
+    (js : Items)
     → seen_in rows (station rows s (entry_in name
-    (skeleton_in rows (station rows s (entry name (node tag js))) (node tag js)))) at j place
+    (skeleton_in rows (station rows s (entry name (node tag js))) (node tag js)))) ts at j place
     (skeleton_in rows (station rows s (entry name (node tag js))) (node tag js))
     ≡ cond (has_role (station rows s (entry name (node tag js)))) None
-    (seen_from rows (station rows s (entry name (node tag js))) (at + 4) [] j place
+    (seen_from rows (station rows s (entry name (node tag js)))
+    (seen_pointed rows (station rows s (entry name (node tag js))) ts at
+    (skeletons rows (station rows s (entry name (node tag js))) js)) (at + 4) [] j place
     (skeletons rows (station rows s (entry name (node tag js))) js))
-seen_node rows s at j place name tag js =
+seen_node rows s ts at j place name tag js =
     let u = station rows s (entry name (node tag js)) in
     let k = skeleton_in rows u (node tag js) in
-    ap (λ (x : Station). seen_in rows x at j place k) (sym (station_kept rows s name (node tag js)))
-    ∙ seen_hidden rows u u at j place tag (length (framed (items_bytes js))) (skeletons rows u js)
+    ap (λ (x : Station). seen_in rows x ts at j place k) (sym (station_kept rows s name (node tag js)))
+    ∙ seen_hidden rows u u ts at j place tag (length (framed (items_bytes js))) (skeletons rows u js)
 
 -- a place has no protected ancestor exactly where it is seen in the skeleton
-pub shows_seen : (rows : List Row) (s : Station) (at : ℕ) (elder : List (List ℕ)) (i : ℕ) (place : List ℕ) (is : Items)
+pub shows_seen : (rows : List Row) (s : Station) (ts : Targets) (at : ℕ) (elder : List (List ℕ)) (i : ℕ)
+    (place : List ℕ) (is : Items)
     → shows rows s (chain_from elder i place is)
-    ≡ is_some (seen_from rows s at elder i place (skeletons rows s is))
-shows_seen rows s at elder i place no_items = refl
-shows_seen rows s at elder zero [] (item name t is) = refl
-shows_seen rows s at elder zero (j ∷ place) (item name (leaf tag bytes) is) =
-    ap is_some (sym (seen_leaf rows (station rows s (entry name (leaf tag bytes))) _
+    ≡ is_some (seen_from rows s ts at elder i place (skeletons rows s is))
+shows_seen rows s ts at elder i place no_items = refl
+shows_seen rows s ts at elder zero [] (item name t is) = refl
+shows_seen rows s ts at elder zero (j ∷ place) (item name (leaf tag bytes) is) =
+    ap is_some (sym (seen_leaf rows (station rows s (entry name (leaf tag bytes))) _ ts
     (at + (2 + length name)) j place tag bytes))
-shows_seen rows s at elder zero (j ∷ place) (item name (node tag js) is) =
+shows_seen rows s ts at elder zero (j ∷ place) (item name (node tag js) is) =
     let u = station rows s (entry name (node tag js)) in
     shows_node rows s (link elder name (node tag js)) (chain_from [] j place js) (has_role u) _ refl
-    (shows_seen rows u (at + (2 + length name) + 4) [] j place js)
-    ∙ ap is_some (sym (seen_node rows s (at + (2 + length name)) j place name tag js))
-shows_seen rows s at elder (suc i) place (item name t is) =
-    shows_seen rows s (at + (2 + length name) + length (value_bytes t)) (elder ++ name ∷ []) i place is
-    ∙ ap (λ (n : ℕ). is_some (seen_from rows s (at + (2 + length name) + n) (elder ++ name ∷ []) i place
+    (shows_seen rows u (pointed rows u ts (at + (2 + length name)) js) (at + (2 + length name) + 4) [] j place js
+    ∙ ap (λ (x : Targets). is_some (seen_from rows u x (at + (2 + length name) + 4) [] j place (skeletons rows u js)))
+    (pointed_kept rows u ts (at + (2 + length name)) js))
+    ∙ ap is_some (sym (seen_node rows s ts (at + (2 + length name)) j place name tag js))
+shows_seen rows s ts at elder (suc i) place (item name t is) =
+    shows_seen rows s ts (at + (2 + length name) + length (value_bytes t)) (elder ++ name ∷ []) i place is
+    ∙ ap (λ (n : ℕ). is_some (seen_from rows s ts (at + (2 + length name) + n) (elder ++ name ∷ []) i place
     (skeletons rows s is)))
     (sym (width_kept rows (station rows s (entry name t)) t))
 
@@ -147,21 +156,28 @@ veiled_node rows s l (Some links) false v seen h p q =
     p (sym (ap (λ (b : Bool). not (b || is_below_role rows (station rows s l.entry) links)) h) ∙ q)
 
 -- what is read of a place with no protected ancestor, behind its veil, is what is seen of it in the skeleton
-pub veiled_seen : (rows : List Row) (s : Station) (at : ℕ) (elder : List (List ℕ)) (i : ℕ) (place : List ℕ) (is : Items)
+pub veiled_seen : (rows : List Row) (s : Station) (ts : Targets) (at : ℕ) (elder : List (List ℕ)) (i : ℕ)
+    (place : List ℕ) (is : Items)
     → shows rows s (chain_from elder i place is) ≡ true
-    → option_map (veil rows) (visit_from rows s at elder i place is)
-    ≡ seen_from rows s at elder i place (skeletons rows s is)
-veiled_seen rows s at elder i place no_items h = refl
-veiled_seen rows s at elder zero [] (item name t is) h =
-    ap (λ (v : Visit). Some v) (visit_kept rows s elder at name t)
-veiled_seen rows s at elder zero (j ∷ place) (item name (leaf tag bytes) is) h = absurd (false≢true h)
-veiled_seen rows s at elder zero (j ∷ place) (item name (node tag js) is) h =
+    → option_map (veil rows) (visit_from rows s ts at elder i place is)
+    ≡ seen_from rows s ts at elder i place (skeletons rows s is)
+veiled_seen rows s ts at elder i place no_items h = refl
+veiled_seen rows s ts at elder zero [] (item name t is) h =
+    ap (λ (v : Visit). Some v) (visit_kept rows s ts elder at name t)
+veiled_seen rows s ts at elder zero (j ∷ place) (item name (leaf tag bytes) is) h = absurd (false≢true h)
+veiled_seen rows s ts at elder zero (j ∷ place) (item name (node tag js) is) h =
     let u = station rows s (entry name (node tag js)) in
     veiled_node rows s (link elder name (node tag js)) (chain_from [] j place js) (has_role u)
-    (visit_from rows u (at + (2 + length name) + 4) [] j place js) _ refl
-    (veiled_seen rows u (at + (2 + length name) + 4) [] j place js) h
-    ∙ sym (seen_node rows s (at + (2 + length name)) j place name tag js)
-veiled_seen rows s at elder (suc i) place (item name t is) h =
-    veiled_seen rows s (at + (2 + length name) + length (value_bytes t)) (elder ++ name ∷ []) i place is h
-    ∙ ap (λ (n : ℕ). seen_from rows s (at + (2 + length name) + n) (elder ++ name ∷ []) i place (skeletons rows s is))
+    (visit_from rows u (pointed rows u ts (at + (2 + length name)) js) (at + (2 + length name) + 4) [] j place js) _
+    refl
+    (λ shown. veiled_seen rows u (pointed rows u ts (at + (2 + length name)) js) (at + (2 + length name) + 4) [] j
+    place js
+    shown
+    ∙ ap (λ (x : Targets). seen_from rows u x (at + (2 + length name) + 4) [] j place (skeletons rows u js))
+    (pointed_kept rows u ts (at + (2 + length name)) js)) h
+    ∙ sym (seen_node rows s ts (at + (2 + length name)) j place name tag js)
+veiled_seen rows s ts at elder (suc i) place (item name t is) h =
+    veiled_seen rows s ts (at + (2 + length name) + length (value_bytes t)) (elder ++ name ∷ []) i place is h
+    ∙ ap
+    (λ (n : ℕ). seen_from rows s ts (at + (2 + length name) + n) (elder ++ name ∷ []) i place (skeletons rows s is))
     (sym (width_kept rows (station rows s (entry name t)) t))

@@ -11,7 +11,9 @@ use Rattle.encrypt_schema.specs.Language.Row.{Row}
 use Rattle.encrypt_schema.specs.Commands.Stations.{Entry, Station, Store, Compare, Bare, Passed, station, has_role}
 use Rattle.encrypt_schema.specs.Commands.Stations.{is_silent}
 use Rattle.encrypt_schema.specs.Language.Collection.{Collection}
-use Rattle.encrypt_schema.specs.Commands.Offences.{target_offence, view_offence, ruled_offence}
+use Rattle.encrypt_schema.specs.Commands.Offences.{target_offence, view_offence, ruled_offence, judged_offence}
+use Rattle.encrypt_schema.specs.Commands.Offences.{pointer_offence}
+use Rattle.encrypt_schema.specs.Commands.Pointers.{Targets, pointed}
 use Rattle.encrypt_schema.specs.Commands.Visits.{entry, Visit, visit, visits_in, visits, mark_at, marks, Refusal}
 use Rattle.encrypt_schema.specs.Commands.Visits.{target_of, view_of, ruled_of, content_of, refused_at, first_refusal}
 use Rattle.encrypt_schema.specs.Commands.Visits.{or_else, station_of}
@@ -105,18 +107,18 @@ view_clear info Bare elder e h = refl
 view_clear info Passed elder e h = refl
 view_clear info _ elder e h = absurd (false≢true h)
 
-ruled_clear : (rows : List Row) (s : Station) (elder : List (List ℕ)) (e : Entry) → is_silent s ≡ true
-    → ruled_offence rows s elder e ≡ None
+ruled_clear : (rows : List Row) (ts : Targets) (s : Station) (elder : List (List ℕ)) (e : Entry) → is_silent s ≡ true
+    → judged_offence rows ts s elder e ≡ None
 unfolding ruled_offence
-ruled_clear rows (Store i) elder e h = refl
-ruled_clear rows (Compare i) elder e h = refl
-ruled_clear rows Bare elder e h = refl
-ruled_clear rows Passed elder e h = refl
-ruled_clear rows _ elder e h = absurd (false≢true h)
+ruled_clear rows ts (Store i) elder e h = refl
+ruled_clear rows ts (Compare i) elder e h = refl
+ruled_clear rows ts Bare elder e h = refl
+ruled_clear rows ts Passed elder e h = refl
+ruled_clear rows ts _ elder e h = absurd (false≢true h)
 
 content_clear : (rows : List Row) (v : Visit) → is_silent v.parent ≡ true → content_of rows v ≡ None
 content_clear [] v h = refl
-content_clear (row ∷ rows) v h = ruled_clear (row ∷ rows) v.parent v.elder v.entry h
+content_clear (row ∷ rows) v h = ruled_clear (row ∷ rows) v.targets v.parent v.elder v.entry h
 
 -- all passes are
 pub target_quiet : (db : List ℕ) → IsQuiet (target_of db)
@@ -126,55 +128,62 @@ pub view_quiet : (info : Option Collection) → IsQuiet (view_of info)
 view_quiet info = record { clear = λ v h. view_clear info v.parent v.elder v.entry h }
 
 pub ruled_quiet : (rows : List Row) → IsQuiet (ruled_of rows)
-ruled_quiet rows = record { clear = λ v h. ruled_clear rows v.parent v.elder v.entry h }
+ruled_quiet rows = record { clear = λ v h. ruled_clear rows v.targets v.parent v.elder v.entry h }
 
 pub content_quiet : (rows : List Row) → IsQuiet (content_of rows)
 content_quiet rows = record { clear = content_clear rows }
 
-one_silent : (pass : Visit → Option Reason) (rows : List Row) (s : Station) (at : ℕ) (elder : List (List ℕ))
+one_silent : (pass : Visit → Option Reason) (rows : List Row) (s : Station) (ts : Targets) (at : ℕ)
+    (elder : List (List ℕ))
     (name : List ℕ) (t : Tree) (vs us : List Visit)
     → IsQuiet pass → is_silent s ≡ true → Alike pass rows vs [] → Alike pass rows us []
-    → Alike pass rows (visit s elder at name t ∷ (vs ++ us)) []
-one_silent pass rows s at elder name t vs us quiet h p q =
+    → Alike pass rows (visit s ts elder at name t ∷ (vs ++ us)) []
+one_silent pass rows s ts at elder name t vs us quiet h p q =
     let rest = alike_append pass rows vs [] us [] p q in
     record {
       marked =
-          ap (λ (u : Station). mark_at u (visit s elder at name t) ++ marks rows (vs ++ us))
+          ap (λ (u : Station). mark_at u (visit s ts elder at name t) ++ marks rows (vs ++ us))
           (child_passed rows s (entry name t) h) ∙ rest.marked;
       refused =
           ap (λ (r : Option Reason). or_else (refused_at (at + (2 + length name)) r) (first_refusal pass (vs ++ us)))
-          (quiet.clear (visit s elder at name t) h) ∙ rest.refused;
+          (quiet.clear (visit s ts elder at name t) h) ∙ rest.refused;
     }
 
 mutual
-  silent_in : (pass : Visit → Option Reason) (rows : List Row) (s : Station) (at : ℕ) (t : Tree) → IsQuiet pass
+  silent_in : (pass : Visit → Option Reason) (rows : List Row) (s : Station) (ts : Targets) (at : ℕ) (t : Tree)
+      → IsQuiet pass
       → is_silent s ≡ true
-      → Alike pass rows (visits_in rows s at t) []
-  silent_in pass rows s at (leaf tag bytes) quiet h = same
-  silent_in pass rows s at (node tag is) quiet h = silent_among pass rows s (at + 4) [] is quiet h
+      → Alike pass rows (visits_in rows s ts at t) []
+  silent_in pass rows s ts at (leaf tag bytes) quiet h = same
+  silent_in pass rows s ts at (node tag is) quiet h = silent_among pass rows s (pointed rows s ts at is) (at + 4) [] is
+      quiet h
 
-  silent_among : (pass : Visit → Option Reason) (rows : List Row) (s : Station) (at : ℕ) (elder : List (List ℕ))
+  silent_among : (pass : Visit → Option Reason) (rows : List Row) (s : Station) (ts : Targets) (at : ℕ)
+      (elder : List (List ℕ))
       (is : Items)
-      → IsQuiet pass → is_silent s ≡ true → Alike pass rows (visits rows s at elder is) []
-  silent_among pass rows s at elder no_items quiet h = same
-  silent_among pass rows s at elder (item name t is) quiet h =
-      one_silent pass rows s at elder name t _ _ quiet h
-      (silent_in pass rows (station rows s (entry name t)) (at + (2 + length name)) t quiet
+      → IsQuiet pass → is_silent s ≡ true → Alike pass rows (visits rows s ts at elder is) []
+  silent_among pass rows s ts at elder no_items quiet h = same
+  silent_among pass rows s ts at elder (item name t is) quiet h =
+      one_silent pass rows s ts at elder name t _ _ quiet h
+      (silent_in pass rows (station rows s (entry name t)) ts (at + (2 + length name)) t quiet
       (ap is_silent (child_passed rows s (entry name t) h)))
-      (silent_among pass rows s (at + (2 + length name) + length (value_bytes t)) (elder ++ name ∷ []) is quiet h)
+      (silent_among pass rows s ts (at + (2 + length name) + length (value_bytes t)) (elder ++ name ∷ []) is quiet h)
 
 -- inside a value that isn't looked into nothing is marked, and nothing is refused
-pub silent : (pass : Visit → Option Reason) (rows : List Row) (s : Station) (at : ℕ) (elder : List (List ℕ))
+pub silent : (pass : Visit → Option Reason) (rows : List Row) (s : Station) (ts : Targets) (at : ℕ)
+    (elder : List (List ℕ))
     (is : Items)
     → IsQuiet pass → is_silent s ≡ true
-    → (marks rows (visits rows s at elder is) ≡ []) × (first_refusal pass (visits rows s at elder is) ≡ None)
-silent pass rows s at elder is quiet h = let a = silent_among pass rows s at elder is quiet h in (a.marked, a.refused)
+    → (marks rows (visits rows s ts at elder is) ≡ []) × (first_refusal pass (visits rows s ts at elder is) ≡ None)
+silent pass rows s ts at elder is quiet h = let a = silent_among pass rows s ts at elder is quiet h in
+    (a.marked, a.refused)
 
 -- nor inside one value
-pub silent_inside : (pass : Visit → Option Reason) (rows : List Row) (s : Station) (at : ℕ) (t : Tree) → IsQuiet pass
+pub silent_inside : (pass : Visit → Option Reason) (rows : List Row) (s : Station) (ts : Targets) (at : ℕ) (t : Tree)
+    → IsQuiet pass
     → is_silent s ≡ true
-    → (marks rows (visits_in rows s at t) ≡ []) × (first_refusal pass (visits_in rows s at t) ≡ None)
-silent_inside pass rows s at t quiet h = let a = silent_in pass rows s at t quiet h in (a.marked, a.refused)
+    → (marks rows (visits_in rows s ts at t) ≡ []) × (first_refusal pass (visits_in rows s ts at t) ≡ None)
+silent_inside pass rows s ts at t quiet h = let a = silent_in pass rows s ts at t quiet h in (a.marked, a.refused)
 
 -- a protected value isn't looked into
 pub role_silent : (s : Station) → has_role s ≡ true → is_silent s ≡ true
@@ -186,27 +195,31 @@ back : {pass : Visit → Option Reason} {rows : List Row} {vs us : List Visit} �
     → Alike pass rows us vs
 back p = record { marked = sym p.marked; refused = sym p.refused }
 
-cut_node : (pass : Visit → Option Reason) (rows : List Row) (s : Station) (at : ℕ) (is : Items) (b : Bool)
+cut_node : (pass : Visit → Option Reason) (rows : List Row) (s : Station) (ts : Targets) (at : ℕ) (is : Items)
+    (b : Bool)
     → IsQuiet pass → has_role s ≡ b
-    → Alike pass rows (shown rows s at [] is) (visits rows s at [] is)
-    → Alike pass rows (cond b [] (shown rows s at [] is)) (visits rows s at [] is)
-cut_node pass rows s at is true quiet h p = back (silent_among pass rows s at [] is quiet (role_silent s h))
-cut_node pass rows s at is false quiet h p = p
+    → Alike pass rows (shown rows s ts at [] is) (visits rows s ts at [] is)
+    → Alike pass rows (cond b [] (shown rows s ts at [] is)) (visits rows s ts at [] is)
+cut_node pass rows s ts at is true quiet h p = back (silent_among pass rows s ts at [] is quiet (role_silent s h))
+cut_node pass rows s ts at is false quiet h p = p
 
 -- what stands below a protected place makes no difference
 mutual
-  cut_in : (pass : Visit → Option Reason) (rows : List Row) (s : Station) (at : ℕ) (t : Tree) → IsQuiet pass
-      → Alike pass rows (shown_in rows s at t) (visits_in rows s at t)
-  cut_in pass rows s at (leaf tag bytes) quiet = same
-  cut_in pass rows s at (node tag is) quiet = cut_node pass rows s (at + 4) is (has_role s) quiet refl
-      (cut pass rows s (at + 4) [] is quiet)
-
-  pub cut : (pass : Visit → Option Reason) (rows : List Row) (s : Station) (at : ℕ) (elder : List (List ℕ)) (is : Items)
+  cut_in : (pass : Visit → Option Reason) (rows : List Row) (s : Station) (ts : Targets) (at : ℕ) (t : Tree)
       → IsQuiet pass
-      → Alike pass rows (shown rows s at elder is) (visits rows s at elder is)
-  cut pass rows s at elder no_items quiet = same
-  cut pass rows s at elder (item name t is) quiet =
+      → Alike pass rows (shown_in rows s ts at t) (visits_in rows s ts at t)
+  cut_in pass rows s ts at (leaf tag bytes) quiet = same
+  cut_in pass rows s ts at (node tag is) quiet = cut_node pass rows s (pointed rows s ts at is) (at + 4) is
+      (has_role s) quiet refl
+      (cut pass rows s (pointed rows s ts at is) (at + 4) [] is quiet)
+
+  pub cut : (pass : Visit → Option Reason) (rows : List Row) (s : Station) (ts : Targets) (at : ℕ)
+      (elder : List (List ℕ)) (is : Items)
+      → IsQuiet pass
+      → Alike pass rows (shown rows s ts at elder is) (visits rows s ts at elder is)
+  cut pass rows s ts at elder no_items quiet = same
+  cut pass rows s ts at elder (item name t is) quiet =
       alike_cons pass rows _ _ _
       (alike_append pass rows _ _ _ _
-      (cut_in pass rows (station rows s (entry name t)) (at + (2 + length name)) t quiet)
-      (cut pass rows s (at + (2 + length name) + length (value_bytes t)) (elder ++ name ∷ []) is quiet))
+      (cut_in pass rows (station rows s (entry name t)) ts (at + (2 + length name)) t quiet)
+      (cut pass rows s ts (at + (2 + length name) + length (value_bytes t)) (elder ++ name ∷ []) is quiet))

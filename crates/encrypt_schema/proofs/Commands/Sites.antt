@@ -13,6 +13,7 @@ use Rattle.bson_tree.specs.Spelling.{value_bytes}
 use Rattle.encrypt_schema.specs.Language.Row.{Row}
 use Rattle.encrypt_schema.specs.Commands.Stations.{Station, Outside, Store, Compare, Passed, station, has_role}
 use Rattle.encrypt_schema.specs.Commands.Stations.{is_silent}
+use Rattle.encrypt_schema.specs.Commands.Pointers.{Targets, pointed}
 use Rattle.encrypt_schema.specs.Commands.Visits.{entry, command_entry, Visit, visit, command_visit, station_of, mark_at}
 use Rattle.encrypt_schema.specs.Commands.Visits.{roles}
 use Rattle.encrypt_schema.specs.Commands.Skeletons.{Skeleton, hole, plain, branch, Skeletons, no_more, more, blank_hole}
@@ -166,51 +167,58 @@ visit_next rows place None = refl
 visit_next rows place (Some v) = at_next place (station_of rows v)
 
 -- the site of a place below elements
-abbrev pub site_below : Option Visit → List Row → Station → ℕ → List (List ℕ) → Items → List ℕ → List Site
-site_below o rows s at elder is place = site_visit rows place (visit_below o rows s at elder is place)
+abbrev pub site_below : Option Visit → List Row → Station → Targets → ℕ → List (List ℕ) → Items → List ℕ → List Site
+site_below o rows s ts at elder is place = site_visit rows place (visit_below o rows s ts at elder is place)
 
-flat_within : (rows : List Row) (s : Station) (at : ℕ) (elder : List (List ℕ)) (name : List ℕ) (tag : ℕ) (js is : Items)
-    → flat_map (site_below (Some (visit s elder at name (node tag js))) rows (station rows s (entry name (node tag js)))
+flat_within : (rows : List Row) (s : Station) (ts : Targets) (at : ℕ) (elder : List (List ℕ)) (name : List ℕ) (tag : ℕ)
+    (js is : Items)
+    → flat_map
+    (site_below (Some (visit s ts elder at name (node tag js))) rows (station rows s (entry name (node tag js)))
+    (pointed rows (station rows s (entry name (node tag js))) ts (at + (2 + length name)) js)
     (at + (2 + length name) + 4) [] js) (places_from 0 js)
     ≡ sites_below rows (station rows s (entry name (node tag js))) js
-    → flat_map (λ (p : List ℕ). site_visit rows (0 ∷ p) (visit_from rows s at elder 0 p (item name (node tag js) is)))
+    → flat_map
+    (λ (p : List ℕ). site_visit rows (0 ∷ p) (visit_from rows s ts at elder 0 p (item name (node tag js) is)))
     (places_in (node tag js))
     ≡ site_at (0 ∷ []) (station rows s (entry name (node tag js)))
     ++ map site_first (sites_in rows (station rows s (entry name (node tag js))) (node tag js))
-flat_within rows s at elder name tag js is h =
-    let v = visit s elder at name (node tag js) in
+flat_within rows s ts at elder name tag js is h =
+    let v = visit s ts elder at name (node tag js) in
     let u = station rows s (entry name (node tag js)) in
     let f : List ℕ → List Site = λ p. site_visit rows (0 ∷ p)
-    (visit_from rows s at elder 0 p (item name (node tag js) is)) in
-    let g = site_below (Some v) rows u (at + (2 + length name) + 4) [] js in
+    (visit_from rows s ts at elder 0 p (item name (node tag js) is)) in
+    let g = site_below (Some v) rows u (pointed rows u ts (at + (2 + length name)) js) (at + (2 + length name) + 4) []
+    js in
     ap (λ (xs : List Site). site_at (0 ∷ []) u ++ xs)
     (flat_same f (λ p. map site_first (g p)) (places_from 0 js)
     (λ p. elim p as (λ q. f q ≡ map site_first (g q)) [
       | [] ↦ visit_first rows [] (Some v)
       | j ∷ q ↦ visit_first rows (j ∷ q)
-          (visit_from rows u (at + (2 + length name) + 4) [] j q js)
+          (visit_from rows u (pointed rows u ts (at + (2 + length name)) js) (at + (2 + length name) + 4) [] j q js)
     ])
     ∙ (map_flat site_first g (places_from 0 js) ∙ ap (map site_first) h))
 
-flat_item : (o : Option Visit) (rows : List Row) (s : Station) (at : ℕ) (elder : List (List ℕ)) (name : List ℕ)
+flat_item : (o : Option Visit) (rows : List Row) (s : Station) (ts : Targets) (at : ℕ) (elder : List (List ℕ))
+    (name : List ℕ)
     (t : Tree) (is : Items)
-    → flat_map (λ (p : List ℕ). site_visit rows (0 ∷ p) (visit_from rows s at elder 0 p (item name t is))) (places_in t)
+    → flat_map (λ (p : List ℕ). site_visit rows (0 ∷ p) (visit_from rows s ts at elder 0 p (item name t is)))
+    (places_in t)
     ≡ site_at (0 ∷ []) (station rows s (entry name t))
     ++ map site_first (sites_in rows (station rows s (entry name t)) t)
-    → flat_map (site_below o rows s (at + (2 + length name) + length (value_bytes t)) (elder ++ name ∷ []) is)
+    → flat_map (site_below o rows s ts (at + (2 + length name) + length (value_bytes t)) (elder ++ name ∷ []) is)
     (places_from 0 is) ≡ sites_below rows s is
-    → flat_map (site_below o rows s at elder (item name t is)) (places_from 0 (item name t is))
+    → flat_map (site_below o rows s ts at elder (item name t is)) (places_from 0 (item name t is))
     ≡ sites_below rows s (item name t is)
-flat_item o rows s at elder name t is inside behind =
-    let f = site_below o rows s at elder (item name t is) in
-    let g = site_below o rows s (at + (2 + length name) + length (value_bytes t)) (elder ++ name ∷ []) is in
+flat_item o rows s ts at elder name t is inside behind =
+    let f = site_below o rows s ts at elder (item name t is) in
+    let g = site_below o rows s ts (at + (2 + length name) + length (value_bytes t)) (elder ++ name ∷ []) is in
     let own = site_at (0 ∷ []) (station rows s (entry name t))
     ++ map site_first (sites_in rows (station rows s (entry name t)) t) in
     let left : flat_map f (map (λ (p : List ℕ). 0 ∷ p) (places_in t)) ≡ own =
     flat_map-map f (λ (p : List ℕ). 0 ∷ p) (places_in t) ∙ inside in
     let each : (p : List ℕ) → f (next p) ≡ map site_next (g p)
-    = λ p. ap (site_visit rows (next p)) (below_next o rows s at elder name t is p)
-    ∙ visit_next rows p (visit_below o rows s (at + (2 + length name) + length (value_bytes t))
+    = λ p. ap (site_visit rows (next p)) (below_next o rows s ts at elder name t is p)
+    ∙ visit_next rows p (visit_below o rows s ts (at + (2 + length name) + length (value_bytes t))
     (elder ++ name ∷ []) is p) in
     let right : flat_map f (places_from 1 is) ≡ map site_next (sites_below rows s is)
     = ap (flat_map f) (places_next 0 is)
@@ -221,24 +229,27 @@ flat_item o rows s at elder name t is inside behind =
     ∙ (ap (λ (xs : List Site). xs ++ flat_map f (places_from 1 is)) left ∙ ap (λ (ys : List Site). own ++ ys) right)
 
 mutual
-  flat_in : (rows : List Row) (s : Station) (at : ℕ) (elder : List (List ℕ)) (name : List ℕ) (t : Tree) (is : Items)
-      → flat_map (λ (p : List ℕ). site_visit rows (0 ∷ p) (visit_from rows s at elder 0 p (item name t is)))
+  flat_in : (rows : List Row) (s : Station) (ts : Targets) (at : ℕ) (elder : List (List ℕ)) (name : List ℕ) (t : Tree)
+      (is : Items)
+      → flat_map (λ (p : List ℕ). site_visit rows (0 ∷ p) (visit_from rows s ts at elder 0 p (item name t is)))
       (places_in t)
       ≡ site_at (0 ∷ []) (station rows s (entry name t))
       ++ map site_first (sites_in rows (station rows s (entry name t)) t)
-  flat_in rows s at elder name (leaf tag bytes) is = refl
-  flat_in rows s at elder name (node tag js) is =
-      flat_within rows s at elder name tag js is
-      (flat_below (Some (visit s elder at name (node tag js))) rows (station rows s (entry name (node tag js)))
+  flat_in rows s ts at elder name (leaf tag bytes) is = refl
+  flat_in rows s ts at elder name (node tag js) is =
+      flat_within rows s ts at elder name tag js is
+      (flat_below (Some (visit s ts elder at name (node tag js))) rows (station rows s (entry name (node tag js)))
+      (pointed rows (station rows s (entry name (node tag js))) ts (at + (2 + length name)) js)
       (at + (2 + length name) + 4) [] js)
 
-  flat_below : (o : Option Visit) (rows : List Row) (s : Station) (at : ℕ) (elder : List (List ℕ)) (is : Items)
-      → flat_map (site_below o rows s at elder is) (places_from 0 is) ≡ sites_below rows s is
-  flat_below o rows s at elder no_items = refl
-  flat_below o rows s at elder (item name t is) =
-      flat_item o rows s at elder name t is
-      (flat_in rows s at elder name t is)
-      (flat_below o rows s (at + (2 + length name) + length (value_bytes t)) (elder ++ name ∷ []) is)
+  flat_below : (o : Option Visit) (rows : List Row) (s : Station) (ts : Targets) (at : ℕ) (elder : List (List ℕ))
+      (is : Items)
+      → flat_map (site_below o rows s ts at elder is) (places_from 0 is) ≡ sites_below rows s is
+  flat_below o rows s ts at elder no_items = refl
+  flat_below o rows s ts at elder (item name t is) =
+      flat_item o rows s ts at elder name t is
+      (flat_in rows s ts at elder name t is)
+      (flat_below o rows s ts (at + (2 + length name) + length (value_bytes t)) (elder ++ name ∷ []) is)
 
 site_read : (rows : List Row) (place : List ℕ) (o : Option Visit)
     → option_map_or (site_at place) (option_map (station_of rows) o) [] ≡ site_visit rows place o
@@ -263,10 +274,10 @@ sites_are rows c =
     let first = Some (command_visit c) in
     ap (λ (xs : List Site). xs ++ flat_map (site_of rows c) (places_from 0 c))
     (site_none [] u (command_without_role rows (command_entry c)))
-    ∙ (flat_same (site_of rows c) (site_below first rows u 4 [] c) (places_from 0 c)
+    ∙ (flat_same (site_of rows c) (site_below first rows u (pointed rows u [] 0 c) 4 [] c) (places_from 0 c)
     (λ p. sym (site_there rows 0 c p) ∙ site_read rows p (visit_at rows 0 c p)
     ∙ ap (site_visit rows p) (visit_at_below rows 0 c p))
-    ∙ flat_below first rows u 4 [] c)
+    ∙ flat_below first rows u (pointed rows u [] 0 c) 4 [] c)
 
 -- the sites of a command, read from its blank
 abbrev pub told : List Row → Skeletons → List Site

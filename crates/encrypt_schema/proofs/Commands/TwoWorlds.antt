@@ -10,6 +10,7 @@ use Rattle.encrypt_schema.specs.Commands.Targets.{info_of, rows_in, rows_of, ver
 use Rattle.encrypt_schema.specs.Language.Row.{Row}
 use Rattle.encrypt_schema.specs.Commands.Stations.{Entry, Station, Outside, Insert, Update, Delete, Find, Passed}
 use Rattle.encrypt_schema.specs.Commands.Stations.{Unknown, is_passed, command_of, station, has_role}
+use Rattle.encrypt_schema.specs.Commands.Pointers.{Targets, pointed}
 use Rattle.encrypt_schema.specs.Commands.Visits.{names_of, entry, command_entry, Visit, command_visit, command_visits}
 use Rattle.encrypt_schema.specs.Commands.Visits.{marks, roles, target_of, view_of, content_of, Refusal, or_else}
 use Rattle.encrypt_schema.specs.Commands.Visits.{first_refusal, content_verdict, verdict_on}
@@ -26,7 +27,9 @@ use Rattle.encrypt_schema.proofs.Commands.Silence.{content_quiet}
 pub shown_alike : (pass : Visit → Option Reason) (rows : List Row) (at : ℕ) (c : Items) → IsQuiet pass
     → Alike pass rows (command_shown rows at c) (command_visits rows at c)
 shown_alike pass rows at c quiet =
-    alike_cons pass rows (command_visit c) _ _ (cut pass rows (station rows Outside (command_entry c))
+    alike_cons pass rows (command_visit c) _ _
+    (cut pass rows (station rows Outside (command_entry c))
+    (pointed rows (station rows Outside (command_entry c)) [] at c)
     (at + 4) [] c quiet)
 
 -- what is shown of two commands with equal skeletons, behind its veil, is one

@@ -19,9 +19,10 @@ use Rattle.encrypt_schema.specs.Commands.Stations.{Store, Compare, Passed, Unkno
 use Rattle.encrypt_schema.specs.Commands.Stations.{is_dollar_first, has_name, is_logical, is_set, dotted, station}
 use Rattle.encrypt_schema.specs.Commands.Stations.{stored_at, tested_at, command_of, passed_names, is_passed}
 use Rattle.encrypt_schema.specs.Commands.Offences.{least, target_offence, view_offence, ruled_offence, of_role}
-use Rattle.encrypt_schema.specs.Commands.Offences.{command_lacks}
+use Rattle.encrypt_schema.specs.Commands.Offences.{command_lacks, first_reason, pointer_offence}
 use Rattle.encrypt_schema.specs.Language.Collection.{Collection}
 use Rattle.encrypt_schema.specs.declared.command.reason.Reason.{Reason}
+use Rattle.encrypt_schema.specs.Commands.Pointers.{Targets, pointed}
 use Rattle.encrypt_schema.specs.Commands.Visits.{names_of, entry, command_entry, Visit, visit, visits_in, visits}
 use Rattle.encrypt_schema.specs.Commands.Visits.{command_visit, command_visits, mark_at, marks, roles, target_of}
 use Rattle.encrypt_schema.specs.Commands.Visits.{view_of, ruled_of, content_of, first_refusal, or_else, refused_at}
@@ -98,37 +99,43 @@ free_unmarked (Store i) v h = absurd (false≢true h)
 free_unmarked (Compare i) v h = absurd (false≢true h)
 free_unmarked _ v h = refl
 
-free_item : (s : Station) (at : ℕ) (elder : List (List ℕ)) (name : List ℕ) (t : Tree) (vs us : List Visit)
+free_item : (s : Station) (ts : Targets) (at : ℕ) (elder : List (List ℕ)) (name : List ℕ) (t : Tree)
+    (vs us : List Visit)
     → is_free s ≡ true
-    → marks [] vs ≡ [] → marks [] us ≡ [] → marks [] (visit s elder at name t ∷ (vs ++ us)) ≡ []
-free_item s at elder name t vs us h p q =
+    → marks [] vs ≡ [] → marks [] us ≡ [] → marks [] (visit s ts elder at name t ∷ (vs ++ us)) ≡ []
+free_item s ts at elder name t vs us h p q =
     ap (λ (ms : List Mark). ms ++ marks [] (vs ++ us))
-    (free_unmarked (station [] s (entry name t)) (visit s elder at name t) (free_child s (entry name t) h))
+    (free_unmarked (station [] s (entry name t)) (visit s ts elder at name t) (free_child s (entry name t) h))
     ∙ (marks_append [] vs us ∙ (ap (λ (ms : List Mark). ms ++ marks [] us) p ∙ q))
 
 mutual
-  free_in : (s : Station) (at : ℕ) (t : Tree) → is_free s ≡ true → marks [] (visits_in [] s at t) ≡ []
-  free_in s at (leaf tag bytes) h = refl
-  free_in s at (node tag is) h = free_among s (at + 4) [] is h
+  free_in : (s : Station) (ts : Targets) (at : ℕ) (t : Tree) → is_free s ≡ true → marks [] (visits_in [] s ts at t) ≡ []
+  free_in s ts at (leaf tag bytes) h = refl
+  free_in s ts at (node tag is) h = free_among s (pointed [] s ts at is) (at + 4) [] is h
 
-  free_among : (s : Station) (at : ℕ) (elder : List (List ℕ)) (is : Items) → is_free s ≡ true
-      → marks [] (visits [] s at elder is) ≡ []
-  free_among s at elder no_items h = refl
-  free_among s at elder (item name t is) h =
-      free_item s at elder name t
-      (visits_in [] (station [] s (entry name t)) (at + (2 + length name)) t)
-      (visits [] s (at + (2 + length name) + length (value_bytes t)) (elder ++ name ∷ []) is)
+  free_among : (s : Station) (ts : Targets) (at : ℕ) (elder : List (List ℕ)) (is : Items) → is_free s ≡ true
+      → marks [] (visits [] s ts at elder is) ≡ []
+  free_among s ts at elder no_items h = refl
+  free_among s ts at elder (item name t is) h =
+      free_item s ts at elder name t
+      (visits_in [] (station [] s (entry name t)) ts (at + (2 + length name)) t)
+      (visits [] s ts (at + (2 + length name) + length (value_bytes t)) (elder ++ name ∷ []) is)
       h
-      (free_in (station [] s (entry name t)) (at + (2 + length name)) t (free_child s (entry name t) h))
-      (free_among s (at + (2 + length name) + length (value_bytes t)) (elder ++ name ∷ []) is h)
+      (free_in (station [] s (entry name t)) ts (at + (2 + length name)) t (free_child s (entry name t) h))
+      (free_among s ts (at + (2 + length name) + length (value_bytes t)) (elder ++ name ∷ []) is h)
 
 -- without rules nothing is protected
 pub no_rows_no_roles : (at : ℕ) (c : Items) → roles [] at c ≡ []
 no_rows_no_roles at c =
     let h = command_free (command_entry c).names in
-    ap (λ (ms : List Mark). ms ++ marks [] (visits [] (station [] Outside (command_entry c)) (at + 4) [] c))
+    ap
+    (λ (ms : List Mark). ms
+    ++ marks []
+    (visits [] (station [] Outside (command_entry c))
+    (pointed [] (station [] Outside (command_entry c)) [] at c) (at + 4) [] c))
     (free_unmarked (station [] Outside (command_entry c)) (command_visit c) h)
-    ∙ free_among (station [] Outside (command_entry c)) (at + 4) [] c h
+    ∙ free_among (station [] Outside (command_entry c)) (pointed [] (station [] Outside (command_entry c)) [] at c)
+    (at + 4) [] c h
 
 -- commands that pass
 
@@ -161,24 +168,27 @@ unfolding is_passed named
 passed_command name names h =
     pass_among name names passed_names (refl, (refl, (refl, (refl, (refl, (refl, (refl, (refl, tt)))))))) h
 
-unread : (rows : List Row) (at : ℕ) (c : Items) (s : Station) → s ≡ Passed
-    → mark_at s (command_visit c) ++ marks rows (visits rows s at [] c) ≡ []
-unread rows at c s e =
-    let a = (silent (target_of []) rows Passed at [] c (target_quiet []) refl).0 in
-    ap (λ (u : Station). mark_at u (command_visit c) ++ marks rows (visits rows u at [] c)) e ∙ a
+unread : (rows : List Row) (at : ℕ) (c : Items) (s : Station) (ts : Targets) → s ≡ Passed
+    → mark_at s (command_visit c) ++ marks rows (visits rows s ts at [] c) ≡ []
+unread rows at c s ts e =
+    let a = (silent (target_of []) rows Passed ts at [] c (target_quiet []) refl).0 in
+    ap (λ (u : Station). mark_at u (command_visit c) ++ marks rows (visits rows u ts at [] c)) e ∙ a
 
 -- in a command that passes nothing is protected
 pub passed_no_roles : (rows : List Row) (at : ℕ) (name : List ℕ) (t : Tree) (is : Items) → is_passed name ≡ true
     → roles rows at (item name t is) ≡ []
-passed_no_roles rows at name t is h = unread rows (at + 4) (item name t is) _ (passed_command name (names_of is) h)
+passed_no_roles rows at name t is h = unread rows (at + 4) (item name t is) _
+    (pointed rows (command_of (name ∷ names_of is)) [] at (item name t is))
+    (passed_command name (names_of is) h)
 
-unjudged : (pass : Visit → Option Reason) (rows : List Row) (at : ℕ) (c : Items) (s : Station) → IsQuiet pass
+unjudged : (pass : Visit → Option Reason) (rows : List Row) (at : ℕ) (c : Items) (s : Station) (ts : Targets)
+    → IsQuiet pass
     → pass (command_visit c) ≡ None → s ≡ Passed
-    → or_else (refused_at 0 (pass (command_visit c))) (first_refusal pass (visits rows s at [] c)) ≡ None
-unjudged pass rows at c s quiet own e =
-    ap (λ (r : Option Reason). or_else (refused_at 0 r) (first_refusal pass (visits rows s at [] c))) own
-    ∙ ap (λ (u : Station). first_refusal pass (visits rows u at [] c)) e
-    ∙ (silent pass rows Passed at [] c quiet refl).1
+    → or_else (refused_at 0 (pass (command_visit c))) (first_refusal pass (visits rows s ts at [] c)) ≡ None
+unjudged pass rows at c s ts quiet own e =
+    ap (λ (r : Option Reason). or_else (refused_at 0 r) (first_refusal pass (visits rows s ts at [] c))) own
+    ∙ ap (λ (u : Station). first_refusal pass (visits rows u ts at [] c)) e
+    ∙ (silent pass rows Passed ts at [] c quiet refl).1
 
 target_free : (db : List ℕ) (name : List ℕ) (t : Tree) (is : Items)
     → target_of db (command_visit (item name t is)) ≡ None
@@ -192,8 +202,8 @@ view_free info c = refl
 ruled_free : (rows : List Row) (c : Items) (s : Station) → station rows Outside (command_entry c) ≡ s → s ≡ Passed
     → ruled_of rows (command_visit c) ≡ None
 unfolding ruled_offence
-ruled_free rows c s is e = ap (λ (u : Station). least
-    (of_role rows u (command_entry c) ++ command_lacks u (names_of c))) (is ∙ e)
+ruled_free rows c s is e = ap (λ (u : Station). first_reason
+    (least (of_role rows u (command_entry c) ++ command_lacks u (names_of c))) (pointer_offence rows [] u)) (is ∙ e)
 
 content_free : (rows : List Row) (c : Items) → station rows Outside (command_entry c) ≡ Passed
     → content_of rows (command_visit c) ≡ None
@@ -207,9 +217,10 @@ pub passed_no_refusal : (db : List ℕ) (info : Option Collection) (rows : List 
 passed_no_refusal db info rows at name t is h =
     let c : Items = item name t is in
     let e = passed_command name (names_of is) h in
-    ap₂ or_else (unjudged (target_of db) rows (at + 4) c (station rows Outside (command_entry c)) (target_quiet db)
+    let ts = pointed rows (station rows Outside (command_entry c)) [] at c in
+    ap₂ or_else (unjudged (target_of db) rows (at + 4) c (station rows Outside (command_entry c)) ts (target_quiet db)
     (target_free db name t is) e)
-    (ap₂ or_else (unjudged (view_of info) rows (at + 4) c (station rows Outside (command_entry c)) (view_quiet info)
+    (ap₂ or_else (unjudged (view_of info) rows (at + 4) c (station rows Outside (command_entry c)) ts (view_quiet info)
     (view_free info c) e)
-    (unjudged (content_of rows) rows (at + 4) c (station rows Outside (command_entry c)) (content_quiet rows)
+    (unjudged (content_of rows) rows (at + 4) c (station rows Outside (command_entry c)) ts (content_quiet rows)
     (content_free rows c e) e))

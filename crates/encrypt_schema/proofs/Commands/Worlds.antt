@@ -1,6 +1,6 @@
 -- What is shown of a command, its places that aren't below a protected one, is read from its skeleton alone.
 use Rattle.std.proofs.Common.{◌≡◌, ℕ, ◌+◌, Bool, true, false, cond, ◌&&◌, codes, List, [], ◌∷◌, ◌++◌, length, map}
-use Rattle.std.proofs.Common.{Option, refl, sym, ap, ◌∙◌, arith}
+use Rattle.std.proofs.Common.{Option, refl, sym, ap, ap₂, ◌∙◌, arith}
 use Rattle.std.proofs.lemmas.Bool.{false≢true}
 use Rattle.bson_tree.specs.Tree.{Tree, leaf, node, Items, no_items, item}
 use Rattle.bson_tree.specs.Spelling.{framed, value_bytes, items_bytes}
@@ -11,6 +11,9 @@ use Rattle.encrypt_schema.specs.Commands.Stations.{Updates, Deletes, Filter, Pro
 use Rattle.encrypt_schema.specs.Commands.Stations.{is_document, is_array, has_name, station, has_role}
 use Rattle.encrypt_schema.specs.Language.Collection.{Collection}
 use Rattle.encrypt_schema.specs.Commands.Offences.{is_marked, target_offence, view_offence, ruled_offence, least}
+use Rattle.encrypt_schema.specs.Commands.Offences.{first_reason, judged_offence, pointer_offence}
+use Rattle.encrypt_schema.specs.Commands.Pointers.{Targets, pointed}
+use Rattle.encrypt_schema.proofs.Commands.Pointed.{seen_pointed, pointed_kept}
 use Rattle.encrypt_schema.specs.Commands.Visits.{is_payload, entry, command_entry, Visit, visit, command_visit, mark_at}
 use Rattle.encrypt_schema.specs.Commands.Visits.{marks, target_of, view_of, ruled_of, content_of, first_refusal}
 use Rattle.encrypt_schema.specs.Commands.Visits.{station_of}
@@ -23,45 +26,61 @@ use Rattle.bson_tree.proofs.Sizes.{framed_size}
 
 -- the places that aren't below a protected one
 abbrev mutual
-  pub shown_in : List Row → Station → ℕ → Tree → List Visit
-  shown_in rows s at (leaf tag bytes) = []
-  shown_in rows s at (node tag is) = cond (has_role s) [] (shown rows s (at + 4) [] is)
+  pub shown_in : List Row → Station → Targets → ℕ → Tree → List Visit
+  shown_in rows s ts at (leaf tag bytes) = []
+  shown_in rows s ts at (node tag is) = cond (has_role s) [] (shown rows s (pointed rows s ts at is) (at + 4) [] is)
 
-  pub shown : List Row → Station → ℕ → List (List ℕ) → Items → List Visit
-  shown rows s at elder no_items = []
-  shown rows s at elder (item name t is) =
-      visit s elder at name t
-      ∷ (shown_in rows (station rows s (entry name t)) (at + (2 + length name)) t
-      ++ shown rows s (at + (2 + length name) + length (value_bytes t)) (elder ++ name ∷ []) is)
+  pub shown : List Row → Station → Targets → ℕ → List (List ℕ) → Items → List Visit
+  shown rows s ts at elder no_items = []
+  shown rows s ts at elder (item name t is) =
+      visit s ts elder at name t
+      ∷ (shown_in rows (station rows s (entry name t)) ts (at + (2 + length name)) t
+      ++ shown rows s ts (at + (2 + length name) + length (value_bytes t)) (elder ++ name ∷ []) is)
 
 -- those of a command that begins at `at`
 abbrev pub command_shown : List Row → ℕ → Items → List Visit
 command_shown rows at c =
-    command_visit c ∷ shown rows (station rows Outside (command_entry c)) (at + 4) [] c
+    command_visit c ∷ shown rows (station rows Outside (command_entry c))
+    (pointed rows (station rows Outside (command_entry c)) [] at c) (at + 4) [] c
 
 -- the same places, read from a skeleton
-abbrev pub skeleton_visit : Station → List (List ℕ) → ℕ → List ℕ → Skeleton → Visit
-skeleton_visit s elder at name k =
-    record { parent = s; elder = elder; entry = entry_in name k; start = at + (2 + length name); width = width_of k }
+abbrev pub skeleton_visit : Station → Targets → List (List ℕ) → ℕ → List ℕ → Skeleton → Visit
+skeleton_visit s ts elder at name k =
+    record {
+      parent = s;
+      targets = ts;
+      elder = elder;
+      entry = entry_in name k;
+      start = at + (2 + length name);
+      width = width_of k;
+    }
 
 abbrev mutual
-  pub seen_in : List Row → Station → ℕ → Skeleton → List Visit
-  seen_in rows s at (hole tag width payload) = []
-  seen_in rows s at (plain tag bytes) = []
-  seen_in rows s at (branch tag ks) = seen rows s (at + 4) [] ks
+  pub seen_in : List Row → Station → Targets → ℕ → Skeleton → List Visit
+  seen_in rows s ts at (hole tag width payload) = []
+  seen_in rows s ts at (plain tag bytes) = []
+  seen_in rows s ts at (branch tag ks) = seen rows s (seen_pointed rows s ts at ks) (at + 4) [] ks
 
-  pub seen : List Row → Station → ℕ → List (List ℕ) → Skeletons → List Visit
-  seen rows s at elder no_more = []
-  seen rows s at elder (more name k ks) =
-      skeleton_visit s elder at name k
-      ∷ (seen_in rows (station rows s (entry_in name k)) (at + (2 + length name)) k
-      ++ seen rows s (at + (2 + length name) + width_of k) (elder ++ name ∷ []) ks)
+  pub seen : List Row → Station → Targets → ℕ → List (List ℕ) → Skeletons → List Visit
+  seen rows s ts at elder no_more = []
+  seen rows s ts at elder (more name k ks) =
+      skeleton_visit s ts elder at name k
+      ∷ (seen_in rows (station rows s (entry_in name k)) ts (at + (2 + length name)) k
+      ++ seen rows s ts (at + (2 + length name) + width_of k) (elder ++ name ∷ []) ks)
 
 -- the same places of a command, read from its skeleton
 abbrev pub command_seen : List Row → ℕ → Skeletons → List Visit
 command_seen rows at ks =
-    record { parent = Outside; elder = []; entry = entry_in [] (branch 3 ks); start = 0; width = widths_of ks + 5 }
-    ∷ seen rows (station rows Outside (entry_in [] (branch 3 ks))) (at + 4) [] ks
+    record {
+      parent = Outside;
+      targets = [];
+      elder = [];
+      entry = entry_in [] (branch 3 ks);
+      start = 0;
+      width = widths_of ks + 5;
+    }
+    ∷ seen rows (station rows Outside (entry_in [] (branch 3 ks)))
+    (seen_pointed rows (station rows Outside (entry_in [] (branch 3 ks))) [] at ks) (at + 4) [] ks
 
 -- a place behind its veil
 abbrev pub veil : List Row → Visit → Visit
@@ -72,10 +91,11 @@ map_append f [] ys = refl
 map_append f (x ∷ xs) ys = ap (λ (zs : List Visit). f x ∷ zs) (map_append f xs ys)
 
 -- a place behind its veil is read from its value's skeleton
-pub visit_kept : (rows : List Row) (s : Station) (elder : List (List ℕ)) (at : ℕ) (name : List ℕ) (t : Tree)
-    → veil rows (visit s elder at name t)
-    ≡ skeleton_visit s elder at name (skeleton_in rows (station rows s (entry name t)) t)
-visit_kept rows s elder at name t =
+pub visit_kept : (rows : List Row) (s : Station) (ts : Targets) (elder : List (List ℕ)) (at : ℕ) (name : List ℕ)
+    (t : Tree)
+    → veil rows (visit s ts elder at name t)
+    ≡ skeleton_visit s ts elder at name (skeleton_in rows (station rows s (entry name t)) t)
+visit_kept rows s ts elder at name t =
     let k = skeleton_in rows (station rows s (entry name t)) t in
     let a : veiled (station rows s (entry name t)) (entry name t) ≡ entry_in name k =
     entry_kept rows (station rows s (entry name t)) name t in
@@ -87,29 +107,32 @@ joined : (f : Visit → Visit) (v w : Visit) (xs ys us vs : List Visit) → f v 
 joined f v w xs ys us vs p q r = let m = map_append f xs ys in cc
 
 mutual
-  inside_kept : (rows : List Row) (s : Station) (at : ℕ) (t : Tree)
-      → map (veil rows) (shown_in rows s at t) ≡ seen_in rows s at (skeleton_in rows s t)
-  inside_kept rows s at (leaf tag bytes) =
-      elim (has_role s) as (λ b. [] ≡ seen_in rows s at
+  inside_kept : (rows : List Row) (s : Station) (ts : Targets) (at : ℕ) (t : Tree)
+      → map (veil rows) (shown_in rows s ts at t) ≡ seen_in rows s ts at (skeleton_in rows s t)
+  inside_kept rows s ts at (leaf tag bytes) =
+      elim (has_role s) as (λ b. [] ≡ seen_in rows s ts at
       (cond b (hole tag (length bytes) (is_payload tag bytes)) (plain tag bytes))) [ true ↦ refl | false ↦ refl ]
-  inside_kept rows s at (node tag is) =
-      elim (has_role s) as (λ b. map (veil rows) (cond b [] (shown rows s (at + 4) [] is))
-      ≡ seen_in rows s at (cond b (hole tag (length (framed (items_bytes is))) false)
-      (branch tag (skeletons rows s is))))
-      [ true ↦ refl | false ↦ shown_kept rows s (at + 4) [] is ]
+  inside_kept rows s ts at (node tag is) =
+      elim (has_role s) as (λ b. map (veil rows) (cond b [] (shown rows s (pointed rows s ts at is) (at + 4) [] is))
+      ≡ seen_in rows s ts at (cond b (hole tag (length (framed (items_bytes is))) false)
+      (branch tag (skeletons rows s is)))) [
+        | true ↦ refl
+        | false ↦ shown_kept rows s (pointed rows s ts at is) (at + 4) [] is
+            ∙ ap (λ (x : Targets). seen rows s x (at + 4) [] (skeletons rows s is)) (pointed_kept rows s ts at is)
+      ]
 
-  shown_kept : (rows : List Row) (s : Station) (at : ℕ) (elder : List (List ℕ)) (is : Items)
-      → map (veil rows) (shown rows s at elder is) ≡ seen rows s at elder (skeletons rows s is)
-  shown_kept rows s at elder no_items = refl
-  shown_kept rows s at elder (item name t is) =
+  shown_kept : (rows : List Row) (s : Station) (ts : Targets) (at : ℕ) (elder : List (List ℕ)) (is : Items)
+      → map (veil rows) (shown rows s ts at elder is) ≡ seen rows s ts at elder (skeletons rows s is)
+  shown_kept rows s ts at elder no_items = refl
+  shown_kept rows s ts at elder (item name t is) =
       let u = station rows s (entry name t) in
       let k = skeleton_in rows u t in
       joined (veil rows) _ _ _ _ _ _
-      (visit_kept rows s elder at name t)
-      (inside_kept rows u (at + (2 + length name)) t
-      ∙ ap (λ (x : Station). seen_in rows x (at + (2 + length name)) k) (station_kept rows s name t))
-      (shown_kept rows s (at + (2 + length name) + length (value_bytes t)) (elder ++ name ∷ []) is
-      ∙ ap (λ (n : ℕ). seen rows s (at + (2 + length name) + n) (elder ++ name ∷ []) (skeletons rows s is))
+      (visit_kept rows s ts elder at name t)
+      (inside_kept rows u ts (at + (2 + length name)) t
+      ∙ ap (λ (x : Station). seen_in rows x ts (at + (2 + length name)) k) (station_kept rows s name t))
+      (shown_kept rows s ts (at + (2 + length name) + length (value_bytes t)) (elder ++ name ∷ []) is
+      ∙ ap (λ (n : ℕ). seen rows s ts (at + (2 + length name) + n) (elder ++ name ∷ []) (skeletons rows s is))
       (sym (width_kept rows u t)))
 
 no_role_cond : (b : Bool) (s u : Station) → has_role s ≡ false → has_role u ≡ false → has_role (cond b s u) ≡ false
@@ -131,13 +154,20 @@ command_kept rows at c =
     let v = command_veiled rows e in
     let w : widths_of (skeletons rows u c) + 5 ≡ length (framed (items_bytes c)) =
     omega (arith, widths_kept rows u c, framed_size (items_bytes c)) in
-    let rest : map (veil rows) (shown rows u (at + 4) [] c)
-    ≡ seen rows (station rows Outside (entry_in [] (branch 3 (skeletons rows u c)))) (at + 4) []
+    let rest : map (veil rows) (shown rows u (pointed rows u [] at c) (at + 4) [] c)
+    ≡ seen rows (station rows Outside (entry_in [] (branch 3 (skeletons rows u c))))
+    (seen_pointed rows (station rows Outside (entry_in [] (branch 3 (skeletons rows u c)))) [] at
+    (skeletons rows u c)) (at + 4) []
     (skeletons rows u c)
-    = shown_kept rows u (at + 4) [] c ∙ ap (λ (f : Entry). seen rows (station rows Outside f) (at + 4) []
+    = shown_kept rows u (pointed rows u [] at c) (at + 4) [] c
+    ∙ ap (λ (x : Targets). seen rows u x (at + 4) [] (skeletons rows u c)) (pointed_kept rows u [] at c)
+    ∙ ap
+    (λ (f : Entry). seen rows (station rows Outside f)
+    (seen_pointed rows (station rows Outside f) [] at (skeletons rows u c)) (at + 4) []
     (skeletons rows u c)) a in
     let first : veil rows (command_visit c) ≡ record {
       parent = Outside;
+      targets = [];
       elder = [];
       entry = entry_in [] (branch 3 (skeletons rows u c));
       start = 0;
@@ -145,6 +175,7 @@ command_kept rows at c =
     }
     = ap (λ (f : Entry). record {
       parent = Outside;
+      targets = [];
       elder = [];
       entry = f;
       start = 0;
@@ -152,6 +183,7 @@ command_kept rows at c =
     }) (v ∙ a)
     ∙ ap (λ (n : ℕ). record {
       parent = Outside;
+      targets = [];
       elder = [];
       entry = entry_in [] (branch 3 (skeletons rows u c));
       start = 0;
@@ -223,9 +255,11 @@ pub view_veiled : (info : Option Collection) (rows : List Row) → IsVeiled (vie
 view_veiled info rows = record { read = λ v. view_read info v.parent v.elder _ _ }
 
 ruled_by : (rows : List Row) (v : Visit) (b : Bool) → has_role (station_of rows v) ≡ b
-    → ruled_offence rows v.parent v.elder (cond b (without v.entry) v.entry) ≡ ruled_of rows v
+    → judged_offence rows v.targets v.parent v.elder (cond b (without v.entry) v.entry) ≡ ruled_of rows v
 unfolding ruled_offence
-ruled_by rows v true h = ap least (reasons_without rows v.parent v.elder v.entry h)
+ruled_by rows v true h =
+    ap₂ first_reason (ap least (reasons_without rows v.parent v.elder v.entry h))
+    (ap (pointer_offence rows v.targets) (station_without rows v.parent v.entry h))
 ruled_by rows v false h = refl
 
 content_read : (rows : List Row) (v : Visit) → content_of rows (veil rows v) ≡ content_of rows v

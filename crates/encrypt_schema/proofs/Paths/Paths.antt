@@ -1,5 +1,6 @@
 -- Paths compared name by name: equal ones, prefixes, and paths with one name more.
 use Rattle.std.proofs.Common.{◌≡◌, ℕ, ◌+◌, Bool, true, false, cond, ◌&&◌, ◌||◌, List, [], ◌∷◌, ◌++◌, Option, Some, None}
+use Rattle.std.proofs.Common.{◌≤◌, length, arith}
 use Rattle.std.proofs.Common.{is_some, refl, sym, ap, ap₂, ◌∙◌, bytes_eq, ⊎_elim}
 use mathlib.Core.Bool.{false≢true}
 use Rattle.std.specs.Cmp.Lexicographic.{bytes_decides, nat_list_eq_equiv}
@@ -110,3 +111,9 @@ among_leads p (r ∷ rs) e =
     (λ (h : is_same_path p r ≡ true). or_left (is_prefix p r) (leads p rs) (path_prefix p r h))
     (λ (h : among p rs ≡ true). or_right (is_prefix p r) (leads p rs) (among_leads p rs h))
     (or_cases (is_same_path p r) (among p rs) e)
+
+-- a path of a name or more isn't the empty one
+pub not_nil : (p q : List (List ℕ)) → 1 ≤ length p → q ≡ [] → is_same_path p q ≡ false
+not_nil [] q h e = absurd (omega (arith, h))
+not_nil (x ∷ p) [] h e = refl
+not_nil (x ∷ p) (y ∷ q) h e = absurd cc

@@ -13,9 +13,11 @@ use Rattle.encrypt_schema.specs.declared.command.marks.Role.TheVariants as role
 use Rattle.encrypt_schema.specs.declared.command.reason.Reason.{Reason}
 use Rattle.encrypt_schema.specs.Language.Row.{Row}
 use Rattle.encrypt_schema.specs.Commands.Stations.{Entry, Station, Outside, Store, Compare, station, has_role}
+use Rattle.encrypt_schema.specs.Commands.Pointers.{Targets, pointed}
 use Rattle.encrypt_schema.specs.Commands.Offences.{offence}
 use Rattle.encrypt_schema.specs.Language.Collection.{Collection}
-use Rattle.encrypt_schema.specs.Commands.Visits.{entry, Visit, target_of, view_of, content_of, station_of, mark_at}
+use Rattle.encrypt_schema.specs.Commands.Visits.{entry, command_entry, Visit, target_of, view_of, content_of}
+use Rattle.encrypt_schema.specs.Commands.Visits.{station_of, mark_at}
 use Rattle.encrypt_schema.specs.Commands.Visits.{Refusal, refused_at, or_else}
 
 -- what is looked at of an ancestor or of the place: the names of its elder siblings, and itself
@@ -66,26 +68,48 @@ abbrev pub station_along : List Row → Station → Chain → Station
 station_along rows s links = station rows (parent_along rows s links) (last_of links).entry
 
 -- the offence of the last place of a chain that begins below a value of this station
-abbrev pub offence_along : List ℕ → Option Collection → List Row → Station → Chain → Option Reason
-offence_along db info rows s links =
-    offence db info rows (parent_along rows s links) (last_of links).elder (last_of links).entry
+abbrev pub offence_along : List ℕ → Option Collection → List Row → Station → Targets → Chain → Option Reason
+offence_along db info rows s ts links =
+    offence db info rows ts (parent_along rows s links) (last_of links).elder (last_of links).entry
 
 -- the station of a place of a command; none where there is no such place
 abbrev pub station_at : List Row → Items → List ℕ → Option Station
 station_at rows c place = option_map (station_along rows Outside) (chain place c)
 
--- the offence of a place of a command, whichever pass it belongs to
-abbrev pub offence_at : List ℕ → Option Collection → List Row → Items → List ℕ → Option Reason
-offence_at db info rows c place = option_and_then (offence_along db info rows Outside) (chain place c)
+abbrev mutual
+  -- the targets of pointers for the place below a value of this station that begins at `at`, by those around the value
+  pub targets_in : List Row → Station → Targets → ℕ → List ℕ → Tree → Targets
+  targets_in rows s ts at [] t = ts
+  targets_in rows s ts at (i ∷ place) (leaf tag bytes) = ts
+  targets_in rows s ts at (i ∷ place) (node tag is) =
+      targets_from rows s (pointed rows s ts at is) (at + 4) i place is
+
+  -- the same below elements that begin at `at`
+  pub targets_from : List Row → Station → Targets → ℕ → ℕ → List ℕ → Items → Targets
+  targets_from rows s ts at i place no_items = ts
+  targets_from rows s ts at zero place (item name t is) =
+      targets_in rows (station rows s (entry name t)) ts (at + (2 + length name)) place t
+  targets_from rows s ts at (suc i) place (item name t is) =
+      targets_from rows s ts (at + (2 + length name) + length (value_bytes t)) i place is
+
+-- the targets of pointers for a place of a command that begins at `at`: those in the stored document around it
+abbrev pub targets_at : List Row → ℕ → Items → List ℕ → Targets
+targets_at rows at c place = targets_in rows (station rows Outside (command_entry c)) [] at place (node 3 c)
+
+-- the offence of a place of a command that begins at `at`, whichever pass it belongs to
+abbrev pub offence_at : List ℕ → Option Collection → List Row → ℕ → Items → List ℕ → Option Reason
+offence_at db info rows at c place =
+    option_and_then (offence_along db info rows Outside (targets_at rows at c place)) (chain place c)
 
 -- the length of the value at a place
 abbrev pub width_at : List ℕ → Tree → ℕ
 width_at place t = unwrap_or (option_map (λ value. length (value_bytes value)) (tree_at place t)) 0
 
 -- a place with this chain, whose value begins at an offset and has a length
-abbrev pub visit_along : List Row → Station → ℕ → ℕ → Chain → Visit
-visit_along rows s start width links = record {
+abbrev pub visit_along : List Row → Station → Targets → ℕ → ℕ → Chain → Visit
+visit_along rows s ts start width links = record {
   parent = parent_along rows s links;
+  targets = ts;
   elder = (last_of links).elder;
   entry = (last_of links).entry;
   start = start;
@@ -100,7 +124,8 @@ start_at at (i ∷ place) c = unwrap_or (start_from i place (at + 4) c) 0
 -- a place of a command that begins at `at`, read from its chain; none where there is no such place
 abbrev pub visit_at : List Row → ℕ → Items → List ℕ → Option Visit
 visit_at rows at c place =
-    option_map (visit_along rows Outside (start_at at place c) (width_at place (node 3 c))) (chain place c)
+    option_map (visit_along rows Outside (targets_at rows at c place) (start_at at place c) (width_at place (node 3 c)))
+    (chain place c)
 
 -- the refusal of a place of a command that begins at `at`, in a pass
 abbrev pub refusal_at : (Visit → Option Reason) → List Row → ℕ → Items → List ℕ → Option Refusal
@@ -114,15 +139,18 @@ chain_inside (i ∷ place) is = chain_from [] i place is
 -- a place inside a part of a command, as it is visited: a document of this station that begins at `at`
 abbrev pub part_visit_at : List Row → Station → ℕ → Items → List ℕ → Option Visit
 part_visit_at rows s at is place =
-    option_map (visit_along rows s (start_at at place is) (width_at place (node 3 is))) (chain_inside place is)
+    option_map
+    (visit_along rows s (targets_in rows s [] at place (node 3 is)) (start_at at place is) (width_at place (node 3 is)))
+    (chain_inside place is)
 
 -- the station of a place inside a part of a command
 abbrev pub part_station_at : List Row → Station → Items → List ℕ → Option Station
 part_station_at rows s is place = option_map (station_along rows s) (chain_inside place is)
 
--- the offence of a place inside a part of a command
-abbrev pub part_offence_at : List ℕ → Option Collection → List Row → Station → Items → List ℕ → Option Reason
-part_offence_at db info rows s is place = option_and_then (offence_along db info rows s) (chain_inside place is)
+-- the offence of a place inside a part of a command that begins at `at`
+abbrev pub part_offence_at : List ℕ → Option Collection → List Row → Station → ℕ → Items → List ℕ → Option Reason
+part_offence_at db info rows s at is place =
+    option_and_then (offence_along db info rows s (targets_in rows s [] at place (node 3 is))) (chain_inside place is)
 
 -- the first refusal of several
 abbrev pub first_of : List (Option Refusal) → Option Refusal

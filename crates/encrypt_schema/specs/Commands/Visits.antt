@@ -1,7 +1,8 @@
 -- MongoDB commands insert, update, delete and find: the places of a command in reading order, the marks of
 -- those that are protected, and the first that is refused.
 use Rattle.std.specs.Prelude.{ℕ, ◌+◌, ◌==◌, Bool, false, ◌&&◌, List, [], ◌∷◌, ◌++◌, length, Option, Some, None}
-use Rattle.std.specs.Prelude.{slice_index}
+use Rattle.std.specs.Prelude.{slice_index, ◌-◌, take, drop, option_map}
+use Rattle.encrypt_schema.specs.declared.command.marks.Span.{Span}
 use Rattle.bson_tree.specs.Tree.{Tree, leaf, node, Items, no_items, item, tag_of, kids_of}
 use Rattle.bson_tree.specs.Spelling.{value_bytes}
 use Rattle.encrypt_schema.specs.declared.command.marks.Mark.{Mark}
@@ -12,7 +13,8 @@ use Rattle.encrypt_schema.specs.Language.Row.{Row}
 use Rattle.encrypt_schema.specs.Commands.Stations.{Entry, Station, Outside, Store, Compare, station}
 use Rattle.encrypt_schema.specs.Language.Collection.{Collection}
 pub use Rattle.encrypt_schema.specs.Language.Values.{names_of}
-use Rattle.encrypt_schema.specs.Commands.Offences.{target_offence, view_offence, ruled_offence, content_offence}
+use Rattle.encrypt_schema.specs.Commands.Pointers.{Targets, pointed, nth_target, nth_span}
+use Rattle.encrypt_schema.specs.Commands.Offences.{target_offence, view_offence, judged_offence, content_offence}
 
 -- the bytes of a raw value; none of a document or an array
 abbrev pub raw_of : Tree → List ℕ
@@ -43,18 +45,20 @@ abbrev pub command_entry : Items → Entry
 command_entry c = entry [] (node 3 c)
 
 -- a place: its parent's station, the names of its elder siblings, what is looked at of it, the offset at
--- which its value begins, and the length of its value
+-- which its value begins, and the length of its value; and the targets of pointers there
 pub record Visit : Type 0 where
   pub parent : Station
+  pub targets : Targets
   pub elder : List (List ℕ)
   pub entry : Entry
   pub start : ℕ
   pub width : ℕ
 
 -- the place of an element that begins at `at`: a type byte, the name, 00, the value
-abbrev pub visit : Station → List (List ℕ) → ℕ → List ℕ → Tree → Visit
-visit parent elder at name t = record {
+abbrev pub visit : Station → Targets → List (List ℕ) → ℕ → List ℕ → Tree → Visit
+visit parent ts elder at name t = record {
   parent = parent;
+  targets = ts;
   elder = elder;
   entry = entry name t;
   start = at + (2 + length name);
@@ -62,24 +66,29 @@ visit parent elder at name t = record {
 }
 
 abbrev mutual
-  -- the places inside a value of this station that begins at `at`
-  pub visits_in : List Row → Station → ℕ → Tree → List Visit
-  visits_in rows s at (leaf tag bytes) = []
-  visits_in rows s at (node tag is) = visits rows s (at + 4) [] is
+  -- the places inside a value of this station that begins at `at`, by the targets of pointers around it
+  pub visits_in : List Row → Station → Targets → ℕ → Tree → List Visit
+  visits_in rows s ts at (leaf tag bytes) = []
+  visits_in rows s ts at (node tag is) = visits rows s (pointed rows s ts at is) (at + 4) [] is
 
   -- the places of elements that begin at `at`, whose parent has this station and whose elder siblings have
-  -- these names, and the places inside them
-  pub visits : List Row → Station → ℕ → List (List ℕ) → Items → List Visit
-  visits rows parent at elder no_items = []
-  visits rows parent at elder (item name t is) =
-      visit parent elder at name t
-      ∷ (visits_in rows (station rows parent (entry name t)) (at + (2 + length name)) t
-      ++ visits rows parent (at + (2 + length name) + length (value_bytes t)) (elder ++ name ∷ []) is)
+  -- these names, and the places inside them; these are the targets of pointers there
+  pub visits : List Row → Station → Targets → ℕ → List (List ℕ) → Items → List Visit
+  visits rows parent ts at elder no_items = []
+  visits rows parent ts at elder (item name t is) =
+      visit parent ts elder at name t
+      ∷ (visits_in rows (station rows parent (entry name t)) ts (at + (2 + length name)) t
+      ++ visits rows parent ts (at + (2 + length name) + length (value_bytes t)) (elder ++ name ∷ []) is)
+
+-- the places inside a document of this station that begins at `at`, of which no more is known
+abbrev pub part_visits : List Row → Station → ℕ → Items → List Visit
+part_visits rows s at is = visits rows s (pointed rows s [] at is) (at + 4) [] is
 
 -- the place of a command itself, which is told at 0, where no value begins
 abbrev pub command_visit : Items → Visit
 command_visit c = record {
   parent = Outside;
+  targets = [];
   elder = [];
   entry = command_entry c;
   start = 0;
@@ -88,8 +97,7 @@ command_visit c = record {
 
 -- all places of a command that begins at `at`, itself first
 abbrev pub command_visits : List Row → ℕ → Items → List Visit
-command_visits rows at c =
-    command_visit c ∷ visits rows (station rows Outside (command_entry c)) (at + 4) [] c
+command_visits rows at c = command_visit c ∷ part_visits rows (station rows Outside (command_entry c)) at c
 
 -- the station of a place
 abbrev pub station_of : List Row → Visit → Station
@@ -97,7 +105,14 @@ station_of rows v = station rows v.parent v.entry
 
 -- the mark of a place for a rule and a role
 abbrev pub mark : Visit → ℕ → Role → Mark
-mark v i why = record { start = v.start; end = v.start + v.width; tag = v.entry.tag; policy = i; role = why }
+mark v i why = record {
+  start = v.start;
+  end = v.start + v.width;
+  tag = v.entry.tag;
+  policy = i;
+  role = why;
+  name = nth_span i v.targets;
+}
 
 -- the mark of a place of this station; none where it isn't protected
 abbrev pub mark_at : Station → Visit → List Mark
@@ -109,6 +124,21 @@ mark_at _ v = []
 abbrev pub marks : List Row → List Visit → List Mark
 marks rows [] = []
 marks rows (v ∷ vs) = mark_at (station_of rows v) v ++ marks rows vs
+
+-- the text of the target of the rule's pointer, of a place of this station; none where it isn't protected
+abbrev pub text_at : Station → Visit → List (Option (List ℕ))
+text_at (Store i) v = option_map (λ t. t.text) (nth_target i v.targets) ∷ []
+text_at (Compare i) v = option_map (λ t. t.text) (nth_target i v.targets) ∷ []
+text_at _ v = []
+
+-- those of marks, in order
+abbrev pub texts : List Row → List Visit → List (Option (List ℕ))
+texts rows [] = []
+texts rows (v ∷ vs) = text_at (station_of rows v) v ++ texts rows vs
+
+-- the bytes of a span, in bytes that begin at `at`
+abbrev pub text_in : ℕ → List ℕ → Span → List ℕ
+text_in at bytes span = take (span.end - span.start) (drop (span.start - at) bytes)
 
 -- the protected places of a command that begins at `at`, in reading order
 abbrev pub roles : List Row → ℕ → Items → List Mark
@@ -124,11 +154,11 @@ view_of info v = view_offence info v.parent v.elder v.entry
 
 -- the offence of a place in the content pass, under rules
 abbrev pub ruled_of : List Row → Visit → Option Reason
-ruled_of rows v = ruled_offence rows v.parent v.elder v.entry
+ruled_of rows v = judged_offence rows v.targets v.parent v.elder v.entry
 
 -- the offence of a place in the content pass, whether there are rules or not
 abbrev pub content_of : List Row → Visit → Option Reason
-content_of rows v = content_offence rows v.parent v.elder v.entry
+content_of rows v = content_offence rows v.targets v.parent v.elder v.entry
 
 -- why a command is refused, and the offset of the value that is refused; 0 for the command itself
 pub record Refusal : Type 0 where

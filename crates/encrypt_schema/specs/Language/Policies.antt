@@ -4,9 +4,10 @@ use Rattle.std.specs.List.{list_all, list_any}
 use Rattle.encrypt_schema.specs.declared.schema.policy.Algorithm.{Algorithm}
 use Rattle.encrypt_schema.specs.declared.schema.policy.Algorithm.TheVariants.{Deterministic, Random}
 use Rattle.encrypt_schema.specs.declared.schema.policy.KeyRef.{KeyRef}
-use Rattle.encrypt_schema.specs.declared.schema.policy.KeyRef.TheVariants.{Id}
+use Rattle.encrypt_schema.specs.declared.schema.policy.KeyRef.TheVariants.{Id, Pointer}
 use Rattle.encrypt_schema.specs.declared.schema.policy.Policy.{Policy}
 use Rattle.encrypt_schema.specs.Language.Row.{Row}
+use Rattle.encrypt_schema.specs.Paths.Classes.{is_same_path}
 
 -- a policy that allows no type
 abbrev pub no_policy : Policy
@@ -38,9 +39,11 @@ is_same_algorithm Deterministic Random = false
 is_same_algorithm Random Deterministic = false
 is_same_algorithm Random Random = true
 
--- two keys are one
+-- two keys are named in one way: by an id, or by a pointer
 abbrev pub is_same_key : KeyRef → KeyRef → Bool
 is_same_key (Id id) (Id other) = bytes_eq id other
+is_same_key (Pointer names) (Pointer others) = is_same_path names others
+is_same_key _ _ = false
 
 -- two policies have equal algorithms, keys and sets of types
 unfoldable pub is_same_policy : Policy → Policy → Bool

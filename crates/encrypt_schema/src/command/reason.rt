@@ -50,6 +50,8 @@ pub enum Reason {
     Padding = 21,
     /// What was sealed is no value of its type.
     Plain = 22,
+    /// The field that names the key isn't there, or is no string outside arrays and protected fields.
+    PointerBad = 23,
 }
 
 impl Reason {

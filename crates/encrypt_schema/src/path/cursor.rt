@@ -2,7 +2,9 @@
 
 ghost use Rattle.std.specs.Prelude.{◌≡◌, ◌<◌, ◌++◌, ◌∷◌, [], ℕ, List, Option, None, length, true, IfSome};
 ghost use Rattle.encrypt_schema.specs.Paths.Classes.{class, class_by};
-ghost use Rattle.encrypt_schema.specs.Views.Cursors.{Stands, path_of};
+ghost use Rattle.encrypt_schema.specs.Views.Cursors.{Stands, StandsForPath, path_of};
+ghost use Rattle.encrypt_schema.specs.Language.Row.{Row};
+ghost use Rattle.encrypt_schema.specs.Views.Parts.{is_nil};
 ghost use Rattle.encrypt_schema.specs.Views.Landing.{landed};
 ghost use Rattle.encrypt_schema.specs.Views.Matches.{lesser};
 ghost use Rattle.encrypt_schema.specs.Views.Spots.{child_at, rule_at, other_at};
@@ -29,6 +31,21 @@ enum Reach {
     Below,
     /// Neither.
     Clear,
+}
+
+impl Cursor {
+    /// Whether the one path for which it stands is the empty one, with which a document begins.
+    #[tactic(auto, using(crate::proofs::Paths::Roots::front_root))]
+    pub fn is_root(self) -> bool
+        ensures root { (rows : List Row) → StandsForPath rows self → result ≡ is_nil (path_of rows self) }
+    {
+        match self.reach {
+            Reach::Front(number, _, _) => number == 0,
+            Reach::Other(_) => true,
+            Reach::Below => true,
+            Reach::Clear => true,
+        }
+    }
 }
 
 impl Rows {

@@ -3,9 +3,11 @@
 
 ghost use Rattle.std.specs.Prelude.{◌≡◌, ◌==◌};
 ghost use Rattle.std.specs.List.{list_any};
-ghost use Rattle.encrypt_schema.specs.Language.Policies.{are_types_of, is_same_policy};
+ghost use Rattle.encrypt_schema.specs.Language.Policies.{are_types_of, is_same_key, is_same_policy};
+ghost use Rattle.encrypt_schema.specs.Paths.Classes.{is_same_path};
 
-use bson_tree::Bytes;
+use crate::schema::names::is_named;
+use bson_tree::{Bytes, Names};
 use std::marker::Model;
 
 /// How a value is sealed.
@@ -18,10 +20,44 @@ pub enum Algorithm {
 }
 
 /// Which data key seals a value.
-#[derive(Clone, Copy, Debug, PartialEq, Eq)]
+#[derive(Drop)]
 pub enum KeyRef {
     /// The key with this id, a UUID.
     Id([u8; 16]),
+    /// The key with the alternate name that stands in the stored document at this path, the names of a JSON pointer
+    /// (RFC 6901).
+    Pointer(Names),
+}
+
+impl KeyRef {
+    /// Whether the two name a key in the same way.
+    pub fn is_same(&self, other: &KeyRef) -> bool
+        ensures same { result ≡ is_same_key self.now other.now }
+    {
+        match (self, other) {
+            (KeyRef::Id(id), KeyRef::Id(other)) => id == other,
+            (KeyRef::Pointer(names), KeyRef::Pointer(others)) => {
+                are_same(names.as_slice(), others.as_slice())
+            }
+            _ => false,
+        }
+    }
+}
+
+/// Whether two lists have the same names in the same order.
+#[tactic(auto, using(crate::proofs::Paths::Paths::not_nil))]
+fn are_same(names: &[Bytes], others: &[Bytes]) -> bool
+    ensures same { result ≡ is_same_path names.now others.now }
+{
+    match names {
+        [] => others.is_empty(),
+        [name, names @ ..] => match others {
+            [] => false,
+            [other, others @ ..] => {
+                is_named(name.as_slice(), other.as_slice()) && are_same(names, others)
+            }
+        },
+    }
 }
 
 /// The BSON types that a rule protects, seen as their type bytes.
@@ -79,7 +115,7 @@ impl Policy {
         ensures same { result ≡ is_same_policy self.now other.now }
     {
         self.algorithm == other.algorithm
-            && self.key == other.key
+            && self.key.is_same(&other.key)
             && self.types.is_subset(&other.types)
             && other.types.is_subset(&self.types)
     }
