@@ -46,6 +46,7 @@ class Reason(IntEnum):
     TagMismatch = 20
     Padding = 21
     Plain = 22
+    PointerBad = 23
     NotText = 28
 
 

@@ -12,4 +12,4 @@ pub mod Unmarked
 pub mod MarkedPlaces
 pub mod ToldPlaces
 pub mod Judged
-mod Wholes
+pub mod Wholes

@@ -19,7 +19,7 @@ ghost use Rattle.encrypt_schema.specs.Commands.Skeletons.{AreApart, blank, hole_
 ghost use Rattle.encrypt_schema.specs.Commands.Stations.{Station, has_role};
 ghost use Rattle.encrypt_schema.specs.Commands.Targets.{info_of, rows_of, verdict};
 ghost use Rattle.encrypt_schema.specs.Commands.Visits.{Refusal, command_visits, content_verdict, roles, station_of};
-ghost use Rattle.encrypt_schema.specs.Commands.Visits.{part_visits};
+ghost use Rattle.encrypt_schema.specs.Commands.Visits.{part_visits, text_in, texts};
 ghost use Rattle.command_marker.specs.Commands.{passes};
 ghost use Rattle.command_marker.specs.Marked.{marked};
 ghost use Rattle.command_marker.specs.MarkedPlaces.{marking_of};
@@ -71,6 +71,19 @@ pub fn equal_blanks()
     ensures blanks { (rows : List Row) (c d : Items) → skeleton rows c ≡ skeleton rows d → blank rows c ≡ blank rows d }
     ensures marks { (rows : List Row) (at : ℕ) (c : Items)
         → map use_of_mark (roles rows at c) ≡ map use_of_site (sites rows c) }
+{}
+
+/// The `name` of each mark is where the command has the text that names the mark's key, by its rule's pointer; there
+/// is none where the rule has no pointer. Commands with equal skeletons have equal such texts, and so have commands
+/// that are equal but for blanks at their protected values, wherever they begin.
+pub fn key_names()
+    ensures texts { (rows : List Row) (at : ℕ) (c : Items)
+        → map (λ m. option_map (text_in at (doc_bytes c)) m.name) (roles rows at c)
+        ≡ texts rows (command_visits rows at c) }
+    ensures worlds { (rows : List Row) (at : ℕ) (c d : Items) → skeleton rows c ≡ skeleton rows d
+        → texts rows (command_visits rows at c) ≡ texts rows (command_visits rows at d) }
+    ensures blanks { (rows : List Row) (at from : ℕ) (c d : Items) → blank rows c ≡ blank rows d
+        → texts rows (command_visits rows at c) ≡ texts rows (command_visits rows from d) }
 {}
 
 /// A command that passes unchanged has no value with a role and isn't refused; whatever rules there are, its reply has

@@ -7,6 +7,7 @@ pub mod Tables
 pub mod Widths
 pub mod Pointed
 pub mod Only
+pub mod Lookups
 pub mod PointerSpans
 pub mod PointerTexts
 pub mod EqualTexts
@@ -30,4 +31,5 @@ pub mod Plans
 pub mod Taken
 pub mod Ruled
 pub mod WorkedOthers
+pub mod WorkedPointers
 pub mod WorkedStored

@@ -3,6 +3,7 @@
 pub(crate) mod marks;
 pub(crate) mod operators;
 pub(crate) mod pointers;
+pub(crate) mod pointing;
 pub(crate) mod reason;
 pub(crate) mod stored;
 pub(crate) mod walking;

@@ -4,6 +4,7 @@ use Rattle.bson_tree.specs.Tree.{Tree, Items, no_items, item}
 use Rattle.bson_tree.specs.Spelling.{value_bytes}
 use Rattle.bson_codec.specs.Borrowed.{Elem}
 use Rattle.encrypt_schema.specs.Language.Names.{named, is_among}
+use Rattle.encrypt_schema.specs.Language.Values.{names_of}
 use Rattle.encrypt_schema.specs.Commands.Pointers.{only}
 
 -- the only element of a name, where this one was found before elements that begin at `at`

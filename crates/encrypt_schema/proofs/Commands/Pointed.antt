@@ -3,7 +3,7 @@ use Rattle.std.proofs.Common.{◌≡◌, ◌==◌, ℕ, zero, suc, ◌+◌, Bool
 use Rattle.std.proofs.Common.{length, map, Option, Some, None, option_and_then, option_map, refl, sym, ap, ap₂, ◌∙◌}
 use Rattle.std.proofs.Common.{is_some, subst, ⊎_elim, if◌then◌else◌}
 use Rattle.std.proofs.lemmas.Bool.{false≢true, and_parts, and_from, or_cases, or_left, or_right}
-use Rattle.std.proofs.lemmas.List.{append_assoc, append-nil}
+use Rattle.std.proofs.lemmas.List.{append_assoc}
 use Rattle.bson_tree.specs.Tree.{Tree, leaf, node, Items, no_items, item, tag_of}
 use Rattle.bson_tree.specs.Spelling.{value_bytes}
 use Rattle.bson_codec.specs.Borrowed.{Elem}
@@ -14,7 +14,10 @@ use Rattle.encrypt_schema.specs.declared.schema.policy.KeyRef.TheVariants.{Id, P
 use Rattle.encrypt_schema.specs.Language.Names.{named, is_among}
 use Rattle.encrypt_schema.specs.Language.Policies.{policy_at}
 use Rattle.encrypt_schema.specs.Language.Row.{Row, paths}
-use Rattle.encrypt_schema.specs.Paths.Classes.{class, class_by, number_of, covers, leads, is_prefix}
+use Rattle.encrypt_schema.specs.Language.Values.{names_of}
+use Rattle.encrypt_schema.specs.Paths.Classes.{class, class_by, goes_by, begins_at, matches, matched, covers_row}
+use Rattle.encrypt_schema.specs.Paths.Classes.{covers}
+use Rattle.encrypt_schema.specs.Paths.Classes.{leads}
 use Rattle.encrypt_schema.specs.Paths.Dotted.{is_clear}
 use Rattle.encrypt_schema.specs.Commands.Stations.{Station, Document, Passed, station, stored_at, is_document}
 use Rattle.encrypt_schema.specs.Commands.Pointers.{Target, Targets, only, text_target, target_in, target_of}
@@ -23,7 +26,9 @@ use Rattle.encrypt_schema.specs.Commands.Visits.{entry}
 use Rattle.encrypt_schema.specs.Commands.Skeletons.{Skeleton, hole, plain, branch, Skeletons, no_more, more}
 use Rattle.encrypt_schema.specs.Commands.Skeletons.{skeleton_in, skeletons, width_of}
 use Rattle.encrypt_schema.proofs.Commands.Widths.{names_in, names_kept, width_kept}
-use Rattle.encrypt_schema.proofs.Paths.Paths.{named_self, named_same, path_same, among, found_is}
+use Rattle.encrypt_schema.proofs.Paths.Firsts.{meets, found_by}
+use Rattle.encrypt_schema.proofs.Paths.Matches.{goes_on}
+use Rattle.encrypt_schema.proofs.Paths.Paths.{named_same}
 
 -- an element of a skeleton
 pub record Shade : Type 0 where
@@ -119,33 +124,39 @@ IsOpen Below = ⊥
 IsOpen Above = Unit {0}
 IsOpen Clear = Unit {0}
 
-prefix_longer : (r p q : List (List ℕ)) → is_prefix r p ≡ true → is_prefix r (p ++ q) ≡ true
-prefix_longer [] p q h = refl
-prefix_longer (x ∷ r) [] q h = absurd (false≢true h)
-prefix_longer (x ∷ r) (y ∷ p) q h =
-    let b = and_parts (named x y) (is_prefix r p) h in
-    and_from (named x y) (is_prefix r (p ++ q)) b.0 (prefix_longer r p q b.1)
+-- what a rule covers of a path it covers of a longer one
+begins_longer : (o : Option (List (List ℕ))) (p q : List (List ℕ)) → begins_at o p ≡ true → begins_at o (p ++ q) ≡ true
+begins_longer None p q h = refl
+begins_longer (Some listed) [] q h = absurd (false≢true h)
+begins_longer (Some listed) (x ∷ p) q h = h
 
-covers_longer : (p q : List (List ℕ)) (rs : List (List (List ℕ))) → covers p rs ≡ true → covers (p ++ q) rs ≡ true
+goes_longer : (o : Option (List (List ℕ))) (r p q : List (List ℕ)) → goes_by (begins_at o) r p ≡ true
+    → goes_by (begins_at o) r (p ++ q) ≡ true
+goes_longer o [] p q h = begins_longer o p q h
+goes_longer o (x ∷ r) [] q h = absurd (false≢true h)
+goes_longer o (x ∷ r) (y ∷ p) q h =
+    let b = and_parts (named x y) (goes_by (begins_at o) r p) h in
+    and_from (named x y) (goes_by (begins_at o) r (p ++ q)) b.0 (goes_longer o r p q b.1)
+
+covers_longer : (p q : List (List ℕ)) (rows : List Row) → covers p rows ≡ true → covers (p ++ q) rows ≡ true
 covers_longer p q [] h = h
-covers_longer p q (r ∷ rs) h =
+covers_longer p q (row ∷ rows) h =
     ⊎_elim
-    (λ (e : is_prefix r p ≡ true). or_left (is_prefix r (p ++ q)) (covers (p ++ q) rs) (prefix_longer r p q e))
-    (λ (e : covers p rs ≡ true). or_right (is_prefix r (p ++ q)) (covers (p ++ q) rs) (covers_longer p q rs e))
-    (or_cases (is_prefix r p) (covers p rs) h)
+    (λ (e : covers_row row p ≡ true). or_left (covers_row row (p ++ q)) (covers (p ++ q) rows)
+    (goes_longer row.others row.path p q e))
+    (λ (e : covers p rows ≡ true). or_right (covers_row row (p ++ q)) (covers (p ++ q) rows)
+    (covers_longer p q rows e))
+    (or_cases (covers_row row p) (covers p rows) h)
 
-prefix_self : (p : List (List ℕ)) → is_prefix p p ≡ true
-prefix_self [] = refl
-prefix_self (x ∷ p) = and_from (named x x) (is_prefix p p) (named_self x) (prefix_self p)
-
-among_covers : (p : List (List ℕ)) (rs : List (List (List ℕ))) → among p rs ≡ true → covers p rs ≡ true
-among_covers p [] h = h
-among_covers p (r ∷ rs) h =
+matched_covers : (p : List (List ℕ)) (rows : List Row) → meets (λ row. matches row p) rows ≡ true
+    → covers p rows ≡ true
+matched_covers p [] h = h
+matched_covers p (row ∷ rows) h =
     ⊎_elim
-    (λ e. or_left (is_prefix r p) (covers p rs)
-    (subst (λ (q : List (List ℕ)). is_prefix q p ≡ true) (path_same p r e) (prefix_self p)))
-    (λ e. or_right (is_prefix r p) (covers p rs) (among_covers p rs e))
-    (or_cases _ (among p rs) h)
+    (λ (e : matches row p ≡ true). or_left (covers_row row p) (covers p rows) (goes_on row.others row.path p e))
+    (λ (e : meets (λ r. matches r p) rows ≡ true). or_right (covers_row row p) (covers p rows)
+    (matched_covers p rows e))
+    (or_cases (matches row p) (meets (λ r. matches r p) rows) h)
 
 clear_covers : (o : Option ℕ) (c l : Bool) → is_clear (class_by o c l) ≡ true → c ≡ false
 clear_covers (Some i) c l h = absurd (false≢true h)
@@ -167,11 +178,10 @@ pub clear_front : (rows : List Row) (p q : List (List ℕ)) → is_clear (class 
     → IsOpen (class rows p)
 unfolding class
 clear_front rows p q h =
-    let rs = paths rows in
-    let whole = clear_covers (number_of 0 (p ++ q) rs) (covers (p ++ q) rs) (leads (p ++ q) rs) h in
-    open_by (number_of 0 p rs) (covers p rs) (leads p rs)
-    (λ e. among_covers p rs (sym (found_is 0 p rs) ∙ e))
-    (not_true (covers p rs) (λ e. sym whole ∙ covers_longer p q rs e))
+    let whole = clear_covers (matched (p ++ q) rows) (covers (p ++ q) rows) (leads (p ++ q) (paths rows)) h in
+    open_by (matched p rows) (covers p rows) (leads p (paths rows))
+    (λ e. matched_covers p rows (sym (found_by (λ (row : Row). matches row p) 0 rows) ∙ e))
+    (not_true (covers p rows) (λ e. sym whole ∙ covers_longer p q rows e))
 
 both_none : (tag : ℕ) (f : Elem → Option Target) (g : Shade → Option Target) (r : Elem → Shade) (o : Option Elem)
     → ((e : Elem) → o ≡ Some e → f e ≡ g (r e))

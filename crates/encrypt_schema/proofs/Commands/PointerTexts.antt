@@ -14,7 +14,7 @@ use Rattle.encrypt_schema.specs.declared.schema.policy.KeyRef.{KeyRef}
 use Rattle.encrypt_schema.specs.declared.schema.policy.KeyRef.TheVariants.{Id, Pointer}
 use Rattle.encrypt_schema.specs.Language.Names.{named, is_among}
 use Rattle.encrypt_schema.specs.Language.Row.{Row}
-use Rattle.encrypt_schema.specs.Language.Values.{text_of}
+use Rattle.encrypt_schema.specs.Language.Values.{names_of, text_of}
 use Rattle.encrypt_schema.specs.Paths.Classes.{class}
 use Rattle.encrypt_schema.specs.Paths.Dotted.{is_clear}
 use Rattle.encrypt_schema.specs.Commands.Pointers.{Target, Targets, only, text_target, target_in, target_of}

@@ -12,6 +12,7 @@ use Rattle.encrypt_schema.specs.Language.Policies.{is_same_policy, policy_at}
 use Rattle.encrypt_schema.specs.Language.Row.{Row}
 use Rattle.encrypt_schema.specs.Paths.Classes.{class}
 use Rattle.encrypt_schema.specs.Paths.Dotted.{is_dollar, is_position, positional, split}
+use Rattle.encrypt_schema.specs.Commands.Pointers.{targets_of}
 use Rattle.encrypt_schema.specs.Commands.Stations.{is_logical, is_set, operator_of}
 use Rattle.encrypt_schema.specs.Commands.Offences.{is_again, ruled_offence, renamed}
 use Rattle.encrypt_schema.specs.Commands.Visits.{is_payload, roles, content_verdict}
@@ -37,7 +38,7 @@ others_stored_accepted = refl
 
 pub others_stored_roles : roles scores 0 others_stored
     ≡ mark_at 67 71 16 0 role.Store ∷ mark_at 74 78 16 0 role.Store ∷ []
-unfolding class named
+unfolding class named targets_of
 others_stored_roles = refl
 
 -- find scores {"m.7": 1}

@@ -115,7 +115,7 @@ ends_begins (Some listed) [] e = e
 ends_begins (Some listed) (x ∷ []) e = e
 ends_begins (Some listed) (x ∷ y ∷ q) e = absurd (false≢true e)
 
-goes_on : (o : Option (List (List ℕ))) (r q : List (List ℕ)) → goes_by (ends_at o) r q ≡ true
+pub goes_on : (o : Option (List (List ℕ))) (r q : List (List ℕ)) → goes_by (ends_at o) r q ≡ true
     → goes_by (begins_at o) r q ≡ true
 goes_on o [] q e = ends_begins o q e
 goes_on o (x ∷ r) [] e = e

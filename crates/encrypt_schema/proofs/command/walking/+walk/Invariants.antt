@@ -1,7 +1,8 @@
 use Rattle.std.proofs.Common.{◌≡◌, ◌+◌, ◌*◌, ◌≤◌, ◌++◌, [], take, drop}
 use Rattle.bson_tree.specs.Tree.{tree_size, items_size, count}
 use Rattle.encrypt_schema.specs.Commands.Visits.{names_of, visits, marks, ruled_of, first_refusal}
-use Rattle.encrypt_schema.specs.Views.Walking.{Begins, targets_seen}
+use Rattle.encrypt_schema.specs.Views.Pointing.{targets_read}
+use Rattle.encrypt_schema.specs.Views.Walking.{Begins}
 use Rattle.encrypt_schema.proofs.command.walking.+walk.Given as goal
 
 abbrev pub decreases-mark_inside : goal.decreases-mark_inside
@@ -17,20 +18,21 @@ abbrev pub decreases-mark_all : goal.decreases-mark_all
 decreases-mark_all g l = 4 * items_size l.document.now.tree + 2
 
 abbrev pub invariant-mark_all-loop-item : goal.invariant-mark_all-loop-item
-invariant-mark_all-loop-item g l = record {
-  size : items_size l.item-iterator.tree ≤ items_size l.document.tree;
-  number : l.k + count l.item-iterator.tree ≡ count l.document.tree;
-  elder : drop l.k (names_of l.document.tree) ≡ names_of l.item-iterator.tree;
-  marked : l.marks
-      ++ marks l.rows
-      (visits l.rows (g.P.Place.station_by l.at l.rows) (targets_seen l.rows l.root) l.item-iterator.start
-      (take l.k (names_of l.document.tree)) l.item-iterator.tree)
-      ≡ l.fn.marks ++ marks l.rows (visits l.rows (g.P.Place.station_by l.at l.rows) (targets_seen l.rows l.root)
-      (l.document.start + 4) [] l.document.tree);
-  clean : first_refusal (ruled_of l.rows)
-      (visits l.rows (g.P.Place.station_by l.at l.rows) (targets_seen l.rows l.root) l.item-iterator.start
-      (take l.k (names_of l.document.tree)) l.item-iterator.tree)
-      ≡ first_refusal (ruled_of l.rows) (visits l.rows (g.P.Place.station_by l.at l.rows) (targets_seen l.rows l.root)
-      (l.document.start + 4) [] l.document.tree);
-  kept : Begins l.fn.marks l.marks;
-}
+invariant-mark_all-loop-item g l =
+    let rows = l.fn.pointing.rows in
+    let s = g.P.Place.station_by l.at rows in
+    let ts = targets_read l.fn.pointing in
+    record {
+      size : items_size l.item-iterator.tree ≤ items_size l.document.tree;
+      number : l.k + count l.item-iterator.tree ≡ count l.document.tree;
+      elder : drop l.k (names_of l.document.tree) ≡ names_of l.item-iterator.tree;
+      same : l.pointing ≡ l.fn.pointing;
+      marked : l.marks
+          ++ marks rows
+          (visits rows s ts l.item-iterator.start (take l.k (names_of l.document.tree)) l.item-iterator.tree)
+          ≡ l.fn.marks ++ marks rows (visits rows s ts (l.document.start + 4) [] l.document.tree);
+      clean : first_refusal (ruled_of rows)
+          (visits rows s ts l.item-iterator.start (take l.k (names_of l.document.tree)) l.item-iterator.tree)
+          ≡ first_refusal (ruled_of rows) (visits rows s ts (l.document.start + 4) [] l.document.tree);
+      kept : Begins l.fn.marks l.marks;
+    }
