@@ -65,7 +65,7 @@ impl Rows {
         }
     }
 
-    /// The cursor of a path with one name more. It takes at most one search by the name's order, one more
+    /// The cursor of a path with one name more. It takes at most one look-up by the name's hash, one more by its order
     /// where a rule is for all fields but listed ones, and no memory.
     pub fn step(&self, at: Cursor, name: &[u8]) -> Cursor
         requires cursor { (path : List (List ℕ)) × Stands self.now at path }
