@@ -2,6 +2,7 @@ pub mod Kept
 mod Filled
 mod Frames
 pub mod Waits
+mod Answered
 mod Tables
 pub mod Decrypting
 pub mod Readies

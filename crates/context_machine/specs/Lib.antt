@@ -8,6 +8,7 @@ pub mod Tables
 pub mod SealingCodes
 pub mod Beginning
 pub mod Waiting
+pub mod Replying
 pub mod Decrypting
 pub mod Ready
 pub mod Blanked

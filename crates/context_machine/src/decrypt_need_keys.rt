@@ -81,6 +81,13 @@ impl<'a> DecryptNeedKeys<'a> {
         }
     }
 
+    /// The document itself.
+    pub fn document(&self) -> &RawDoc<'a>
+        ensures document { result.now ≡ self.now.document }
+    {
+        &self.document
+    }
+
     /// The filter by which the caller asks its key vault for the keys that are needed. `Memory` where there is none for
     /// it.
     pub fn op(&self, alloc: Global) -> Result<Vec<u8>, Memory>

@@ -10,6 +10,7 @@ ghost use Rattle.context_machine.specs.Decrypting.{OpensTo, StaysSealed};
 
 use crate::decrypt_done::DecryptDone;
 use crate::decrypt_need_keys::DecryptNeedKeys;
+use bson_codec::RawDoc;
 use crypto_hooks::Block256;
 use doc_rewrite::{KeyTable, Spot, open_through};
 use std::marker::Model;
@@ -51,6 +52,13 @@ impl<'a> DecryptReady<'a> {
             ≡ record { document = asked.entry.document; kept = asked.entry.kept; table = table } }
     {
         DecryptReady { asked, table, out }
+    }
+
+    /// The document itself.
+    pub fn document(&self) -> &RawDoc<'a>
+        ensures document { result.now ≡ self.now.document }
+    {
+        self.asked.document()
     }
 
     /// Opens the document: the value of its original type in the place of each payload. It takes no memory.

@@ -36,6 +36,7 @@ mod needed;
 mod opened_keys;
 mod payload_needs;
 mod ready;
+mod replying;
 mod slots;
 mod wanted;
 
@@ -51,3 +52,4 @@ pub use need_keys::NeedKeys;
 pub use need_markings::NeedMarkings;
 pub use opened_keys::KeysStop;
 pub use ready::Ready;
+pub use replying::ReplyStop;

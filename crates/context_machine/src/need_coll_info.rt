@@ -52,6 +52,13 @@ impl<'a> NeedCollInfo<'a> {
         }
     }
 
+    /// The command itself.
+    pub fn command(&self) -> &RawDoc<'a>
+        ensures command { result.now ≡ self.now.command }
+    {
+        &self.command
+    }
+
     /// The filter `{name: collection}` by which a caller asks for the infos of the collection. `Memory` where there is
     /// none for it.
     pub fn op(&self, alloc: Global) -> Result<Vec<u8>, Memory>

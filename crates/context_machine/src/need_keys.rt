@@ -80,6 +80,13 @@ impl<'a> NeedKeys<'a> {
         }
     }
 
+    /// The command itself.
+    pub fn command(&self) -> &RawDoc<'a>
+        ensures command { result.now ≡ self.now.command }
+    {
+        &self.command
+    }
+
     /// The filter `{$or: [{_id: {$in: [ids]}}, {keyAltNames: {$in: []}}]}` by which a caller asks for the keys.
     /// `Memory` where there is none for it.
     pub fn op(&self, alloc: Global) -> Result<Vec<u8>, Memory>

@@ -3,6 +3,7 @@
 ghost use Rattle.std.specs.Prelude.{◌≡◌, [], false, true, None, Some, option_copied, IfErr, IfOk};
 ghost use Rattle.bson_tree.specs.Spelling.{doc_bytes};
 ghost use Rattle.command_marker.specs.Commands.{is_marked_command};
+ghost use Rattle.context_machine.specs.Replying.{RepliesTo};
 ghost use Rattle.context_machine.specs.Waiting.{IsRefusal};
 ghost use Rattle.encrypt_schema.specs.Commands.Offences.{is_view};
 ghost use Rattle.encrypt_schema.specs.Commands.Targets.{rows_in};
@@ -10,6 +11,7 @@ ghost use Rattle.encrypt_schema.specs.Commands.Visits.{content_verdict};
 
 use crate::command_needs::wanted_by;
 use crate::need_keys::NeedKeys;
+use crate::replying::{ReplyStop, reply_marked, reply_unmarked};
 use crate::wanted::Wanted;
 use bson_codec::RawDoc;
 use command_marker::mark_command;
@@ -57,6 +59,26 @@ impl<'a> NeedMarkings<'a> {
     {
         self.command.bytes()
     }
+
+    /// The command itself.
+    pub fn command(&self) -> &RawDoc<'a>
+        ensures command { result.now ≡ self.now.command }
+    {
+        &self.command
+    }
+
+    /// The reply of a marking service to the command, under the rules of its collection; else the first place that is
+    /// refused by its contents. Without an info nothing is marked and nothing refused. `TooLong` comes exactly where
+    /// the reply would have more than 48,000,000 bytes, `Memory` at any time. The state stays: it may go on.
+    pub fn reply(&self, alloc: Global) -> Result<Vec<u8>, ReplyStop>
+        ensures replies { RepliesTo self.now result }
+    {
+        match self.info {
+            Some(info) => reply_marked(alloc, &self.command, info),
+            None => reply_unmarked(alloc, &self.command),
+        }
+    }
+
     /// Marks the command's protected values under the rules of its collection, as `command_marker::mark_command` does,
     /// and asks for their keys; else the first place that is refused by its contents. Without an info nothing is
     /// marked and nothing refused. After a fault the state is given back as it was; `Memory` may come at any time.

@@ -8,6 +8,7 @@ ghost use Rattle.doc_rewrite.specs.Sites.{draws_of};
 
 use crate::done::Done;
 use crate::need_keys::NeedKeys;
+use bson_codec::RawDoc;
 use crypto_hooks::Block256;
 use doc_rewrite::KeyTable;
 use fle_outside::{Entropy, Failed};
@@ -42,6 +43,13 @@ impl<'a> Ready<'a> {
         ensures ready { result ≡ readied waited.entry table }
     {
         Ready { waited, table, out }
+    }
+
+    /// The command itself.
+    pub fn command(&self) -> &RawDoc<'a>
+        ensures command { result.now ≡ self.now.command }
+    {
+        self.waited.command()
     }
 
     /// Seals the command: each of its values under the key of its rule, those of the random algorithm with a block
