@@ -11,5 +11,5 @@ mod numbers;
 mod setup;
 
 pub use infos::{InfosFault, read_infos};
-pub use numbers::number_of_reason;
+pub use numbers::{number_of_master, number_of_reason, number_of_vault};
 pub use setup::{load_infos, load_master, load_vault};

@@ -1,0 +1,10 @@
+pub mod Ways
+pub mod Descent
+pub mod Spots
+pub mod Rulings
+pub mod Starts
+pub mod Replied
+pub mod Fed
+pub mod Seals
+pub mod Unseals
+pub mod Loads

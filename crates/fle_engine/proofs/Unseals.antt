@@ -1,0 +1,111 @@
+-- What a document comes to that is to be opened, by what its states answer.
+use Rattle.std.proofs.Common.{◌≡◌, ℕ, List, [], None, Result, Ok, Err, Vec, Global, refl, sym, ap, subst, ◌∙◌}
+use Rattle.bson_tree.specs.Tree.{Items}
+use Rattle.bson_codec.specs.Borrowed.{At}
+use Rattle.context_machine.specs.Decrypting.{IsMisshapen, OpensTo, StaysSealed}
+use Rattle.context_machine.specs.Kept.{AreFedFrom}
+use Rattle.context_machine.specs.Needs.{first_needs}
+use Rattle.context_machine.specs.Rings.{AreOpened, needs_in, ring}
+use Rattle.context_machine.specs.States.{Opens, OpensWith}
+use Rattle.context_machine.specs.Tables.{KeysFail}
+use Rattle.context_machine.specs.declared.opened_keys.KeysStop.{KeysStop}
+use Rattle.context_machine.specs.declared.opened_keys.KeysStop.TheVariants as stops
+use Rattle.context_machine.proofs.Alike.{keyless_stops, misshapen_stops, table_opens}
+use Rattle.context_machine.proofs.Keyed.{kept_keyless, kept_opened}
+use Rattle.data_key.specs.declared.key_doc.KeyDoc.{KeyDoc}
+use Rattle.doc_rewrite.specs.Founds.{payloads_of}
+use Rattle.doc_rewrite.specs.Keys.{key_in}
+use Rattle.doc_rewrite.specs.Opened.{Keyring, first_wrong, misshapen, opened, ring_of}
+use Rattle.doc_rewrite.specs.declared.key_table.KeyEntry.{KeyEntry}
+use Rattle.doc_rewrite.specs.declared.unsealing.Spot.{Spot}
+use Rattle.encrypt_schema.specs.Commands.Visits.{Refusal}
+use Rattle.encrypt_schema.specs.declared.command.marks.MarkFault.{MarkFault}
+use Rattle.encrypt_schema.specs.declared.command.marks.MarkFault.TheVariants as faults
+use Rattle.fle_outside.specs.Seen.{EntropySeen}
+use Rattle.fle_outside.proofs.Drawings.{draws_none}
+use Rattle.fle_engine.specs.Answers.{AnswerIs}
+use Rattle.fle_engine.specs.Opening.{open_ruling, opened_or}
+use Rattle.fle_engine.specs.Rulings.{Ruling, StopsAs, Tells, at_front, refused}
+use Rattle.fle_engine.specs.declared.answer.Answer.{Answer}
+use Rattle.fle_engine.specs.declared.answer.Answer.TheVariants as answers
+use Rattle.fle_engine.proofs.Seals.{front_is}
+
+-- a document by itself, by what it opens to
+ruling_is : (keys : Keyring) (d : At) (o : Result Items Refusal) → d.start ≡ 0 → opened keys d ≡ o
+    → open_ruling keys d.tree ≡ opened_or o
+unfolding open_ruling
+ruling_is keys d o whole is = ap opened_or (ap (opened keys) (sym (front_is d whole)) ∙ is)
+
+-- a payload has a length that none has
+pub misshapen_told : (keys : Keyring) (d : At) (fault : MarkFault) → d.start ≡ 0 → IsMisshapen d fault
+    → Tells fault (open_ruling keys d.tree)
+misshapen_told keys d (faults.Refused reason at) whole is =
+    let r : Refusal = record { reason = reason; at = at } in
+    ruling_is keys d (Err r) whole (misshapen_stops keys d r is)
+misshapen_told keys d faults.Memory whole is = tt
+
+-- a payload's key isn't to be had
+pub keyless_told : (vault kept : List KeyDoc) (master : List ℕ) (d : At) (stop : KeysStop) → d.start ≡ 0
+    → first_wrong misshapen (payloads_of d) ≡ None
+    → AreFedFrom vault (first_needs (needs_in d)) kept → KeysFail (ring kept master) (needs_in d) stop
+    → StopsAs stop (open_ruling (ring vault master) d.tree)
+keyless_told vault kept master d (stops.Refused reason at) whole shaped fed fail =
+    let r : Refusal = record { reason = reason; at = at } in
+    ruling_is (ring vault master) d (Err r) whole
+    (keyless_stops (ring vault master) d r shaped
+    (sym (kept_keyless vault kept master (needs_in d) fed) ∙ fail))
+keyless_told vault kept master d stops.TooLong whole shaped fed fail = absurd fail
+keyless_told vault kept master d stops.Memory whole shaped fed fail = tt
+
+-- each payload's key is there: the document is opened, or a payload stays sealed
+pub opened_made : (keys : Keyring) (d : At) (table : List KeyEntry) (bytes : List ℕ) (output : Vec ℕ Global)
+    (e : EntropySeen) → d.start ≡ 0
+    → AreOpened keys (needs_in d) table → OpensTo (ring_of (key_in table)) d bytes → output.items ≡ bytes
+    → AnswerIs (open_ruling keys d.tree) d.tree e e (answers.Made output)
+opened_made keys d table bytes output e whole are opens same =
+    let is : opened keys d ≡ Ok opens.0 = sym (table_opens keys table d are) ∙ opens.1 in
+    subst (λ (v : Ruling). AnswerIs v d.tree e e (answers.Made output))
+    (sym (ruling_is keys d (Ok opens.0) whole is))
+    ([], refl, draws_none e, same ∙ opens.2, refl)
+
+pub sealed_told : (keys : Keyring) (d : At) (table : List KeyEntry) (spot : Spot) → d.start ≡ 0
+    → AreOpened keys (needs_in d) table → StaysSealed (ring_of (key_in table)) d spot
+    → open_ruling keys d.tree ≡ refused (record { reason = spot.reason; at = spot.at })
+sealed_told keys d table spot whole are stays =
+    ruling_is keys d (Err (record { reason = spot.reason; at = spot.at })) whole
+    (sym (table_opens keys table d are) ∙ stays)
+
+-- ---- the states
+
+-- a state that waited, with the keys of the vault
+pub record IsFedFor (vault : List KeyDoc) (d : At) (w : Opens) : Type 0 where
+  pub whole : d.start ≡ 0
+  pub same : w.document ≡ d
+  pub fed : AreFedFrom vault (first_needs (needs_in d)) w.kept
+
+pub keys_fail : (vault : List KeyDoc) (master : List ℕ) (d : At) (w : Opens) (stop : KeysStop)
+    → first_wrong misshapen (payloads_of d) ≡ None → IsFedFor vault d w
+    → KeysFail (ring w.kept master) (needs_in w.document) stop
+    → StopsAs stop (open_ruling (ring vault master) d.tree)
+keys_fail vault master d w stop shaped is fail =
+    keyless_told vault w.kept master d stop is.whole shaped is.fed
+    (subst (λ (x : At). KeysFail (ring w.kept master) (needs_in x) stop) is.same fail)
+
+pub vault_has : (vault : List KeyDoc) (master : List ℕ) (d : At) (w : Opens) (table : List KeyEntry)
+    → IsFedFor vault d w → AreOpened (ring w.kept master) (needs_in w.document) table
+    → AreOpened (ring vault master) (needs_in d) table
+vault_has vault master d w table is opened =
+    kept_opened vault w.kept master (needs_in d) table is.fed
+    (subst (λ (x : At). AreOpened (ring w.kept master) (needs_in x) table) is.same opened)
+
+pub keys_open : (vault : List KeyDoc) (master : List ℕ) (d : At) (w : Opens) (r : OpensWith) (e : EntropySeen)
+    (a : Answer) → IsFedFor vault d w → r ≡ record { document = w.document; kept = w.kept; table = r.table }
+    → AreOpened (ring w.kept master) (needs_in w.document) r.table
+    → ((keys : Keyring) → AreOpened keys (needs_in r.document) r.table
+    → AnswerIs (open_ruling keys r.document.tree) r.document.tree e e a)
+    → AnswerIs (open_ruling (ring vault master) d.tree) d.tree e e a
+keys_open vault master d w r e a is ready opened answered =
+    let keys = ring vault master in
+    let here : r.document ≡ d = ap (λ (x : OpensWith). x.document) ready ∙ is.same in
+    subst (λ (x : At). AreOpened keys (needs_in x) r.table → AnswerIs (open_ruling keys x.tree) x.tree e e a) here
+    (answered keys) (vault_has vault master d w r.table is opened)

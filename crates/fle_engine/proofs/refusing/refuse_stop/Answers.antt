@@ -1,0 +1,23 @@
+-- A refusal, or the limit, is what the document comes to.
+use Rattle.std.proofs.Common.{sym, subst}
+use Rattle.fle_outside.proofs.Drawings.{draws_none}
+use Rattle.fle_engine.specs.Answers.{AnswerIs}
+use Rattle.fle_engine.specs.Rulings.{Ruling}
+use Rattle.fle_engine.specs.declared.answer.Answer.TheVariants as answers
+use Rattle.fle_engine.proofs.Replied.{answered_memory}
+use Rattle.fle_engine.proofs.refusing.refuse_stop.Goals as goal
+
+pub returns-in-Refused : goal.returns-in-Refused
+returns-in-Refused c = record {
+  answers = λ v e says. subst (λ (w : Ruling). AnswerIs w c.args.document.now.tree e e c.refuse.result)
+      (sym (rw c.in-Refused.is at says)) (c.refuse.ensures.answers e);
+}
+
+pub returns-in-TooLong : goal.returns-in-TooLong
+returns-in-TooLong c = record {
+  answers = λ v e says. subst (λ (w : Ruling). AnswerIs w c.args.document.now.tree e e answers.TooLong)
+      (sym (rw c.in-TooLong.is at says)) (draws_none e);
+}
+
+pub returns-in-Memory : goal.returns-in-Memory
+returns-in-Memory c = record { answers = λ v e says. answered_memory v c.args.document.now.tree e }

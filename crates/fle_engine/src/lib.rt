@@ -1,0 +1,29 @@
+//! What becomes of one document, in memory: a command is marked or sealed, a document opened, or refused at a place.
+//!
+//! ```text
+//! let mut engine = Engine::new(alloc, b"hr", &keys, &infos, &master)?;
+//! let sealed = engine.seal(alloc, &Tables, &check_bson(&command)?, &mut entropy);
+//! let opened = engine.opener.open(alloc, &Tables, &check_bson(&reply)?);
+//! ```
+//!
+//! An engine keeps keys, rules and opened keys from call to call. It reads no file and asks no server; its random
+//! blocks come from the caller's `Entropy`.
+#![tactic(auto)]
+
+mod answer;
+mod engine;
+mod loading;
+mod marker;
+mod opener;
+mod opening;
+mod placing;
+mod refusing;
+mod sealing;
+mod starting;
+
+pub use answer::{Answer, Refused};
+pub use engine::Engine;
+pub use loading::EngineFault;
+pub use marker::Marker;
+pub use opener::Opener;
+pub use placing::place_at;

@@ -1,0 +1,88 @@
+//! The marking service of a database.
+
+ghost use Rattle.std.specs.Prelude.{◌≡◌, List, ℕ, IfOk};
+ghost use Rattle.command_marker.specs.Reply.{RepliesAs};
+ghost use Rattle.fle_engine.specs.Answers.{AnswerIs};
+ghost use Rattle.fle_engine.specs.Replies.{mark_ruling, replies, sized};
+ghost use Rattle.fle_engine.specs.Rulings.{contents_with};
+ghost use Rattle.encrypt_schema.specs.Commands.Targets.{rows_in};
+ghost use Rattle.fle_outside.specs.Seen.{EntropySeen};
+ghost use Rattle.bson_tree.specs.Tree.{Items};
+
+use crate::answer::Answer;
+use crate::refusing::{refuse_fault, refuse_reply};
+use crate::starting::{Started, start};
+use bson_codec::RawDoc;
+use command_marker::{ReplyFault, reply_clear};
+use context_machine::NeedMarkings;
+use encrypt_schema::Infos;
+use fle_outside::Memory;
+use std::alloc::Global;
+
+/// A database, and the rules of its collections.
+#[derive(Drop)]
+pub struct Marker {
+    /// The name of the database.
+    pub db: Vec<u8>,
+    /// The collection infos.
+    pub infos: Infos,
+}
+
+impl Marker {
+    /// The marking service of this database under these infos.
+    pub fn new(alloc: Global, db: &[u8], infos: Infos) -> Result<Marker, Memory>
+        ensures made { IfOk result (λ m. (m.db.items ≡ db.now) × (m.infos ≡ infos)) }
+    {
+        match Vec::from_slice(alloc, db) {
+            Ok(db) => Ok(Marker { db, infos }),
+            Err(_) => Err(Memory),
+        }
+    }
+
+    /// The marking reply to a command. It draws no block.
+    pub fn mark(&self, alloc: Global, command: &RawDoc<'_>) -> Answer
+        requires whole { command.now.start ≡ 0 }
+        ensures answers { (e : EntropySeen)
+            → AnswerIs (mark_ruling self.now.infos self.now.db.items command.now.tree) command.now.tree e e result }
+    {
+        reply_to_command(alloc, self, command)
+    }
+}
+
+/// The reply to a command of a database: its fields by themselves, then its collection and its contents.
+fn reply_to_command(alloc: Global, marker: &Marker, command: &RawDoc<'_>) -> Answer
+    requires whole { command.now.start ≡ 0 }
+    ensures answers { (e : EntropySeen)
+        → AnswerIs (mark_ruling marker.now.infos marker.now.db.items command.now.tree) command.now.tree e e result }
+{
+    match start(&marker.db, &marker.infos, command) {
+        Ok(Started::Passing) => answer_reply(reply_clear(alloc, command)),
+        Ok(Started::Marking(state)) => reply_by_contents(alloc, &state),
+        Err(fault) => refuse_fault(alloc, command, fault),
+    }
+}
+
+/// The reply to a command by its contents, under the rules of its collection.
+fn reply_by_contents(alloc: Global, state: &NeedMarkings<'_>) -> Answer
+    requires whole { state.now.command.start ≡ 0 }
+    ensures answers { (e : EntropySeen)
+        → AnswerIs (contents_with replies (rows_in state.now.info) state.now.command.tree) state.now.command.tree e e
+        result }
+{
+    match state.reply(alloc) {
+        Ok(bytes) => Answer::Made(bytes),
+        Err(stop) => refuse_reply(alloc, state.command(), stop),
+    }
+}
+
+/// A reply, where there is one.
+fn answer_reply(reply: Result<Vec<u8>, ReplyFault>) -> Answer
+    ensures answers { (bytes : List ℕ) (c : Items) (e : EntropySeen) → RepliesAs bytes reply
+        → AnswerIs (sized bytes) c e e result }
+{
+    match reply {
+        Ok(bytes) => Answer::Made(bytes),
+        Err(ReplyFault::TooLong) => Answer::TooLong,
+        Err(ReplyFault::Memory) => Answer::Memory,
+    }
+}

@@ -1,0 +1,49 @@
+//! What opens documents.
+
+ghost use Rattle.std.specs.Prelude.{◌≡◌, IfOk};
+ghost use Rattle.context_machine.specs.Rings.{ring};
+ghost use Rattle.fle_engine.specs.Answers.{AnswerIs};
+ghost use Rattle.fle_engine.specs.Opening.{open_ruling};
+ghost use Rattle.fle_outside.specs.Seen.{EntropySeen};
+
+use crate::answer::Answer;
+use crate::opening::open_document;
+use bson_codec::RawDoc;
+use crypto_hooks::Block256;
+use fle_outside::Memory;
+use key_vault::{KeyCache, Vault};
+use local_kms::MasterKey;
+use std::alloc::Global;
+
+/// A key vault, its master key, and the keys that were opened under it.
+#[derive(Drop)]
+pub struct Opener {
+    /// The key documents.
+    pub keys: Vault,
+    /// The keys that were opened, with the master key.
+    pub cache: KeyCache,
+}
+
+impl Opener {
+    /// What opens under the keys of this vault and this master key.
+    pub fn new(alloc: Global, keys: Vault, master: MasterKey) -> Result<Opener, Memory>
+        ensures made { IfOk result (λ o. (o.keys ≡ keys) × (o.cache.master ≡ master)) }
+    {
+        match KeyCache::new(alloc, master) {
+            Ok(cache) => Ok(Opener { keys, cache }),
+            Err(Memory) => Err(Memory),
+        }
+    }
+
+    /// The document with its payloads opened. It draws no block.
+    pub fn open<B: Block256>(&mut self, alloc: Global, hooks: &B, document: &RawDoc<'_>) -> Answer
+        requires hooks { B.answers hooks.now }
+        requires whole { document.now.start ≡ 0 }
+        ensures same { (self.new.keys ≡ self.old.keys) × (self.new.cache.master ≡ self.old.cache.master) }
+        ensures answers { (e : EntropySeen)
+            → AnswerIs (open_ruling (ring self.old.keys self.old.cache.master) document.now.tree) document.now.tree e e
+            result }
+    {
+        open_document(alloc, &self.keys, &mut self.cache, hooks, document)
+    }
+}

@@ -1,0 +1,169 @@
+//! Commands sealed: from state to state, each with what is left to be done.
+
+ghost use Rattle.std.specs.Prelude.{true, ◌≡◌, List, None, Some, [], option_copied};
+ghost use Rattle.command_marker.specs.Commands.{passes};
+ghost use Rattle.context_machine.specs.Kept.{AreFedFrom, fed_some};
+ghost use Rattle.context_machine.specs.Rings.{AreOpened, needs_of, ring};
+ghost use Rattle.context_machine.specs.Waiting.{wanted_of};
+ghost use Rattle.doc_rewrite.specs.Opened.{Keyring};
+ghost use Rattle.doc_rewrite.specs.Sites.{sites_of};
+ghost use Rattle.encrypt_schema.specs.Commands.Targets.{rows_in};
+ghost use Rattle.encrypt_schema.specs.Commands.Visits.{roles};
+ghost use Rattle.encrypt_schema.specs.Language.Row.{Row};
+ghost use Rattle.fle_engine.specs.Answers.{AnswerIs};
+ghost use Rattle.fle_engine.specs.Rulings.{makes};
+ghost use Rattle.fle_engine.specs.Sealing.{seal_contents, seal_ruling, seal_under, sealed_plan};
+ghost use Rattle.fle_outside.specs.Seen.{EntropySeen};
+
+use crate::answer::Answer;
+use crate::marker::Marker;
+use crate::opener::Opener;
+use crate::refusing::{refuse_fault, refuse_stop};
+use crate::starting::{Started, start};
+use bson_codec::RawDoc;
+use context_machine::{NeedKeys, NeedMarkings, Ready};
+use crypto_hooks::Block256;
+use data_key::KeyDoc;
+use fle_outside::{Entropy, Failed};
+use key_vault::{KeyCache, Vault};
+use std::alloc::Global;
+
+/// The most bytes that a sealed command may have.
+const MOST: usize = 48_000_000;
+
+/// Seals a command of a database: its fields by themselves, then its collection, its contents, its keys.
+pub fn seal_command<B: Block256, N: Entropy>(
+    alloc: Global,
+    marker: &Marker,
+    opener: &mut Opener,
+    hooks: &B,
+    command: &RawDoc<'_>,
+    entropy: &mut N,
+) -> Answer
+    requires hooks { B.answers hooks.now }
+    requires whole { command.now.start ≡ 0 }
+    ensures same { (opener.new.keys ≡ opener.old.keys) × (opener.new.cache.master ≡ opener.old.cache.master) }
+    ensures answers { AnswerIs
+        (seal_ruling (ring opener.old.keys opener.old.cache.master) marker.now.infos marker.now.db.items
+        command.now.tree) command.now.tree (N.seen entropy.old) (N.seen entropy.new) result }
+{
+    match start(&marker.db, &marker.infos, command) {
+        Ok(Started::Passing) => pass_command(alloc, command),
+        Ok(Started::Marking(state)) => seal_by_contents(
+            alloc,
+            state,
+            &opener.keys,
+            &mut opener.cache,
+            hooks,
+            entropy,
+        ),
+        Err(fault) => refuse_fault(alloc, command, fault),
+    }
+}
+
+/// A command that passes stays as it is.
+fn pass_command(alloc: Global, command: &RawDoc<'_>) -> Answer
+    requires whole { command.now.start ≡ 0 }
+    requires passes { passes command.now.tree ≡ true }
+    ensures answers { (keys : Keyring) (rows : List Row) (e : EntropySeen)
+        → AnswerIs (seal_under keys rows command.now.tree) command.now.tree e e result }
+{
+    let bytes = command.bytes();
+    if MOST < bytes.len() {
+        return Answer::TooLong;
+    }
+    match Vec::from_slice(alloc, bytes) {
+        Ok(bytes) => Answer::Made(bytes),
+        Err(_) => Answer::Memory,
+    }
+}
+
+/// Seals a command by its contents, under the rules of its collection.
+fn seal_by_contents<B: Block256, N: Entropy>(
+    alloc: Global,
+    state: NeedMarkings<'_>,
+    keys: &Vault,
+    cache: &mut KeyCache,
+    hooks: &B,
+    entropy: &mut N,
+) -> Answer
+    requires hooks { B.answers hooks.now }
+    requires whole { state.command.start ≡ 0 }
+    ensures master { cache.new.master ≡ cache.old.master }
+    ensures answers { AnswerIs
+        (seal_contents (ring keys.now cache.old.master) (rows_in state.entry.info) state.entry.command.tree)
+        state.entry.command.tree (N.seen entropy.old) (N.seen entropy.new) result }
+{
+    match state.mark_here(alloc) {
+        Ok(state) => seal_marked(alloc, state, keys, cache, hooks, entropy),
+        Err((state, fault)) => refuse_fault(alloc, state.command(), fault),
+    }
+}
+
+/// Seals a command whose contents aren't refused: its keys and its length.
+fn seal_marked<B: Block256, N: Entropy>(
+    alloc: Global,
+    state: NeedKeys<'_>,
+    keys: &Vault,
+    cache: &mut KeyCache,
+    hooks: &B,
+    entropy: &mut N,
+) -> Answer
+    requires hooks { B.answers hooks.now }
+    requires whole { state.command.start ≡ 0 }
+    requires none { state.kept ≡ [] }
+    ensures master { cache.new.master ≡ cache.old.master }
+    ensures answers { AnswerIs
+        (seal_under (ring keys.now cache.old.master) (rows_in state.entry.info) state.entry.command.tree)
+        state.entry.command.tree (N.seen entropy.old) (N.seen entropy.new) result }
+{
+    let state = with_keys(state, keys);
+    match state.done_cached(alloc, cache, hooks) {
+        Ok(state) => seal_ready(state, hooks, entropy),
+        Err((state, stop)) => refuse_stop(alloc, state.command(), stop),
+    }
+}
+
+/// A command with the keys that it needs, those that there are.
+fn with_keys<'a>(state: NeedKeys<'a>, keys: &'a Vault) -> NeedKeys<'a>
+    requires none { state.kept ≡ [] }
+    ensures command { result.command ≡ state.entry.command }
+    ensures info { result.info ≡ state.entry.info }
+    ensures fed { AreFedFrom keys.entry.now (wanted_of state.entry.info state.entry.command) result.kept }
+{
+    let mut state = state;
+    for i in 0..state.needs().len() {
+        let id = state.needs()[i].id;
+        feed(&mut state, keys.by_id(&id));
+    }
+    state
+}
+
+/// Hands in a key that may not be there.
+fn feed<'a>(state: &mut NeedKeys<'a>, key: Option<&'a KeyDoc>)
+    ensures fed { state.new ≡ record {
+      command = state.old.command;
+      info = state.old.info;
+      kept = fed_some (wanted_of state.old.info state.old.command) state.old.kept (option_copied key.entry);
+    } }
+{
+    if let Some(key) = key {
+        state.feed(key);
+    }
+}
+
+/// Seals a command whose keys are there.
+fn seal_ready<B: Block256, N: Entropy>(state: Ready<'_>, hooks: &B, entropy: &mut N) -> Answer
+    requires hooks { B.answers hooks.now }
+    requires whole { state.command.start ≡ 0 }
+    ensures answers { (keys : Keyring)
+        → AreOpened keys (needs_of (rows_in state.entry.info) state.entry.command) state.entry.table
+        → AnswerIs (makes (sealed_plan keys (sites_of (rows_in state.entry.info)
+        (roles (rows_in state.entry.info) 0 state.entry.command.tree)) state.entry.command.tree))
+        state.entry.command.tree (N.seen entropy.old) (N.seen entropy.new) result }
+{
+    match state.finalize(hooks, entropy) {
+        Ok(done) => Answer::Made(done.into_bytes()),
+        Err((_, Failed)) => Answer::Undrawn,
+    }
+}
