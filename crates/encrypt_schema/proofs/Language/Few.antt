@@ -59,7 +59,8 @@ one_more words count word t here left whole f step new room =
       before = word.now ∷ f.before;
       long = length-set words count word ∙ f.long;
       room = omega (arith, room);
-      known = λ name. ap (λ (ws : List (Bor (List ℕ))). is_among name (names ws)) (take_more_set words count word inside)
+      known = λ name. ap (λ (ws : List (Bor (List ℕ))). is_among name (names ws))
+          (take_more_set words count word inside)
           ∙ among_push name (take count words) word
           ∙ ap (λ (b : Bool). named name word.now || b) (f.known name);
       read = sym (told f.before word.now t here left false step (sym (f.known word.now) ∙ new)) ∙ f.read;

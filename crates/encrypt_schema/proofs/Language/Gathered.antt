@@ -14,7 +14,8 @@ use Rattle.encrypt_schema.specs.Language.Names.{named, is_among}
 use Rattle.encrypt_schema.specs.Language.Rules.{◌>>=◌, are_keywords, demand, has_number, or_child, wanted}
 use Rattle.encrypt_schema.specs.Language.Rules.{setting_of, stated}
 use Rattle.encrypt_schema.specs.Language.Shapes.{all_settings, are_settings, fits, is_setting, is_types, key_of}
-use Rattle.encrypt_schema.specs.Language.Values.{are_distinct, distinct_behind, find, is_document_value, is_string_value}
+use Rattle.encrypt_schema.specs.Language.Values.{are_distinct, distinct_behind, find, is_document_value}
+use Rattle.encrypt_schema.specs.Language.Values.{is_string_value}
 use Rattle.encrypt_schema.specs.Views.Gathered.{Read, Gathered, no_settings, none_gathered, with_setting, with_keyword}
 use Rattle.encrypt_schema.specs.Views.Gathered.{settings_behind, settings_by, settings_at, gathered_behind, gathered_of}
 use Rattle.encrypt_schema.specs.Views.Gathered.{settings_seen}
@@ -94,7 +95,8 @@ at_algorithm typed before r t is k on =
       types = or_child r.types (find (codes "bsonType") is);
     })) None) (or_first t r.algorithm new))
     ∙ ap (λ (b : Bool). cond ((is_string_value t && all_settings typed is)
-    && (not b && distinct_behind (codes "algorithm" ∷ before) is)) (Some (joined r (item (codes "algorithm") t is))) None)
+    && (not b && distinct_behind (codes "algorithm" ∷ before) is)) (Some (joined r (item
+    (codes "algorithm") t is))) None)
     (sym k.algorithm)
 
 at_types : (typed : Bool) (before : List (List ℕ)) (r : Read) (t : Tree) (is : Items) → Knows before r
@@ -334,7 +336,8 @@ algorithm_stated g is e =
     ∙ ap₂ or_child (through (λ r. r.algorithm) (find (codes "encrypt") is))
     (through (λ r. r.algorithm) (find (codes "encryptMetadata") is))
 
-pub key_stated : (g : Gathered) (is : Items) → g ≡ gathered_of is → setting_by (λ r. r.key) g ≡ stated (codes "keyId") is
+pub key_stated : (g : Gathered) (is : Items) → g ≡ gathered_of is
+    → setting_by (λ r. r.key) g ≡ stated (codes "keyId") is
 unfolding stated setting_of
 key_stated g is e =
     ap (setting_by (λ r. r.key)) e

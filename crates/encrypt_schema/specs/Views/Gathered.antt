@@ -1,5 +1,6 @@
 -- What one walk over the keywords of a schema gathers: the settings of `encrypt` and of `encryptMetadata`
-use Rattle.std.specs.Prelude.{ℕ, Bool, true, false, not, ◌&&◌, List, ◌∷◌, codes, option_map, option_and_then, is_some, Option}
+use Rattle.std.specs.Prelude.{ℕ, Bool, true, false, not, ◌&&◌, List, ◌∷◌, codes, option_map, option_and_then, is_some}
+use Rattle.std.specs.Prelude.{Option}
 use Rattle.std.specs.Prelude.{Some, None, Result, Ok, if◌then◌else◌}
 use Rattle.bson_tree.specs.Tree.{Tree, Items, no_items, item, kids_of}
 use Rattle.encrypt_schema.specs.declared.schema.faults.SchemaFault.{SchemaFault}

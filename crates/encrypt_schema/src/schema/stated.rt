@@ -128,7 +128,8 @@ pub(crate) fn read_keywords<'a>(
 
 /// The settings of a schema's keywords.
 fn found_in<'a>(alloc: Global, schema: &RawDoc<'a>) -> Result<Found<'a>, SchemaFault>
-    ensures found { Gives (λ f. found_seen f) result (giving (gathered_of schema.now.tree) (are_keywords [] schema.now.tree)) }
+    ensures found { Gives (λ f. found_seen f) result
+        (giving (gathered_of schema.now.tree) (are_keywords [] schema.now.tree)) }
 {
     let mut seen = [false; KEYWORDS];
     let mut found = Found {
