@@ -1,5 +1,5 @@
 -- A command that is marked is replied to, or its contents are refused.
-use Rattle.std.proofs.Common.{◌≡◌, ◌∙◌, ℕ, Bool, false, cond, List, [], None, Some, Result, Ok, Err, Vec, Global, ap}
+use Rattle.std.proofs.Common.{◌≡◌, ◌∙◌, ℕ, Bool, false, cond, List, [], Some, Result, Err, Vec, Global, ap}
 use Rattle.std.proofs.Common.{subst, sym}
 use Rattle.bson_codec.specs.Borrowed.{At}
 use Rattle.command_marker.specs.Commands.{Command, MarksAs}
@@ -11,8 +11,6 @@ use Rattle.encrypt_schema.specs.Language.Collection.{Collection}
 use Rattle.encrypt_schema.specs.Language.Row.{Row}
 use Rattle.encrypt_schema.specs.declared.command.marks.MarkFault.{MarkFault}
 use Rattle.encrypt_schema.specs.declared.command.marks.MarkFault.TheVariants as faults
-use Rattle.context_machine.specs.Replying.{RepliesTo}
-use Rattle.context_machine.specs.States.{Asks}
 use Rattle.context_machine.specs.Waiting.{IsRefusal}
 
 -- the rules of a collection that is no view

@@ -63,8 +63,8 @@ module _ (db vault infos master : List ℕ) where
       → keys_in vault ≡ Ok keys → infos_in infos ≡ Ok rules → Reads (master_key_in master) (Err fault)
       → EngineIs db (parts_in db vault infos master) (Err fault)
   no_master keys rules fault is_named read read_too reads =
-      stops db (master_key_in master) (parts_in db vault infos master) fault reads (λ f is. with_infos keys rules is_named
-      read read_too
+      stops db (master_key_in master) (parts_in db vault infos master) fault reads
+      (λ f is. with_infos keys rules is_named read read_too
       ∙ ap (λ (r : Result (List ℕ) EngineFault). all_of (Ok keys) (Ok rules) r) is)
 
   pub all_there : (keys : List KeyDoc) (rules : List Collection) (key : List ℕ) → is_database db ≡ true

@@ -1,6 +1,6 @@
 -- What a command comes to that is to be sealed, by what its states answer.
-use Rattle.std.proofs.Common.{◌≡◌, ℕ, ◌+◌, ◌<◌, ◌≤◌, Bool, true, false, cond, nat_lt, List, [], ◌∷◌, length, map}
-use Rattle.std.proofs.Common.{Option, Ok, Err, Some, None, Vec, Global, refl, sym, ap, subst, ◌∙◌, arith}
+use Rattle.std.proofs.Common.{◌≡◌, ℕ, ◌+◌, ◌<◌, ◌≤◌, Bool, true, false, cond, nat_lt, List, [], length, map}
+use Rattle.std.proofs.Common.{Option, Ok, Err, None, Vec, Global, refl, sym, ap, subst, ◌∙◌, arith}
 use Rattle.std.proofs.lemmas.Bool.Decides.{nat_tests}
 use Rattle.bson_tree.specs.Spelling.{doc_bytes, items_bytes}
 use Rattle.bson_tree.specs.Tree.{Items}
@@ -39,7 +39,7 @@ use Rattle.fle_outside.specs.Seen.{EntropySeen}
 use Rattle.fle_outside.proofs.Drawings.{draws_none}
 use Rattle.fle_stream.specs.Plan.{Plan}
 use Rattle.fle_engine.specs.Answers.{AnswerIs}
-use Rattle.fle_engine.specs.Rulings.{Ruling, StopsAs, Tells, at_front, by_refusal, contents_with, makes, sized_plan}
+use Rattle.fle_engine.specs.Rulings.{Ruling, StopsAs, Tells, at_front, by_refusal, makes, sized_plan}
 use Rattle.fle_engine.specs.Rulings.{too_long}
 use Rattle.fle_engine.specs.Sealing.{seal_contents, seal_ruling, seal_under, sealed_plan}
 use Rattle.fle_engine.specs.Starting.{StartsAs}

@@ -1,8 +1,7 @@
 -- What a command starts as, by what its fields and its collection are answered.
-use Rattle.std.proofs.Common.{◌≡◌, ℕ, ◌&&◌, Bool, true, false, cond, List, [], ◌∷◌, Option, Ok, Err, Some, None, refl}
+use Rattle.std.proofs.Common.{◌≡◌, ℕ, false, List, Option, Ok, Err, Some, None}
 use Rattle.std.proofs.Common.{sym, ap, subst, ◌∙◌}
 use Rattle.bson_codec.specs.Borrowed.{At}
-use Rattle.bson_tree.specs.Tree.{Items}
 use Rattle.command_marker.specs.Commands.{collection_in}
 use Rattle.context_machine.specs.Beginning.{AsksMarkings, BeginsAs, fed_found, fed_info}
 use Rattle.context_machine.specs.States.{Asks}
@@ -11,9 +10,8 @@ use Rattle.context_machine.proofs.Infos.{found_kept}
 use Rattle.encrypt_schema.specs.Commands.Offences.{is_view}
 use Rattle.encrypt_schema.specs.Commands.Targets.{rows_in}
 use Rattle.encrypt_schema.specs.Language.Collection.{Collection, collection_of}
-use Rattle.encrypt_schema.specs.Language.Row.{Row}
 use Rattle.encrypt_schema.specs.declared.command.marks.MarkFault.{MarkFault}
-use Rattle.fle_engine.specs.Rulings.{Ruling, Tells, contents_with, into_with}
+use Rattle.fle_engine.specs.Rulings.{Tells, contents_with, into_with}
 use Rattle.fle_engine.specs.Starting.{StartsAs}
 use Rattle.fle_engine.specs.declared.starting.Started.TheVariants as starts
 use Rattle.fle_engine.proofs.Rulings.{asks_told, begun_told, into_contents, view_told}

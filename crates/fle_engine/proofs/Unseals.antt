@@ -25,7 +25,7 @@ use Rattle.fle_outside.specs.Seen.{EntropySeen}
 use Rattle.fle_outside.proofs.Drawings.{draws_none}
 use Rattle.fle_engine.specs.Answers.{AnswerIs}
 use Rattle.fle_engine.specs.Opening.{open_ruling, opened_or}
-use Rattle.fle_engine.specs.Rulings.{Ruling, StopsAs, Tells, at_front, refused}
+use Rattle.fle_engine.specs.Rulings.{Ruling, StopsAs, Tells, refused}
 use Rattle.fle_engine.specs.declared.answer.Answer.{Answer}
 use Rattle.fle_engine.specs.declared.answer.Answer.TheVariants as answers
 use Rattle.fle_engine.proofs.Seals.{front_is}

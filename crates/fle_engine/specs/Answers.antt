@@ -1,5 +1,5 @@
 -- What an engine answers, by what the document comes to.
-use Rattle.std.specs.Prelude.{◌≡◌, ℕ, List, [], length}
+use Rattle.std.specs.Prelude.{◌≡◌, List, [], length}
 use Rattle.bson_tree.specs.Places.{place_of}
 use Rattle.bson_tree.specs.Tree.{Items}
 use Rattle.doc_rewrite.specs.Sealing.{FellShort}

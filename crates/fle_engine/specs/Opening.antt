@@ -1,5 +1,5 @@
 -- Opening a document: the values of their original types in the place of its payloads.
-use Rattle.std.specs.Prelude.{ℕ, Result, Ok, Err, List}
+use Rattle.std.specs.Prelude.{Result, Ok, Err}
 use Rattle.bson_tree.specs.Spelling.{doc_bytes}
 use Rattle.bson_tree.specs.Tree.{Items}
 use Rattle.doc_rewrite.specs.Opened.{Keyring, opened}

@@ -1,5 +1,5 @@
 -- Sealing a command: its protected values in the form of payloads.
-use Rattle.std.specs.Prelude.{ℕ, ◌+◌, Option, List, length}
+use Rattle.std.specs.Prelude.{ℕ, ◌+◌, List, length}
 use Rattle.bson_tree.specs.Spelling.{doc_bytes}
 use Rattle.bson_tree.specs.Tree.{Items}
 use Rattle.context_machine.specs.Rings.{found_in, first_keyless, needs_of}

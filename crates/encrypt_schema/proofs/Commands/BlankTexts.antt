@@ -4,7 +4,7 @@ use Rattle.std.proofs.Common.{Option, Some}
 use Rattle.std.proofs.Common.{None, option_map, option_and_then, refl, sym, ap, ap₂, ◌∙◌, if◌then◌else◌}
 use Rattle.std.proofs.lemmas.Bool.{false≢true}
 use Rattle.bson_tree.specs.Tree.{Tree, leaf, node, Items, no_items, item}
-use Rattle.bson_tree.specs.Spelling.{value_bytes, framed, items_bytes}
+use Rattle.bson_tree.specs.Spelling.{value_bytes}
 use Rattle.encrypt_schema.specs.declared.schema.policy.KeyRef.{KeyRef}
 use Rattle.encrypt_schema.specs.declared.schema.policy.KeyRef.TheVariants.{Id, Pointer}
 use Rattle.encrypt_schema.specs.Language.Names.{named, is_among}
@@ -12,10 +12,10 @@ use Rattle.encrypt_schema.specs.Language.Row.{Row}
 use Rattle.encrypt_schema.specs.Language.Values.{text_of}
 use Rattle.encrypt_schema.specs.Paths.Classes.{class}
 use Rattle.encrypt_schema.specs.Paths.Dotted.{is_clear}
-use Rattle.encrypt_schema.specs.Commands.Pointers.{Target, Targets, text_target, is_whole, pointed, nth_target}
+use Rattle.encrypt_schema.specs.Commands.Pointers.{Target, Targets, is_whole, pointed, nth_target}
 use Rattle.encrypt_schema.specs.Commands.Skeletons.{Skeleton, hole, plain, branch, Skeletons, no_more, more, blank_hole}
 use Rattle.encrypt_schema.specs.Commands.Skeletons.{skeletons, blank_in, blanks, blank, width_of}
-use Rattle.encrypt_schema.specs.Commands.Stations.{Station, Outside, Document, Store, Compare, station, has_role}
+use Rattle.encrypt_schema.specs.Commands.Stations.{Station, Outside, Store, Compare, station, has_role}
 use Rattle.encrypt_schema.specs.Commands.Visits.{entry, command_entry, Visit, visit, visits, command_visits}
 use Rattle.encrypt_schema.specs.Commands.Visits.{command_visit}
 use Rattle.encrypt_schema.specs.Commands.Visits.{text_at, texts}
@@ -24,7 +24,7 @@ use Rattle.encrypt_schema.proofs.Commands.Widths.{names_in, entry_in}
 use Rattle.encrypt_schema.proofs.Commands.Blanks.{station_blank, names_blank}
 use Rattle.encrypt_schema.proofs.Commands.EqualPlaces.{blanked_in, blanked, blanks_kept}
 use Rattle.encrypt_schema.proofs.Commands.EqualTexts.{texts_append, cut}
-use Rattle.encrypt_schema.proofs.Commands.Pointed.{Shade, only_seen, target_seen, key_seen, all_seen, seen_pointed}
+use Rattle.encrypt_schema.proofs.Commands.Pointed.{Shade, only_seen, target_seen, key_seen, all_seen}
 use Rattle.encrypt_schema.proofs.Commands.Pointed.{pointed_kept}
 use Rattle.encrypt_schema.proofs.Commands.Worlds.{shown_in, shown}
 

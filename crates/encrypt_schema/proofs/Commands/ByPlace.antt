@@ -21,7 +21,7 @@ use Rattle.encrypt_schema.specs.Commands.Visits.{Refusal, refused_at, or_else, f
 use Rattle.encrypt_schema.specs.Commands.Visits.{view_of, content_of, entry, command_entry, Visit, visit, visits_in}
 use Rattle.encrypt_schema.specs.Commands.Visits.{visits, command_visit, command_visits, station_of, mark_at, marks}
 use Rattle.encrypt_schema.specs.Commands.Visits.{roles, part_visits}
-use Rattle.encrypt_schema.specs.Commands.Chains.{targets_in, targets_from, targets_at}
+use Rattle.encrypt_schema.specs.Commands.Chains.{targets_from, targets_at}
 use Rattle.encrypt_schema.specs.Commands.Chains.{Link, Chain, onward, link, chain, chain_from, station_along}
 use Rattle.encrypt_schema.specs.Commands.Chains.{offence_along, station_at, offence_at, width_at, visit_along, start_at}
 use Rattle.encrypt_schema.specs.Commands.Chains.{visit_at, mark_of, refusal_at, first_of, first_refusal_at, verdict_at}

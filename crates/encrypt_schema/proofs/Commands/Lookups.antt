@@ -1,6 +1,6 @@
 -- What was looked up stands where it says, also where one more is kept.
 use Rattle.std.proofs.Common.{◌≡◌, ℕ, Bool, true, false, cond, ◌&&◌, not, List, [], ◌∷◌, ◌++◌, Option, Some, None}
-use Rattle.std.proofs.Common.{option_map, is_some, refl, sym, ap}
+use Rattle.std.proofs.Common.{option_map, is_some, refl}
 use Rattle.bson_codec.specs.Borrowed.{At}
 use Rattle.encrypt_schema.specs.declared.command.marks.Span.{Span}
 use Rattle.encrypt_schema.specs.declared.command.pointing.Found.{Found}

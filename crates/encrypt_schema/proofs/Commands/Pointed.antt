@@ -1,5 +1,5 @@
 -- The targets of the rules' pointers are read from the skeleton of the document: no path to them goes into a hole.
-use Rattle.std.proofs.Common.{◌≡◌, ◌==◌, ℕ, zero, suc, ◌+◌, Bool, true, false, cond, ◌&&◌, ◌||◌, List, [], ◌∷◌, ◌++◌}
+use Rattle.std.proofs.Common.{◌≡◌, ◌==◌, ℕ, ◌+◌, Bool, true, false, cond, List, [], ◌∷◌, ◌++◌}
 use Rattle.std.proofs.Common.{length, map, Option, Some, None, option_and_then, option_map, refl, sym, ap, ap₂, ◌∙◌}
 use Rattle.std.proofs.Common.{is_some, subst, ⊎_elim, if◌then◌else◌}
 use Rattle.std.proofs.lemmas.Bool.{false≢true, and_parts, and_from, or_cases, or_left, or_right}
@@ -12,16 +12,15 @@ use Rattle.encrypt_schema.specs.declared.path.class.Class.TheVariants.{Protected
 use Rattle.encrypt_schema.specs.declared.schema.policy.KeyRef.{KeyRef}
 use Rattle.encrypt_schema.specs.declared.schema.policy.KeyRef.TheVariants.{Id, Pointer}
 use Rattle.encrypt_schema.specs.Language.Names.{named, is_among}
-use Rattle.encrypt_schema.specs.Language.Policies.{policy_at}
 use Rattle.encrypt_schema.specs.Language.Row.{Row, paths}
 use Rattle.encrypt_schema.specs.Language.Values.{names_of}
 use Rattle.encrypt_schema.specs.Paths.Classes.{class, class_by, goes_by, begins_at, matches, matched, covers_row}
 use Rattle.encrypt_schema.specs.Paths.Classes.{covers}
 use Rattle.encrypt_schema.specs.Paths.Classes.{leads}
 use Rattle.encrypt_schema.specs.Paths.Dotted.{is_clear}
-use Rattle.encrypt_schema.specs.Commands.Stations.{Station, Document, Passed, station, stored_at, is_document}
+use Rattle.encrypt_schema.specs.Commands.Stations.{Station, Document, Passed, station, stored_at}
 use Rattle.encrypt_schema.specs.Commands.Pointers.{Target, Targets, only, text_target, target_in, target_of}
-use Rattle.encrypt_schema.specs.Commands.Pointers.{targets_of, is_whole, pointed, nth_target}
+use Rattle.encrypt_schema.specs.Commands.Pointers.{targets_of, is_whole, pointed}
 use Rattle.encrypt_schema.specs.Commands.Visits.{entry}
 use Rattle.encrypt_schema.specs.Commands.Skeletons.{Skeleton, hole, plain, branch, Skeletons, no_more, more}
 use Rattle.encrypt_schema.specs.Commands.Skeletons.{skeleton_in, skeletons, width_of}

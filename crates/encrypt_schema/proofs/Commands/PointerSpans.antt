@@ -1,23 +1,19 @@
 -- Where a pointer's target stands, by the calls on checked values.
-use Rattle.std.proofs.Common.{◌≡◌, ◌==◌, eqb, ℕ, zero, suc, ◌+◌, ◌-◌, ◌≤◌, Bool, true, false, cond, ◌&&◌, not, List, []}
+use Rattle.std.proofs.Common.{◌≡◌, eqb, ℕ, zero, suc, ◌+◌, ◌≤◌, Bool, true, false, cond, ◌&&◌, not, List, []}
 use Rattle.std.proofs.Common.{◌∷◌}
-use Rattle.std.proofs.Common.{◌++◌, length, map, Option, Some, None, option_map, option_and_then, is_some, slice_get}
-use Rattle.std.proofs.Common.{refl, sym, ap, ◌∙◌, arith, length-append}
+use Rattle.std.proofs.Common.{length, map, Option, Some, None, option_map, is_some, slice_get}
+use Rattle.std.proofs.Common.{refl, sym, ap, ◌∙◌, arith}
 use Rattle.bson_tree.specs.Tree.{Tree, leaf, node, Items, tag_of}
 use Rattle.bson_codec.specs.Layout.{string_bytes}
-use Rattle.bson_codec.specs.Borrowed.{Elem}
 use Rattle.encrypt_schema.specs.declared.command.marks.Span.{Span}
-use Rattle.encrypt_schema.specs.declared.command.reason.Reason.{Reason}
 use Rattle.encrypt_schema.specs.declared.command.reason.Reason.TheVariants.{PointerBad}
 use Rattle.encrypt_schema.specs.declared.schema.policy.KeyRef.{KeyRef}
 use Rattle.encrypt_schema.specs.declared.schema.policy.KeyRef.TheVariants.{Id, Pointer}
 use Rattle.encrypt_schema.specs.declared.schema.policy.Policy.{Policy}
-use Rattle.encrypt_schema.specs.Language.Policies.{policy_at, no_policy}
+use Rattle.encrypt_schema.specs.Language.Policies.{policy_at}
 use Rattle.encrypt_schema.specs.Language.Row.{Row}
-use Rattle.encrypt_schema.specs.Language.Values.{text_of}
-use Rattle.encrypt_schema.specs.Commands.Offences.{is_pointer, lacks_target, pointer_offence}
-use Rattle.encrypt_schema.specs.Commands.Pointers.{Target, Targets, only, target_in, target_of, targets_of, nth_target}
-use Rattle.encrypt_schema.specs.Commands.Pointers.{nth_span}
+use Rattle.encrypt_schema.specs.Commands.Offences.{is_pointer, pointer_offence}
+use Rattle.encrypt_schema.specs.Commands.Pointers.{Target, Targets, target_in, target_of, targets_of, nth_target}
 use Rattle.encrypt_schema.specs.Commands.Stations.{Store}
 use Rattle.encrypt_schema.proofs.Language.PolicyAt.{policy_found, policy_past}
 use Rattle.encrypt_schema.proofs.Language.Texts.{text_is}

@@ -1,5 +1,5 @@
 -- The text of a pointer's target stands in the command's bytes where its span says.
-use Rattle.std.proofs.Common.{◌≡◌, ◌==◌, eqb, ℕ, zero, suc, ◌+◌, ◌-◌, ◌≤◌, Bool, true, false, cond, List, [], ◌∷◌, ◌++◌}
+use Rattle.std.proofs.Common.{◌≡◌, ◌==◌, ℕ, zero, suc, ◌+◌, ◌-◌, ◌≤◌, Bool, true, false, cond, List, [], ◌∷◌, ◌++◌}
 use Rattle.std.proofs.Common.{length, map, take, drop, Option, Some, None, option_map, option_and_then, refl, sym, ap}
 use Rattle.std.proofs.Common.{◌∙◌}
 use Rattle.std.proofs.Common.{subst, arith, length-append}
@@ -9,7 +9,6 @@ use Rattle.bson_tree.specs.Tree.{Tree, leaf, node, Items, no_items, item, tag_of
 use Rattle.bson_tree.specs.Spelling.{value_bytes, items_bytes, doc_bytes}
 use Rattle.bson_codec.specs.Borrowed.{Elem}
 use Rattle.encrypt_schema.specs.declared.command.marks.Mark.{Mark}
-use Rattle.encrypt_schema.specs.declared.command.marks.Span.{Span}
 use Rattle.encrypt_schema.specs.declared.schema.policy.KeyRef.{KeyRef}
 use Rattle.encrypt_schema.specs.declared.schema.policy.KeyRef.TheVariants.{Id, Pointer}
 use Rattle.encrypt_schema.specs.Language.Names.{named, is_among}
@@ -17,10 +16,10 @@ use Rattle.encrypt_schema.specs.Language.Row.{Row}
 use Rattle.encrypt_schema.specs.Language.Values.{names_of, text_of}
 use Rattle.encrypt_schema.specs.Paths.Classes.{class}
 use Rattle.encrypt_schema.specs.Paths.Dotted.{is_clear}
-use Rattle.encrypt_schema.specs.Commands.Pointers.{Target, Targets, only, text_target, target_in, target_of}
+use Rattle.encrypt_schema.specs.Commands.Pointers.{Target, Targets, only, target_in, target_of}
 use Rattle.encrypt_schema.specs.Commands.Pointers.{targets_of, is_whole, pointed, nth_target}
 use Rattle.encrypt_schema.specs.Commands.Stations.{Station, Outside, Store, Compare, station}
-use Rattle.encrypt_schema.specs.Commands.Visits.{entry, command_entry, Visit, visit, visits_in, visits, command_visits}
+use Rattle.encrypt_schema.specs.Commands.Visits.{entry, command_entry, Visit, visits_in, visits, command_visits}
 use Rattle.encrypt_schema.specs.Commands.Visits.{roles}
 use Rattle.encrypt_schema.specs.Commands.Visits.{mark_at, marks, station_of, text_in, text_at, texts}
 

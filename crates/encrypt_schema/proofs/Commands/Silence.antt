@@ -12,7 +12,6 @@ use Rattle.encrypt_schema.specs.Commands.Stations.{Entry, Station, Store, Compar
 use Rattle.encrypt_schema.specs.Commands.Stations.{is_silent}
 use Rattle.encrypt_schema.specs.Language.Collection.{Collection}
 use Rattle.encrypt_schema.specs.Commands.Offences.{target_offence, view_offence, ruled_offence, judged_offence}
-use Rattle.encrypt_schema.specs.Commands.Offences.{pointer_offence}
 use Rattle.encrypt_schema.specs.Commands.Pointers.{Targets, pointed}
 use Rattle.encrypt_schema.specs.Commands.Visits.{entry, Visit, visit, visits_in, visits, mark_at, marks, Refusal}
 use Rattle.encrypt_schema.specs.Commands.Visits.{target_of, view_of, ruled_of, content_of, refused_at, first_refusal}

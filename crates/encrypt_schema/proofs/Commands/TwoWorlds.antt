@@ -10,7 +10,7 @@ use Rattle.encrypt_schema.specs.Commands.Targets.{info_of, rows_in, rows_of, ver
 use Rattle.encrypt_schema.specs.Language.Row.{Row}
 use Rattle.encrypt_schema.specs.Commands.Stations.{Entry, Station, Outside, Insert, Update, Delete, Find, Passed}
 use Rattle.encrypt_schema.specs.Commands.Stations.{Unknown, is_passed, command_of, station, has_role}
-use Rattle.encrypt_schema.specs.Commands.Pointers.{Targets, pointed}
+use Rattle.encrypt_schema.specs.Commands.Pointers.{pointed}
 use Rattle.encrypt_schema.specs.Commands.Visits.{names_of, entry, command_entry, Visit, command_visit, command_visits}
 use Rattle.encrypt_schema.specs.Commands.Visits.{marks, roles, target_of, view_of, content_of, Refusal, or_else}
 use Rattle.encrypt_schema.specs.Commands.Visits.{first_refusal, content_verdict, verdict_on}

@@ -2,7 +2,7 @@
 use Rattle.std.proofs.Common.{◌≡◌, ◌∙◌, ℕ, ◌+◌, ◌<◌, ◌≤◌, Bool, true, false, ◌&&◌, ◌||◌, not, List, [], ◌∷◌, ◌++◌}
 use Rattle.std.proofs.Common.{length, take, slice_set, Bor, refl, sym, ap, arith}
 use Rattle.std.proofs.lemmas.List.{length-set, take_more_set}
-use Rattle.bson_tree.specs.Tree.{Tree, Items, no_items, item}
+use Rattle.bson_tree.specs.Tree.{Tree, Items, item}
 use Rattle.encrypt_schema.specs.Language.Names.{named, is_among}
 use Rattle.encrypt_schema.specs.Language.Values.{are_distinct, distinct_behind}
 use Rattle.encrypt_schema.specs.Views.Borrowed.{names}

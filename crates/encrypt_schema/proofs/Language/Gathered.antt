@@ -1,13 +1,12 @@
 -- What one walk over the keywords of a schema gathers is what stands in it by name, where each has its form.
 use Rattle.std.proofs.Common.{◌≡◌, ◌∙◌, ℕ, ◌==◌, Bool, true, false, ◌&&◌, ◌||◌, not, cond, List, [], ◌∷◌, codes, Option}
-use Rattle.std.proofs.Common.{Some, None, is_some, Result, Ok, Err, refl, sym, ap, ap₂, subst, ⊎_elim}
+use Rattle.std.proofs.Common.{Some, None, is_some, Result, Ok, refl, sym, ap, ap₂, subst, ⊎_elim}
 use Rattle.std.proofs.lemmas.Bool.{cases_Bool, false≢true}
 use Rattle.std.specs.Prelude.{option_and_then, option_map}
 use Rattle.bson_tree.specs.Tree.{Tree, Items, no_items, item, kids_of}
 use Rattle.encrypt_schema.specs.declared.schema.faults.SchemaFault.{SchemaFault}
 use Rattle.encrypt_schema.specs.declared.schema.faults.SchemaFault.TheVariants as faults
 use Rattle.encrypt_schema.specs.declared.schema.keyword.Form.{Form}
-use Rattle.encrypt_schema.specs.declared.schema.keyword.Form.TheVariants as forms
 use Rattle.encrypt_schema.specs.declared.schema.settings.Settings.{Settings}
 use Rattle.encrypt_schema.specs.Language.Keywords.{keyword_at}
 use Rattle.encrypt_schema.specs.Language.Names.{named, is_among}
@@ -16,7 +15,7 @@ use Rattle.encrypt_schema.specs.Language.Rules.{setting_of, stated}
 use Rattle.encrypt_schema.specs.Language.Shapes.{all_settings, are_settings, fits, is_setting, is_types, key_of}
 use Rattle.encrypt_schema.specs.Language.Values.{are_distinct, distinct_behind, find, is_document_value}
 use Rattle.encrypt_schema.specs.Language.Values.{is_string_value}
-use Rattle.encrypt_schema.specs.Views.Gathered.{Read, Gathered, no_settings, none_gathered, with_setting, with_keyword}
+use Rattle.encrypt_schema.specs.Views.Gathered.{Read, Gathered, no_settings, none_gathered, with_keyword}
 use Rattle.encrypt_schema.specs.Views.Gathered.{settings_behind, settings_by, settings_at, gathered_behind, gathered_of}
 use Rattle.encrypt_schema.specs.Views.Gathered.{settings_seen}
 use Rattle.encrypt_schema.proofs.Paths.Paths.{named_same}

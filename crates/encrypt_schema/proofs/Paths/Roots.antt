@@ -1,7 +1,7 @@
 -- The front of the empty path is the first one.
-use Rattle.std.proofs.Common.{◌≡◌, ◌==◌, eqb, ℕ, zero, suc, Bool, true, false, List, [], ◌∷◌, Option, Some, get_or}
+use Rattle.std.proofs.Common.{◌≡◌, eqb, ℕ, Bool, true, false, List, [], ◌∷◌, Some, get_or}
 use Rattle.std.proofs.Common.{refl, sym}
-use Rattle.std.proofs.Common.{ap, ◌∙◌}
+use Rattle.std.proofs.Common.{◌∙◌}
 use Rattle.std.proofs.lemmas.Bool.{eqb-true, eqb-false}
 use Rattle.encrypt_schema.specs.Language.Row.{Row}
 use Rattle.encrypt_schema.specs.Paths.Classes.{number_of}

@@ -23,8 +23,8 @@ pub(crate) struct Found {
     name: Span,
 }
 
-/// Rules, and the document from which their pointers are read, where there is one. No pointer is looked up twice, unless
-/// memory runs out.
+/// Rules, and the document from which their pointers are read, where there is one. No pointer is looked up twice,
+/// unless memory runs out.
 #[derive(Drop)]
 pub(crate) struct Pointing<'r, 'd> {
     rows: &'r Rows,

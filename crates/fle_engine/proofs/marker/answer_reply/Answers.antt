@@ -1,6 +1,5 @@
 -- The reply is what the command comes to.
-use Rattle.fle_engine.proofs.Replied.{answered_memory, reply_made, reply_too_long}
-use Rattle.fle_engine.specs.Replies.{sized}
+use Rattle.fle_engine.proofs.Replied.{reply_made}
 use Rattle.fle_engine.proofs.marker.answer_reply.Goals as goal
 
 pub returns-in-Ok : goal.returns-in-Ok

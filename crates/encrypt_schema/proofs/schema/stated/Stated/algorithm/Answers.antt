@@ -1,5 +1,5 @@
 -- The setting of `encrypt`, or else that of `encryptMetadata`.
-use Rattle.std.proofs.Common.{◌≡◌, ◌∙◌, Option, option_map, ap}
+use Rattle.std.proofs.Common.{◌∙◌, Option, ap}
 use Rattle.std.specs.Prelude.{option_and_then}
 use Rattle.bson_tree.specs.Tree.{Tree}
 use Rattle.bson_codec.specs.Borrowed.{At}
