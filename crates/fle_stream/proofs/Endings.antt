@@ -22,24 +22,25 @@ pub record NothingLeft (rest : List Output) (more : List Block) (part : List ℕ
   pub bytes : part ≡ []
 
 nothing_left : (why : Why) (number : ℕ) (o : Outcome) (rest : List Output) (more : List Block) (part : List ℕ)
-    (read most : ℕ) (told : List ℕ) (after : Option (List ℕ))
-    → IsSettled (status_of why) → EndsIn why number o rest more part read most told after → NothingLeft rest more part
-nothing_left (whys.Finished finish) number o rest more part read most told after settled end =
+    (first read : ℕ) (spans told : List ℕ) (after : Option (List ℕ))
+    → IsSettled (status_of why) → EndsIn why number o rest more part first read spans told after
+    → NothingLeft rest more part
+nothing_left (whys.Finished finish) number o rest more part first read spans told after settled end =
     record { outputs = end.all; blocks = end.undrawn; bytes = end.unwritten }
-nothing_left (whys.Cut cuts.Folder) number o rest more part read most told after settled end = absurd settled
-nothing_left (whys.Cut cuts.Input) number o rest more part read most told after settled end = absurd settled
-nothing_left (whys.Cut cuts.Output) number o rest more part read most told after settled end = absurd settled
-nothing_left (whys.Cut cuts.Entropy) number o rest more part read most told after settled end = absurd settled
-nothing_left (whys.Cut cuts.Memory) number o rest more part read most told after settled end = absurd settled
+nothing_left (whys.Cut cuts.Folder) number o rest more part first read spans told after settled end = absurd settled
+nothing_left (whys.Cut cuts.Input) number o rest more part first read spans told after settled end = absurd settled
+nothing_left (whys.Cut cuts.Output) number o rest more part first read spans told after settled end = absurd settled
+nothing_left (whys.Cut cuts.Entropy) number o rest more part first read spans told after settled end = absurd settled
+nothing_left (whys.Cut cuts.Memory) number o rest more part first read spans told after settled end = absurd settled
 
 -- so every output is written
-pub whole_of : {o : Outcome} {told : List ℕ} {after : Option (List ℕ)} {most : List ℕ
-    → ℕ} {entropy entropy_after : EntropySeen} {out out_after : SinkSeen} {number : ℕ} {why : Why}
-    → Ran o told after most entropy entropy_after out out_after number why → IsSettled (status_of why)
+pub whole_of : {o : Outcome} {told : List ℕ} {start : ℕ} {after : Option (List ℕ)} {spans : List ℕ
+    → List ℕ} {entropy entropy_after : EntropySeen} {out out_after : SinkSeen} {number : ℕ} {why : Why}
+    → Ran o start told after spans entropy entropy_after out out_after number why → IsSettled (status_of why)
     → Whole o entropy entropy_after out out_after
 whole_of {o = o} {told = told} {after = after} {entropy = entropy} {entropy_after = entropy_after} {out = out}
     {out_after = out_after} {number = number} {why = why} ran settled =
-    let none = nothing_left why number o ran.rest ran.more ran.part _ _ told after settled ran.end in
+    let none = nothing_left why number o ran.rest ran.more ran.part _ _ _ told after settled ran.end in
     let outputs : ran.done ≡ o.outputs = sym (ran.split
     ∙ (ap (λ (os : List Output). ran.done ++ os) none.outputs ∙ append-nil ran.done)) in
     let drawn : ran.first ++ ran.more ≡ ran.first =
@@ -56,50 +57,57 @@ whole_of {o = o} {told = told} {after = after} {entropy = entropy} {entropy_afte
 
 -- its status is that of its outcome
 settled_end : (why : Why) (number : ℕ) (o : Outcome) (rest : List Output) (more : List Block) (part : List ℕ)
-    (read most : ℕ) (told : List ℕ) (after : Option (List ℕ))
-    → IsSettled (status_of why) → EndsIn why number o rest more part read most told after
+    (first read : ℕ) (spans told : List ℕ) (after : Option (List ℕ))
+    → IsSettled (status_of why) → EndsIn why number o rest more part first read spans told after
     → status_of why ≡ status_of_finish o.finish
-settled_end (whys.Finished finish) number o rest more part read most told after settled end =
+settled_end (whys.Finished finish) number o rest more part first read spans told after settled end =
     ap status_of_finish end.same
-settled_end (whys.Cut cuts.Folder) number o rest more part read most told after settled end = absurd settled
-settled_end (whys.Cut cuts.Input) number o rest more part read most told after settled end = absurd settled
-settled_end (whys.Cut cuts.Output) number o rest more part read most told after settled end = absurd settled
-settled_end (whys.Cut cuts.Entropy) number o rest more part read most told after settled end = absurd settled
-settled_end (whys.Cut cuts.Memory) number o rest more part read most told after settled end = absurd settled
+settled_end (whys.Cut cuts.Folder) number o rest more part first read spans told after settled end = absurd settled
+settled_end (whys.Cut cuts.Input) number o rest more part first read spans told after settled end = absurd settled
+settled_end (whys.Cut cuts.Output) number o rest more part first read spans told after settled end = absurd settled
+settled_end (whys.Cut cuts.Entropy) number o rest more part first read spans told after settled end = absurd settled
+settled_end (whys.Cut cuts.Memory) number o rest more part first read spans told after settled end = absurd settled
 
-pub settled_status : {o : Outcome} {told : List ℕ} {after : Option (List ℕ)} {most : List ℕ
-    → ℕ} {entropy entropy_after : EntropySeen} {out out_after : SinkSeen} {number : ℕ} {why : Why}
-    → Ran o told after most entropy entropy_after out out_after number why → IsSettled (status_of why)
+pub settled_status : {o : Outcome} {told : List ℕ} {start : ℕ} {after : Option (List ℕ)} {spans : List ℕ
+    → List ℕ} {entropy entropy_after : EntropySeen} {out out_after : SinkSeen} {number : ℕ} {why : Why}
+    → Ran o start told after spans entropy entropy_after out out_after number why → IsSettled (status_of why)
     → status_of why ≡ status_of_finish o.finish
 settled_status {o = o} {told = told} {after = after} {number = number} {why = why} ran settled =
-    settled_end why number o ran.rest ran.more ran.part _ _ told after settled ran.end
+    settled_end why number o ran.rest ran.more ran.part _ _ _ told after settled ran.end
 
 -- a run that nothing cut short ends as its outcome says
 end_settled : (why : Why) (number : ℕ) (o : Outcome) (rest : List Output) (more : List Block) (part : List ℕ)
-    (read most : ℕ) (told : List ℕ) (after : Option (List ℕ)) (before now : World)
-    → EndsIn why number o rest more part read most told after
+    (first read : ℕ) (spans told : List ℕ) (after : Option (List ℕ)) (before now : World)
+    → EndsIn why number o rest more part first read spans told after
     → (why ≡ whys.Cut cuts.Input → Rose before.input.faults now.input.faults)
     → (why ≡ whys.Cut cuts.Folder → Rose before.files.faults now.files.faults)
     → (why ≡ whys.Cut cuts.Output → Rose before.out.faults now.out.faults)
     → (why ≡ whys.Cut cuts.Entropy → Rose before.entropy.faults now.entropy.faults)
     → Unfailed before now → (status_of why ≡ statuses.Memory → ⊥) → status_of why ≡ status_of_finish o.finish
-end_settled (whys.Finished finish) number o rest more part read most told after before now end i f w n unfailed lasted =
+end_settled (whys.Finished finish) number o rest more part first read spans told after before now end i f w n unfailed
+    lasted =
     ap status_of_finish end.same
-end_settled (whys.Cut cuts.Folder) number o rest more part read most told after before now end i f w n unfailed lasted =
+end_settled (whys.Cut cuts.Folder) number o rest more part first read spans told after before now end i f w n unfailed
+    lasted =
     absurd (unfailed.files (f refl))
-end_settled (whys.Cut cuts.Input) number o rest more part read most told after before now end i f w n unfailed lasted =
+end_settled (whys.Cut cuts.Input) number o rest more part first read spans told after before now end i f w n unfailed
+    lasted =
     absurd (unfailed.input (i refl))
-end_settled (whys.Cut cuts.Output) number o rest more part read most told after before now end i f w n unfailed lasted =
+end_settled (whys.Cut cuts.Output) number o rest more part first read spans told after before now end i f w n unfailed
+    lasted =
     absurd (unfailed.out (w refl))
-end_settled (whys.Cut cuts.Entropy) number o rest more part read most told after before now end i f w n unfailed lasted
+end_settled (whys.Cut cuts.Entropy) number o rest more part first read spans told after before now end i f w n
+    unfailed lasted
     = absurd (unfailed.entropy (n refl))
-end_settled (whys.Cut cuts.Memory) number o rest more part read most told after before now end i f w n unfailed lasted =
+end_settled (whys.Cut cuts.Memory) number o rest more part first read spans told after before now end i f w n unfailed
+    lasted =
     absurd (lasted refl)
 
-pub settled_of : {o : Outcome} {told : List ℕ} {after : Option (List ℕ)} {most : List ℕ
-    → ℕ} {entropy entropy_after : EntropySeen} {out out_after : SinkSeen} {number : ℕ} {why : Why} {before now : World}
+pub settled_of : {o : Outcome} {told : List ℕ} {start : ℕ} {after : Option (List ℕ)} {spans : List ℕ
+    → List ℕ} {entropy entropy_after : EntropySeen} {out out_after : SinkSeen} {number : ℕ} {why : Why} {before now :
+    World}
     {status : Status}
-    → status ≡ status_of why → Ran o told after most entropy entropy_after out out_after number why
+    → status ≡ status_of why → Ran o start told after spans entropy entropy_after out out_after number why
     → (why ≡ whys.Cut cuts.Input → Rose before.input.faults now.input.faults)
     → (why ≡ whys.Cut cuts.Folder → Rose before.files.faults now.files.faults)
     → (why ≡ whys.Cut cuts.Output → Rose before.out.faults now.out.faults)
@@ -107,5 +115,5 @@ pub settled_of : {o : Outcome} {told : List ℕ} {after : Option (List ℕ)} {mo
     → Unfailed before now → (status ≡ statuses.Memory → ⊥) → status ≡ status_of_finish o.finish
 settled_of {o = o} {told = told} {after = after} {number = number} {why = why} {before = before} {now = now} is ran i f
     w n unfailed lasted =
-    is ∙ end_settled why number o ran.rest ran.more ran.part _ _ told after before now ran.end i f w n unfailed
+    is ∙ end_settled why number o ran.rest ran.more ran.part _ _ _ told after before now ran.end i f w n unfailed
     (λ at. lasted (is ∙ at))

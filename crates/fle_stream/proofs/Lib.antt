@@ -9,3 +9,5 @@ pub mod Endings
 pub mod Outputs
 pub mod Turned
 pub mod Undrawn
+pub mod Writings
+pub mod Acts

@@ -17,7 +17,7 @@ use Rattle.fle_stream.specs.declared.why.Why.TheVariants as whys
 use Rattle.fle_stream.proofs.Judgings.{gains_none}
 
 abbrev pub output_of : Plan → Output
-output_of plan = record { read = 0; number = 0; plan = plan }
+output_of plan = record { read = 0; documents = 0; plan = plan }
 
 -- the output takes all blocks that were drawn
 all_of : (plan : Plan) (drawn : List Block) → length drawn ≡ plan.draws
@@ -53,7 +53,7 @@ did_made plan drawn told after before now out out_after enough draws gains left 
 cut_short : (plan : Plan) (cut : Cut) (drawn : List Block) (part told : List ℕ) (after : Option (List ℕ))
     (before now : EntropySeen) (out out_after : SinkSeen)
     → Draws before now drawn → Gains out.told out_after.told part
-    → EndsIn (whys.Cut cut) 0 (outcome_of (makes plan) told) (output_of plan ∷ []) drawn part 0 0 told after
+    → EndsIn (whys.Cut cut) 0 (outcome_of (makes plan) told) (output_of plan ∷ []) drawn part 0 0 [] told after
     → Did (makes plan) told after before now out out_after 0 (whys.Cut cut)
 cut_short plan cut drawn part told after before now out out_after draws gains end = record {
   ran = record {
@@ -79,7 +79,7 @@ pub did_unmade : (plan : Plan) (drawn : List Block) (part told : List ℕ) (afte
     → Did (makes plan) told after before now out out_after 0 (whys.Cut cuts.Output)
 did_unmade plan drawn part told after before now out out_after enough draws prefix gains left =
     cut_short plan cuts.Output drawn part told after before now out out_after draws gains
-    ((enough, prefix), (0, omega arith, left), λ _. refl)
+    ((enough, prefix), ((0, omega arith, left), refl))
 
 -- a block couldn't be drawn
 pub did_undrawn : (plan : Plan) (drawn : List Block) (told : List ℕ) (after : Option (List ℕ))
@@ -88,7 +88,7 @@ pub did_undrawn : (plan : Plan) (drawn : List Block) (told : List ℕ) (after : 
     → Did (makes plan) told after before now out out 0 (whys.Cut cuts.Entropy)
 did_undrawn plan drawn told after before now out fewer draws left =
     cut_short plan cuts.Entropy drawn [] told after before now out out draws (gains_none out.told)
-    ((fewer, refl), (0, omega arith, left), λ _. refl)
+    ((fewer, refl), ((0, omega arith, left), refl))
 
 -- there was no memory for the output
 pub did_unkept : (plan : Plan) (drawn : List Block) (told : List ℕ) (after : Option (List ℕ)) (before now : EntropySeen)
@@ -97,4 +97,4 @@ pub did_unkept : (plan : Plan) (drawn : List Block) (told : List ℕ) (after : O
     → Did (makes plan) told after before now out out 0 (whys.Cut cuts.Memory)
 did_unkept plan drawn told after before now out few draws left =
     cut_short plan cuts.Memory drawn [] told after before now out out draws (gains_none out.told)
-    (((λ some. absurd (omega (arith, some)), few), refl), (0, omega arith, left), λ no. absurd no)
+    (((λ some. absurd (omega (arith, some)), few), refl), (0, omega arith, left))

@@ -1,16 +1,16 @@
 -- What a verb did where it stopped before the input.
-use Rattle.std.proofs.Common.{◌≡◌, ℕ, Option, Some, Err, List, [], refl, sym, subst, arith}
+use Rattle.std.proofs.Common.{◌+◌, ◌≡◌, ℕ, Option, Some, Err, List, [], refl, sym, subst, arith}
 use Rattle.fle_outside.specs.Seen.{EntropySeen, SinkSeen}
 use Rattle.fle_outside.proofs.Drawings.{draws_none}
+use Rattle.fle_stream.specs.Acted.{EndsAs}
 use Rattle.fle_stream.specs.Did.{Did}
-use Rattle.fle_stream.specs.Ended.{EndsAs}
 use Rattle.fle_stream.specs.Files.{LoadIs}
 use Rattle.bson_tree.specs.Tree.{Items}
 use Rattle.fle_stream.specs.Plan.{Verdict}
 use Rattle.fle_stream.specs.Turn.{IsOfStream}
 use Rattle.fle_stream.specs.Outcome.{Outcome, finished}
 use Rattle.fle_stream.specs.Run.{EndsIn, Ran}
-use Rattle.fle_stream.specs.Task.{Task, each, fails, outcome_of, most_of, with_file}
+use Rattle.fle_stream.specs.Task.{Task, each, fails, outcome_of, spans_of, start_of, with_file}
 use Rattle.fle_stream.specs.declared.why.Finish.{Finish}
 use Rattle.fle_stream.specs.declared.why.Cut.TheVariants as cuts
 use Rattle.fle_stream.specs.declared.why.Why.{Why}
@@ -18,11 +18,11 @@ use Rattle.fle_stream.specs.declared.why.Why.TheVariants as whys
 use Rattle.fle_stream.proofs.Judgings.{gains_none, memory_none}
 
 -- a run that wrote nothing
-abbrev ran_none : (o : Outcome) (told : List ℕ) (after : Option (List ℕ)) (most : List ℕ
-    → ℕ) (entropy : EntropySeen) (out : SinkSeen) (number : ℕ) (why : Why)
-    → EndsIn why number o o.outputs [] [] 0 (most told) told after
-    → Ran o told after most entropy entropy out out number why
-ran_none o told after most entropy out number why end = record {
+abbrev ran_none : (o : Outcome) (start : ℕ) (told : List ℕ) (after : Option (List ℕ)) (spans : List ℕ
+    → List ℕ) (entropy : EntropySeen) (out : SinkSeen) (number : ℕ) (why : Why)
+    → EndsIn why number o o.outputs [] [] (start + 0) 0 (spans told) told after
+    → Ran o start told after spans entropy entropy out out number why
+ran_none o start told after spans entropy out number why end = record {
   done = [];
   rest = o.outputs;
   split = refl;
@@ -51,7 +51,7 @@ ends_task why is ends = subst (λ (x : Task). EndsAs x why) (sym is) ends
 pub did_fail : (finish : Finish) (told : List ℕ) (after : Option (List ℕ)) (entropy : EntropySeen) (out : SinkSeen)
     → after ≡ Some told → Did (fails finish) told after entropy entropy out out 0 (whys.Finished finish)
 did_fail finish told after entropy out is = record {
-  ran = ran_none (finished finish 0 0) told after (most_of (fails finish)) entropy out 0 (whys.Finished finish)
+  ran = ran_none (finished finish 0 0) 0 told after (spans_of (fails finish)) entropy out 0 (whys.Finished finish)
       (record { same = refl; at = refl; all = refl; undrawn = refl; unwritten = refl; left = is });
   unread = λ _. refl;
 }
@@ -60,8 +60,8 @@ did_fail finish told after entropy out is = record {
 pub did_folder : (t : Task) (told : List ℕ) (after : Option (List ℕ)) (entropy : EntropySeen) (out : SinkSeen)
     → after ≡ Some told → Did t told after entropy entropy out out 0 (whys.Cut cuts.Folder)
 did_folder t told after entropy out is = record {
-  ran = ran_none (outcome_of t told) told after (most_of t) entropy out 0 (whys.Cut cuts.Folder)
-      ((refl, refl), is, λ no. absurd no);
+  ran = ran_none (outcome_of t told) (start_of t) told after (spans_of t) entropy out 0 (whys.Cut cuts.Folder)
+      ((refl, refl), is);
   unread = λ _. refl;
 }
 
@@ -69,8 +69,8 @@ did_folder t told after entropy out is = record {
 pub did_memory : (t : Task) (told : List ℕ) (after : Option (List ℕ)) (entropy : EntropySeen) (out : SinkSeen)
     → after ≡ Some told → Did t told after entropy entropy out out 0 (whys.Cut cuts.Memory)
 did_memory t told after entropy out is = record {
-  ran = ran_none (outcome_of t told) told after (most_of t) entropy out 0 (whys.Cut cuts.Memory)
-      (memory_none (outcome_of t told).outputs, (0, omega arith, is), λ no. absurd no);
+  ran = ran_none (outcome_of t told) (start_of t) told after (spans_of t) entropy out 0 (whys.Cut cuts.Memory)
+      (memory_none (outcome_of t told).outputs, (0, omega arith, is));
   unread = λ _. refl;
 }
 

@@ -1,6 +1,7 @@
 -- A run on its way: outputs are written, and the course of what is left is what comes.
 use Rattle.std.proofs.Common.{◌≡◌, ℕ, ◌+◌, ◌≤◌, Option, Some, List, [], ◌∷◌, ◌++◌, length, take, drop, refl, sym, ◌∙◌}
-use Rattle.std.proofs.Common.{ap, subst, arith, append_assoc, append-nil, add_assoc, zero-add, length-append}
+use Rattle.std.proofs.Common.{◌-◌, ◌*◌, ◌<◌, mul-add, mul-le-mul_left, ap, subst, arith, append_assoc, append-nil}
+use Rattle.std.proofs.Common.{add_assoc, zero-add, length-append}
 use Rattle.std.proofs.Common.{length-drop}
 use Rattle.std.proofs.lemmas.List.{take_all, take-append-le, drop-append-le, drop-drop}
 use Rattle.fle_outside.specs.Blocks.{Block}
@@ -8,20 +9,35 @@ use Rattle.fle_outside.specs.Drawing.{Draws}
 use Rattle.fle_outside.specs.Seen.{EntropySeen, SinkSeen}
 use Rattle.fle_outside.specs.Writing.{Gains}
 use Rattle.fle_outside.proofs.Drawings.{draws_none, draws_then}
-use Rattle.fle_stream.specs.Plan.{Output, read_of, draws_of, size_of, written}
-use Rattle.fle_stream.specs.Outcome.{Outcome, Course, preceded, next_number}
-use Rattle.fle_stream.specs.Run.{HandedPast, CutAfter, EndsIn, LastStep, OneStep, Ran}
+use Rattle.fle_stream.specs.Plan.{Output, read_of, documents_of, draws_of, size_of, written}
+use Rattle.fle_stream.specs.Outcome.{Outcome, Course, preceded}
+use Rattle.fle_stream.specs.Run.{HandedPast, Reading, CutAfter, EndsIn, LastStep, OneStep, Ran, total}
 use Rattle.fle_stream.specs.Turn.{IsOfStream}
 use Rattle.fle_stream.specs.declared.why.Cut.{Cut}
 use Rattle.fle_stream.specs.declared.why.Cut.TheVariants as cuts
 use Rattle.fle_stream.specs.declared.why.Why.{Why}
 use Rattle.fle_stream.specs.declared.why.Why.TheVariants as whys
 
+-- ---- how much turns take
+
+-- documents of so many bytes at most, and d more of them
+pub grows : (b k d : ℕ) → 0 < k → b * (k - 1) + b * d ≡ b * (k + d - 1)
+grows b k d some = let n : k - 1 + d ≡ k + d - 1 = omega (arith, some) in
+    sym (mul-add b (k - 1) d) ∙ ap (λ (m : ℕ). b * m) n
+
+-- the documents before one of this number, and those of the last turn
+pub reaches : (b k d at : ℕ) → 0 < k → k ≤ at → b * (k - 1) + b * d ≤ b * (at + (d - 1))
+reaches b k d at some within =
+    let n : k - 1 + d ≤ at + (d - 1) = omega (arith, some, within) in
+    let whole : b * (k - 1) + b * d ≡ b * (k - 1 + d) = sym (mul-add b (k - 1) d) in
+    omega (arith, whole, mul-le-mul_left b n)
+
 pub record Going (course : Course) (start : List ℕ) (left : Option (List ℕ)) (entropy entropy_now : EntropySeen)
     (out out_now : SinkSeen) (number taken : ℕ) : Type 0 where
   pub here : left ≡ Some (drop taken start)
   pub done : List Output
   pub bytes : read_of done ≡ taken
+  pub numbers : 1 + documents_of done ≡ number
   pub comes : course 1 0 start ≡ preceded done taken (course number taken (drop taken start))
   pub drawn : List Block
   pub enough : length drawn ≡ draws_of done
@@ -34,6 +50,11 @@ read_of-append : (xs ys : List Output) → read_of (xs ++ ys) ≡ read_of xs + r
 read_of-append [] ys = sym (zero-add (read_of ys))
 read_of-append (x ∷ xs) ys = ap (λ (n : ℕ). x.read + n) (read_of-append xs ys)
     ∙ sym (add_assoc x.read (read_of xs) (read_of ys))
+
+documents_of-append : (xs ys : List Output) → documents_of (xs ++ ys) ≡ documents_of xs + documents_of ys
+documents_of-append [] ys = sym (zero-add (documents_of ys))
+documents_of-append (x ∷ xs) ys = ap (λ (n : ℕ). x.documents + n) (documents_of-append xs ys)
+    ∙ sym (add_assoc x.documents (documents_of xs) (documents_of ys))
 
 pub draws_of-append : (xs ys : List Output) → draws_of (xs ++ ys) ≡ draws_of xs + draws_of ys
 draws_of-append [] ys = sym (zero-add (draws_of ys))
@@ -99,6 +120,7 @@ begins course start left entropy out is = record {
   here = is;
   done = [];
   bytes = refl;
+  numbers = refl;
   comes = preceded_none (course 1 0 start);
   drawn = [];
   enough = refl;
@@ -109,18 +131,18 @@ begins course start left entropy out is = record {
 
 -- one more turn wrote an output
 pub goes : {course : Course} {start : List ℕ} {left after : Option (List ℕ)}
-    {entropy entropy_now entropy_after : EntropySeen} {out out_now out_after : SinkSeen} {number taken n : ℕ}
+    {entropy entropy_now entropy_after : EntropySeen} {out out_now out_after : SinkSeen} {number taken n d : ℕ}
     → Going course start left entropy entropy_now out out_now number taken
-    → OneStep course number taken (drop taken start) after entropy_now entropy_after out_now out_after n
-    → Going course start after entropy entropy_after out out_after (number + 1) (taken + n)
+    → OneStep course number taken (drop taken start) after entropy_now entropy_after out_now out_after n d
+    → Going course start after entropy entropy_after out out_after (number + d) (taken + n)
 goes {course = course} {start = start} {after = after} {entropy = entropy} {entropy_now = entropy_now}
     {entropy_after = entropy_after} {out = out} {out_now = out_now} {out_after = out_after} {number = number}
-    {taken = taken} {n = n} going step =
-    let one : Output = record { read = n; number = number; plan = step.plan } in
+    {taken = taken} {n = n} {d = d} going step =
+    let one : Output = record { read = n; documents = d; plan = step.plan } in
     let behind : drop n (drop taken start) ≡ drop (taken + n) start = drop-drop n taken start in
     let comes : course number taken (drop taken start)
-    ≡ preceded (one ∷ []) n (course (number + 1) (taken + n) (drop (taken + n) start)) =
-    step.comes ∙ ap (λ (bytes : List ℕ). preceded (one ∷ []) n (course (number + 1) (taken + n) bytes)) behind in
+    ≡ preceded (one ∷ []) n (course (number + d) (taken + n) (drop (taken + n) start)) =
+    step.comes ∙ ap (λ (bytes : List ℕ). preceded (one ∷ []) n (course (number + d) (taken + n) bytes)) behind in
     let all : written (going.done ++ one ∷ []) (going.drawn ++ step.drawn)
     ≡ written going.done going.drawn ++ step.plan.bytes step.drawn =
     written-append going.done (one ∷ []) going.drawn step.drawn going.enough
@@ -129,8 +151,9 @@ goes {course = course} {start = start} {after = after} {entropy = entropy} {entr
       here = step.left ∙ ap (λ (bytes : List ℕ). Some bytes) behind;
       done = going.done ++ one ∷ [];
       bytes = omega (arith, read_of-append going.done (one ∷ []), going.bytes);
+      numbers = omega (arith, documents_of-append going.done (one ∷ []), going.numbers);
       comes = going.comes ∙ (ap (λ (o : Outcome). preceded going.done taken o) comes
-          ∙ preceded_twice going.done (one ∷ []) taken n (course (number + 1) (taken + n) (drop (taken + n) start)));
+          ∙ preceded_twice going.done (one ∷ []) taken n (course (number + d) (taken + n) (drop (taken + n) start)));
       drawn = going.drawn ++ step.drawn;
       enough = omega (
         arith,
@@ -157,25 +180,43 @@ handed_past taken most start after past =
           (ap (λ (k : ℕ). drop k (drop taken start)) m ∙ drop-drop past.0 taken start),
     )
 
-cut_past : (cut : Cut) (taken most : ℕ) (start : List ℕ) (after : Option (List ℕ)) → IsOfStream (whys.Cut cut)
-    → CutAfter cut 0 most (drop taken start) after → CutAfter cut taken most start after
-cut_past cuts.Folder taken most start after kind left = absurd kind
-cut_past cuts.Input taken most start after kind left = handed_past taken most start after left
-cut_past cuts.Output taken most start after kind left = handed_past taken most start after left
-cut_past cuts.Entropy taken most start after kind left = handed_past taken most start after left
-cut_past cuts.Memory taken most start after kind left = handed_past taken most start after left
+reading_past : (taken first : ℕ) (spans start : List ℕ) (after : Option (List ℕ)) (number : ℕ)
+    → Reading first 0 spans (drop taken start) after number → Reading first taken spans start after number
+reading_past taken first spans start after number r =
+    let m : 0 + r.taken ≡ r.taken = zero-add r.taken in
+    record {
+      before = r.before;
+      at = r.at;
+      among = r.among;
+      taken = r.taken;
+      least = r.least;
+      most = r.most;
+      left = r.left ∙ ap (λ (bytes : List ℕ). Some bytes)
+          (ap (λ (k : ℕ). drop k (drop taken start)) m ∙ drop-drop r.taken taken start);
+    }
 
-next_preceded : (done : List Output) (taken : ℕ) (o : Outcome) (rest : List Output)
-    → next_number o rest ≡ next_number (preceded done taken o) rest
-next_preceded done taken o [] = refl
-next_preceded done taken o (x ∷ xs) = refl
+cut_past : (cut : Cut) (first taken : ℕ) (spans start : List ℕ) (after : Option (List ℕ)) (number : ℕ)
+    → IsOfStream (whys.Cut cut)
+    → CutAfter cut first 0 spans (drop taken start) after number → CutAfter cut first taken spans start after number
+cut_past cuts.Folder first taken spans start after number kind left = absurd kind
+cut_past cuts.Input first taken spans start after number kind left =
+    reading_past taken first spans start after number left
+cut_past cuts.Output first taken spans start after number kind left = (
+  handed_past taken (total spans) start after left.0,
+  left.1,
+)
+cut_past cuts.Entropy first taken spans start after number kind left = (
+  handed_past taken (total spans) start after left.0,
+  left.1,
+)
+cut_past cuts.Memory first taken spans start after number kind left = handed_past taken (total spans) start after left
 
 -- the end of what is left is the end of all
 end_past : (why : Why) (number : ℕ) (done : List Output) (o : Outcome) (rest : List Output) (more : List Block)
-    (part : List ℕ) (taken most : ℕ) (start : List ℕ) (after : Option (List ℕ))
-    → IsOfStream why → EndsIn why number o rest more part 0 most (drop taken start) after
-    → EndsIn why number (preceded done taken o) rest more part taken most start after
-end_past (whys.Finished finish) number done o rest more part taken most start after kind end = record {
+    (part : List ℕ) (first taken : ℕ) (spans start : List ℕ) (after : Option (List ℕ))
+    → IsOfStream why → EndsIn why number o rest more part first 0 spans (drop taken start) after
+    → EndsIn why number (preceded done taken o) rest more part first taken spans start after
+end_past (whys.Finished finish) number done o rest more part first taken spans start after kind end = record {
   same = end.same;
   at = end.at;
   all = end.all;
@@ -183,31 +224,33 @@ end_past (whys.Finished finish) number done o rest more part taken most start af
   unwritten = end.unwritten;
   left = end.left ∙ ap (λ (bytes : List ℕ). Some bytes) (drop-drop o.used taken start);
 }
-end_past (whys.Cut cut) number done o rest more part taken most start after kind end = (
+end_past (whys.Cut cut) number done o rest more part first taken spans start after kind end = (
   end.0,
-  cut_past cut taken most start after kind end.1,
-  λ numbered. end.2 numbered
-      ∙ next_preceded done taken o rest,
+  cut_past cut first taken spans start after number kind end.1,
 )
 
 -- a turn ended the run
-pub stops : {course : Course} {start : List ℕ} {left after : Option (List ℕ)} (most : List ℕ
-    → ℕ) {entropy entropy_now entropy_after : EntropySeen} {out out_now out_after : SinkSeen} {number taken : ℕ}
+pub stops : {course : Course} {start : List ℕ} {left after : Option (List ℕ)} (spans : List ℕ
+    → List ℕ) {entropy entropy_now entropy_after : EntropySeen} {out out_now out_after : SinkSeen} {number taken at : ℕ}
     {why : Why}
     → Going course start left entropy entropy_now out out_now number taken
     → IsOfStream why
-    → LastStep (course number taken (drop taken start)) (drop taken start) after
-    (most (drop taken start)) entropy_now entropy_after out_now out_after number why
-    → Ran (course 1 0 start) start after most entropy entropy_after out out_after number why
-stops {course = course} {start = start} {after = after} most {out = out} {out_now = out_now} {out_after = out_after}
-    {number = number} {taken = taken} {why = why} going kind last =
+    → LastStep (course number taken (drop taken start)) number (drop taken start) after
+    (spans (drop taken start)) entropy_now entropy_after out_now out_after at why
+    → Ran (course 1 0 start) 1 start after spans entropy entropy_after out out_after at why
+stops {course = course} {start = start} {after = after} spans {out = out} {out_now = out_now} {out_after = out_after}
+    {number = number} {taken = taken} {at = at} {why = why} going kind last =
     let o : Outcome = course number taken (drop taken start) in
-    let past = end_past why number going.done o o.outputs last.more last.part taken
-    (most (drop taken start)) start after kind last.end in
-    let there : EndsIn why number (course 1 0 start) o.outputs last.more last.part taken
-    (most (drop taken start)) start after =
-    subst (λ (p : Outcome). EndsIn why number p o.outputs last.more last.part taken
-    (most (drop taken start)) start after) (sym going.comes) past in
+    let past = end_past why at going.done o o.outputs last.more last.part number taken
+    (spans (drop taken start)) start after kind last.end in
+    let there : EndsIn why at (course 1 0 start) o.outputs last.more last.part number taken
+    (spans (drop taken start)) start after =
+    subst (λ (p : Outcome). EndsIn why at p o.outputs last.more last.part number taken
+    (spans (drop taken start)) start after) (sym going.comes) past in
+    let counted : EndsIn why at (course 1 0 start) o.outputs last.more last.part (1 + documents_of going.done) taken
+    (spans (drop taken start)) start after =
+    subst (λ (k : ℕ). EndsIn why at (course 1 0 start) o.outputs last.more last.part k taken
+    (spans (drop taken start)) start after) (sym going.numbers) there in
     record {
       done = going.done;
       rest = o.outputs;
@@ -219,8 +262,8 @@ stops {course = course} {start = start} {after = after} most {out = out} {out_no
       part = last.part;
       gains = gains_then out.told out_now.told out_after.told
           (written going.done going.drawn) last.part going.gains last.gains;
-      end = subst (λ (k : ℕ). EndsIn why number (course 1 0 start) o.outputs last.more last.part k
-          (most (drop k start)) start after) (sym going.bytes) there;
+      end = subst (λ (k : ℕ). EndsIn why at (course 1 0 start) o.outputs last.more last.part
+          (1 + documents_of going.done) k (spans (drop k start)) start after) (sym going.bytes) counted;
     }
 
 -- where the sink is assured of all outputs, it is assured of those that are left

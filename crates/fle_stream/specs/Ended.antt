@@ -1,5 +1,5 @@
 -- How a run of a program ended: one ending for its status, its line, its output, its blocks and its input.
-use Rattle.std.specs.Prelude.{◌≡◌, ℕ, ◌<◌, ◌≤◌, Result, Some, List, length}
+use Rattle.std.specs.Prelude.{◌≡◌, ℕ, ◌≤◌, Result, Some, List, length}
 use Rattle.fle_outside.specs.Blocks.{Block}
 use Rattle.fle_outside.specs.Counts.{Rose}
 use Rattle.fle_outside.specs.Drawing.{Draws}
@@ -7,18 +7,16 @@ use Rattle.fle_outside.specs.Files.{Files}
 use Rattle.fle_outside.specs.Seen.{SourceSeen, FolderSeen, SinkSeen, EntropySeen}
 use Rattle.fle_outside.specs.Writing.{Gains, WritesWhole}
 use Rattle.fle_outside.specs.declared.answers.Failed.{Failed}
+use Rattle.fle_stream.specs.Acted.{Acted, Objects, objects}
 use Rattle.fle_stream.specs.Codes.{status_of, status_of_finish}
-use Rattle.fle_stream.specs.Did.{Did}
 use Rattle.fle_stream.specs.Line.{line_of}
 use Rattle.fle_stream.specs.Outcome.{Outcome}
 use Rattle.fle_stream.specs.Plan.{draws_of, size_of, written}
-use Rattle.fle_stream.specs.Task.{Task, fails, makes, each, outcome_of}
-use Rattle.fle_stream.specs.Turn.{IsOfStream, RunTook}
+use Rattle.fle_stream.specs.Task.{Task, outcome_of}
+use Rattle.fle_stream.specs.Turn.{Pace}
 use Rattle.fle_stream.specs.declared.status.Status.{Status}
 use Rattle.fle_stream.specs.declared.status.Status.TheVariants as statuses
-use Rattle.fle_stream.specs.declared.why.Why.{Why}
-use Rattle.fle_stream.specs.declared.why.Why.TheVariants as whys
-use Rattle.fle_stream.specs.declared.why.Cut.TheVariants as cuts
+use Rattle.fle_stream.specs.declared.end.End.{End}
 
 -- all objects of a run
 pub record World : Type 0 where
@@ -32,41 +30,23 @@ pub record World : Type 0 where
 abbrev pub world : SourceSeen → FolderSeen → SinkSeen → SinkSeen → EntropySeen → World
 world input files out diag entropy = record { input = input; files = files; out = out; diag = diag; entropy = entropy }
 
--- how a task ends: one that fails ends so, and no end is of words or files where each document is judged; a folder's
--- failure may come first, and memory may run out
-abbrev pub EndsAs : Task → Why → Type 0
-EndsAs t (whys.Cut cuts.Folder) = Unit {0}
-EndsAs t (whys.Cut cuts.Memory) = Unit {0}
-EndsAs (fails finish) why = why ≡ whys.Finished finish
-EndsAs (makes plan) why = Unit {0}
-EndsAs (each v) why = IsOfStream why
+-- what of them a verb runs over: all but the diagnostics
+abbrev pub objects_of : World → Objects
+objects_of w = objects w.input w.files w.out w.entropy
 
--- how a run ended, whose task follows from the files
-pub record Ended (task : Files → Task) (before after : World) (status : Status) : Type 0 where
-  -- why it ended
-  pub why : Why
-  -- the number of the document for the line
-  pub number : ℕ
+-- how a run ended: its verb goes by the files that these show, and their task, at this pace
+pub record Ended (shows : FolderSeen → Files → Type 0) (task : Files → Task) (pace : Pace) (before after : World)
+    (status : Status) : Type 0 where
+  -- why it ended, and the number of the document for the line
+  pub end : End
   -- the status is that of the end
-  pub answer : status ≡ status_of why
-  -- which bytes were written, which blocks drawn, and what the input has left: for a folder and an input that tell
-  pub did : (all : Files) (told : List ℕ) → before.files.told ≡ Some all → before.input.told ≡ Some told
-      → Did (task all) told after.input.told before.entropy after.entropy before.out after.out number why
-  -- the end is one that the task can make: for a folder that tells
-  pub placed : (all : Files) → before.files.told ≡ Some all → EndsAs (task all) why
-  -- the documents before that number were taken from the input, and at most the one of that number beside them
-  pub took : RunTook before.input.taken after.input.taken number
-  -- status 5 with document 0 is the folder's
-  pub numbered : why ≡ whys.Cut cuts.Input → 0 < number
-  -- each failure only where its own object counted one
-  pub input_failed : why ≡ whys.Cut cuts.Input → Rose before.input.faults after.input.faults
-  pub folder_failed : why ≡ whys.Cut cuts.Folder → Rose before.files.faults after.files.faults
-  pub output_failed : why ≡ whys.Cut cuts.Output → Rose before.out.faults after.out.faults
-  pub entropy_failed : why ≡ whys.Cut cuts.Entropy → Rose before.entropy.faults after.entropy.faults
+  pub answer : status ≡ status_of end.why
+  -- what the verb did, how much it took, and whose failure ended it
+  pub run : Acted shows task pace (objects_of before) (objects_of after) end
   -- whether the line was written whole
   pub reported : Result (Unit {0}) Failed
   -- the line says why
-  pub says : WritesWhole before.diag after.diag reported (line_of why number)
+  pub says : WritesWhole before.diag after.diag reported (line_of end.why end.number)
 
 -- no count of faults rose
 pub record Unfailed (before after : World) : Type 0 where

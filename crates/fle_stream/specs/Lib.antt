@@ -6,10 +6,12 @@ pub mod Outcome
 pub mod Run
 pub mod Turn
 pub mod Judge
+pub mod Write
 pub mod Line
 pub mod Held
 pub mod Task
 pub mod Files
 pub mod Did
+pub mod Acted
 pub mod Ended
 pub mod Made

@@ -39,13 +39,13 @@ abbrev pub low : Rest
 low = faulty 4 (record { kind = kinds.Length; offset = 0 })
 
 -- n bytes are left, and the 32 bits in front of them are the signed number whose bits are those of m: what is judged
--- first comes first
-abbrev pub standing_of : ℕ → ℕ → Standing
-standing_of n m =
+-- first comes first. A document has at most `limit` bytes
+abbrev pub standing_of : ℕ → ℕ → ℕ → Standing
+standing_of limit n m =
     if n == 0 then stops nothing
     else (if nat_lt n 4 then stops (short n)
     else (if signed_below m 5 then stops low
-    else (if nat_lt (2 ^ 24) m then stops over
+    else (if nat_lt limit m then stops over
     else (if nat_lt n m then stops (short n) else whole m))))
 
 -- the bits of the stated length: a 32-bit number, the lowest byte first
@@ -53,8 +53,8 @@ unfoldable pub stated : List ℕ → ℕ
 stated bytes = from_le_bytes w32 (take 4 bytes)
 
 -- how bytes stand before anything of a document is read: what is left of them, and the length they state
-unfoldable pub standing : List ℕ → Standing
-standing bytes = standing_of (length bytes) (stated bytes)
+unfoldable pub standing : ℕ → List ℕ → Standing
+standing limit bytes = standing_of limit (length bytes) (stated bytes)
 
 -- m bytes were read: a document with what comes behind it, or their first fault
 abbrev pub spelled : (List ℕ → Docs) → ℕ → List ℕ → Result Items BsonFault → Docs
@@ -66,14 +66,24 @@ abbrev pub first_by : (List ℕ → Docs) → List ℕ → Standing → Docs
 first_by behind bytes (stops rest) = ends rest
 first_by behind bytes (whole m) = spelled behind m bytes (document (take m bytes))
 
--- a stream's documents, n of them at most, one after another
-unfoldable pub rounds : ℕ → List ℕ → Docs
-rounds zero bytes = ends nothing
-rounds (suc n) bytes = first_by (rounds n) bytes (standing bytes)
+-- a stream's documents, n of them at most, one after another: the first, the third and so on have at most `limit`
+-- bytes,
+-- those between them at most `other`
+unfoldable pub rounds : ℕ → ℕ → ℕ → List ℕ → Docs
+rounds limit other zero bytes = ends nothing
+rounds limit other (suc n) bytes = first_by (rounds other limit n) bytes (standing limit bytes)
+
+-- the documents of a stream, by the limits of each other one
+unfoldable pub documents_within : ℕ → ℕ → List ℕ → Docs
+documents_within limit other bytes = rounds limit other (length bytes + 1) bytes
+
+-- the most bytes that a document of the input may have
+abbrev pub document_limit : ℕ
+document_limit = 2 ^ 24
 
 -- the documents of a stream
-unfoldable pub documents : List ℕ → Docs
-documents bytes = rounds (length bytes + 1) bytes
+abbrev pub documents : List ℕ → Docs
+documents bytes = documents_within document_limit document_limit bytes
 
 -- the bytes of the first document; n where there is none
 abbrev pub first_size : Docs → ℕ → ℕ

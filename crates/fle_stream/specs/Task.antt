@@ -1,9 +1,11 @@
 -- What the words and the files ask for.
-use Rattle.std.specs.Prelude.{ℕ, Option, Some, None, List, [], ◌∷◌, length, nat_lt, if◌then◌else◌}
+use Rattle.std.specs.Prelude.{ℕ, Bool, true, false, Option, Some, None, List, [], ◌∷◌, length, nat_lt}
+use Rattle.std.specs.Prelude.{if◌then◌else◌}
 use Rattle.bson_tree.specs.Tree.{Items}
 use Rattle.fle_stream.specs.Plan.{Plan, Verdict}
-use Rattle.fle_stream.specs.Outcome.{Outcome, finished, outcome}
-use Rattle.fle_stream.specs.Streams.{documents, first_size}
+use Rattle.fle_stream.specs.Outcome.{Course, Outcome, finished, outcome}
+use Rattle.fle_stream.specs.Streams.{document_limit, documents, first_size}
+use Rattle.fle_stream.specs.Turn.{Pace}
 use Rattle.fle_stream.specs.declared.why.Finish.{Finish}
 use Rattle.fle_stream.specs.declared.why.Finish.TheVariants as finishes
 use Rattle.fle_stream.specs.declared.why.SetupFault.TheVariants as setups
@@ -20,16 +22,44 @@ outcome_of (fails finish) told = finished finish 0 0
 outcome_of (makes plan) told = record {
   finish = finishes.Done;
   number = 0;
-  outputs = record { read = 0; number = 0; plan = plan } ∷ [];
+  outputs = record { read = 0; documents = 0; plan = plan } ∷ [];
   used = 0;
 }
 outcome_of (each v) told = outcome v 1 0 (documents told)
 
--- how many of the bytes that are left one step of a task reads at most
-abbrev pub most_of : Task → List ℕ → ℕ
-most_of (fails finish) told = 0
-most_of (makes plan) told = 0
-most_of (each v) told = first_size (documents told) (length told)
+-- the same from a document on: by its number, the bytes that were taken before and those that are left
+abbrev pub course_of : Task → Course
+course_of (fails finish) number taken told = outcome_of (fails finish) told
+course_of (makes plan) number taken told = outcome_of (makes plan) told
+course_of (each v) number taken told = outcome v number taken (documents told)
+
+-- the task reads the input
+abbrev pub reads_input : Task → Bool
+reads_input (fails finish) = false
+reads_input (makes plan) = false
+reads_input (each v) = true
+
+-- the number of the first document that a task reads; 0 where it reads none
+abbrev pub start_of : Task → ℕ
+start_of (fails finish) = 0
+start_of (makes plan) = 0
+start_of (each v) = 1
+
+-- the bytes of the documents that one step of a task reads of those that are left
+abbrev pub spans_of : Task → List ℕ → List ℕ
+spans_of (fails finish) told = []
+spans_of (makes plan) told = []
+spans_of (each v) told = first_size (documents told) (length told) ∷ []
+
+-- one document a step
+abbrev pub one_document : Pace
+one_document = record { documents = 1; bytes = document_limit }
+
+-- how many documents a step of a task reads at most, and how many bytes each of them has at most
+abbrev pub pace_of : Task → Pace
+pace_of (fails finish) = record { documents = 0; bytes = 0 }
+pace_of (makes plan) = record { documents = 0; bytes = 0 }
+pace_of (each v) = one_document
 
 -- the file of this number in the order of the words, of at most `limit` bytes: missing, too long, or what its bytes
 -- lead to

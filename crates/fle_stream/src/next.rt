@@ -11,9 +11,6 @@ use bson_codec::{BsonFault, BsonKind, stated_length};
 use fle_outside::{Fill, Source, fill_piece};
 use std::alloc::Global;
 
-/// The largest document of the input, in bytes.
-const MAX_LENGTH: u32 = 16_777_216;
-
 /// What stands next in a stream.
 #[derive(Drop)]
 pub enum Next {
@@ -31,12 +28,15 @@ pub enum Next {
     Memory,
 }
 
-/// Reads the bytes of the next document of a stream, and no byte behind it. What they spell isn't judged.
-pub fn next_document<S: Source>(alloc: Global, source: &mut S) -> Next
-    ensures next { (told : List ℕ) → (S.seen source.old).told ≡ Some told
-        → NextIs told (S.seen source.new).told result }
-    ensures sound { NextSound result }
-    ensures took { NextTook 0 (S.seen source.old).taken (S.seen source.new).taken result }
+/// Reads the bytes of the next document of a stream, of at most `limit` bytes, and no byte behind it. What they spell
+/// isn't judged.
+pub fn next_document<S: Source>(alloc: Global, source: &mut S, limit: u32) -> Next
+    requires least { 4 ≤ limit }
+    requires small { limit < 2 ^ 31 }
+    ensures next { (other : ℕ) (told : List ℕ) → (S.seen source.old).told ≡ Some told
+        → NextIs limit other told (S.seen source.new).told result }
+    ensures sound { NextSound limit result }
+    ensures took { NextTook limit 0 (S.seen source.old).taken (S.seen source.new).taken result }
     ensures later { (S.seen source.old).faults ≤ (S.seen source.new).faults }
     ensures cause { result ≡ Next.Failed → Rose (S.seen source.old).faults (S.seen source.new).faults }
     ensures sure { (S.seen source.old).assured ≡ true
@@ -49,22 +49,23 @@ pub fn next_document<S: Source>(alloc: Global, source: &mut S) -> Next
         Fill::Ended(n) => Next::Faulty(short(n)),
         Fill::Whole => match stated_length(head) {
             Err(fault) => Next::Faulty(fault),
-            Ok(size) if MAX_LENGTH < size => Next::Over,
-            Ok(size) => next_body(alloc, source, &head, size as usize),
+            Ok(size) if limit < size => Next::Over,
+            Ok(size) => next_body(alloc, source, &head, size as usize, limit),
         },
     }
 }
 
 /// Reads the bytes of a document behind its length.
-fn next_body<S: Source>(alloc: Global, source: &mut S, head: &[u8], size: usize) -> Next
+fn next_body<S: Source>(alloc: Global, source: &mut S, head: &[u8], size: usize, limit: u32) -> Next
     requires four { length head.now ≡ 4 }
     requires says { from_le_bytes w32 head.now ≡ size }
     requires least { 5 ≤ size }
-    requires most { size ≤ 2 ^ 24 }
-    ensures next { (told : List ℕ) → (S.seen source.old).told ≡ Some told
-        → NextIs (head.now ++ told) (S.seen source.new).told result }
-    ensures sound { NextSound result }
-    ensures took { NextTook 4 (S.seen source.old).taken (S.seen source.new).taken result }
+    requires most { size ≤ limit }
+    requires small { limit < 2 ^ 31 }
+    ensures next { (other : ℕ) (told : List ℕ) → (S.seen source.old).told ≡ Some told
+        → NextIs limit other (head.now ++ told) (S.seen source.new).told result }
+    ensures sound { NextSound limit result }
+    ensures took { NextTook limit 4 (S.seen source.old).taken (S.seen source.new).taken result }
     ensures later { (S.seen source.old).faults ≤ (S.seen source.new).faults }
     ensures cause { result ≡ Next.Failed → Rose (S.seen source.old).faults (S.seen source.new).faults }
     ensures sure { (S.seen source.old).assured ≡ true

@@ -1,20 +1,60 @@
-//! Verbs that judge each document of the input.
+//! Verbs that write an output of each document of the input.
 
-ghost use Rattle.std.specs.Prelude.{true, ◌≡◌, ◌<◌, ◌≤◌, List, ℕ, Some};
-ghost use Rattle.fle_outside.specs.Counts.{Rose};
-ghost use Rattle.fle_outside.specs.Seen.{EntropySeen};
-ghost use Rattle.fle_stream.specs.Did.{Did};
-ghost use Rattle.fle_stream.specs.Plan.{DrawsNone, draws_of, size_of};
-ghost use Rattle.fle_stream.specs.Task.{each, outcome_of};
-ghost use Rattle.fle_stream.specs.Turn.{RunTook, IsOfStream};
+ghost use Rattle.std.specs.Prelude.{◌≡◌, ◌<◌};
+ghost use Rattle.fle_outside.specs.Seen.{EntropySeen, FolderSeen};
+ghost use Rattle.fle_stream.specs.Acted.{Acted, AreAny, objects};
+ghost use Rattle.fle_stream.specs.Plan.{DrawsNone};
+ghost use Rattle.fle_stream.specs.Task.{each, one_document};
+ghost use Rattle.fle_stream.specs.Turn.{IsOfStream};
 
 use crate::end::End;
 use crate::judging::{Judge, Judging};
 use crate::no_blocks::NoBlocks;
+use crate::one_by_one::{DocumentWriter, OneByOne};
 use crate::turning::run_turns;
 use crate::why::{Cut, Why};
 use fle_outside::{Entropy, Sink, Source};
 use std::alloc::Global;
+
+/// Writes the output of each document of the input, until one ends the run.
+pub fn write_stream<W: DocumentWriter + Drop, S: Source, O: Sink, N: Entropy>(
+    alloc: Global,
+    writer: W,
+    input: &mut S,
+    out: &mut O,
+    entropy: &mut N,
+) -> End
+    requires ready { W.ready writer }
+    ensures run { (files : FolderSeen) → Acted AreAny (λ _. each (W.verdict writer)) one_document
+        (objects (S.seen input.old) files (O.seen out.old) (N.seen entropy.old))
+        (objects (S.seen input.new) files (O.seen out.new) (N.seen entropy.new)) result }
+    ensures kind { IsOfStream result.why }
+    ensures numbered { 0 < result.number }
+    ensures undrawn { DrawsNone (W.verdict writer) → result.why ≡ Why.Cut Cut.Entropy → ⊥ }
+{
+    let mut verb = OneByOne { writer };
+    run_turns(alloc, &mut verb, input, out, entropy)
+}
+
+/// The same by a writer that draws no block, and asks no source of blocks: what was done is so whatever blocks are to
+/// come.
+pub fn write_without_blocks<W: DocumentWriter + Drop, S: Source, O: Sink>(
+    alloc: Global,
+    writer: W,
+    input: &mut S,
+    out: &mut O,
+) -> End
+    requires ready { W.ready writer }
+    requires quiet { DrawsNone (W.verdict writer) }
+    ensures run { (files : FolderSeen) (e : EntropySeen) → Acted AreAny (λ _. each (W.verdict writer)) one_document
+        (objects (S.seen input.old) files (O.seen out.old) e) (objects (S.seen input.new) files (O.seen out.new) e)
+        result }
+    ensures kind { IsOfStream result.why }
+    ensures numbered { 0 < result.number }
+    ensures undrawn { result.why ≡ Why.Cut Cut.Entropy → ⊥ }
+{
+    write_stream(alloc, writer, input, out, &mut NoBlocks)
+}
 
 /// Judges each document of the input, and writes its output, until one ends the run.
 pub fn judge_stream<J: Judge + Drop, S: Source, O: Sink, N: Entropy>(
@@ -25,31 +65,17 @@ pub fn judge_stream<J: Judge + Drop, S: Source, O: Sink, N: Entropy>(
     entropy: &mut N,
 ) -> End
     requires ready { J.ready judge }
-    ensures did { (told : List ℕ) → (S.seen input.old).told ≡ Some told
-        → Did (each (J.verdict judge)) told (S.seen input.new).told (N.seen entropy.old) (N.seen entropy.new)
-        (O.seen out.old) (O.seen out.new) result.number result.why }
+    ensures run { (files : FolderSeen) → Acted AreAny (λ _. each (J.verdict judge)) one_document
+        (objects (S.seen input.old) files (O.seen out.old) (N.seen entropy.old))
+        (objects (S.seen input.new) files (O.seen out.new) (N.seen entropy.new)) result }
     ensures kind { IsOfStream result.why }
     ensures numbered { 0 < result.number }
-    ensures took { RunTook (S.seen input.old).taken (S.seen input.new).taken result.number }
-    ensures in_cause { result.why ≡ Why.Cut Cut.Input → Rose (S.seen input.old).faults (S.seen input.new).faults }
-    ensures in_sure { (S.seen input.old).assured ≡ true → result.why ≡ Why.Cut Cut.Input → ⊥ }
-    ensures out_cause { result.why ≡ Why.Cut Cut.Output → Rose (O.seen out.old).faults (O.seen out.new).faults }
-    ensures out_sure { (told : List ℕ) → (S.seen input.old).told ≡ Some told
-        → size_of (outcome_of (each (J.verdict judge)) told).outputs ≤ (O.seen out.old).assured
-        → result.why ≡ Why.Cut Cut.Output → ⊥ }
-    ensures entropy_cause { result.why ≡ Why.Cut Cut.Entropy
-        → Rose (N.seen entropy.old).faults (N.seen entropy.new).faults }
-    ensures entropy_sure { (told : List ℕ) → (S.seen input.old).told ≡ Some told
-        → draws_of (outcome_of (each (J.verdict judge)) told).outputs ≤ (N.seen entropy.old).assured
-        → result.why ≡ Why.Cut Cut.Entropy → ⊥ }
     ensures undrawn { DrawsNone (J.verdict judge) → result.why ≡ Why.Cut Cut.Entropy → ⊥ }
 {
-    let mut verb = Judging { judge };
-    run_turns(alloc, &mut verb, input, out, entropy)
+    write_stream(alloc, Judging { judge }, input, out, entropy)
 }
 
-/// Judges each document of the input by a judge that draws no block, and asks no source of blocks: what was done is so
-/// whatever blocks are to come.
+/// The same by a judge that draws no block.
 pub fn judge_without_blocks<J: Judge + Drop, S: Source, O: Sink>(
     alloc: Global,
     judge: J,
@@ -58,19 +84,12 @@ pub fn judge_without_blocks<J: Judge + Drop, S: Source, O: Sink>(
 ) -> End
     requires ready { J.ready judge }
     requires quiet { DrawsNone (J.verdict judge) }
-    ensures did { (told : List ℕ) (e : EntropySeen) → (S.seen input.old).told ≡ Some told
-        → Did (each (J.verdict judge)) told (S.seen input.new).told e e (O.seen out.old) (O.seen out.new) result.number
-        result.why }
+    ensures run { (files : FolderSeen) (e : EntropySeen) → Acted AreAny (λ _. each (J.verdict judge)) one_document
+        (objects (S.seen input.old) files (O.seen out.old) e) (objects (S.seen input.new) files (O.seen out.new) e)
+        result }
     ensures kind { IsOfStream result.why }
     ensures numbered { 0 < result.number }
-    ensures took { RunTook (S.seen input.old).taken (S.seen input.new).taken result.number }
-    ensures in_cause { result.why ≡ Why.Cut Cut.Input → Rose (S.seen input.old).faults (S.seen input.new).faults }
-    ensures in_sure { (S.seen input.old).assured ≡ true → result.why ≡ Why.Cut Cut.Input → ⊥ }
-    ensures out_cause { result.why ≡ Why.Cut Cut.Output → Rose (O.seen out.old).faults (O.seen out.new).faults }
-    ensures out_sure { (told : List ℕ) → (S.seen input.old).told ≡ Some told
-        → size_of (outcome_of (each (J.verdict judge)) told).outputs ≤ (O.seen out.old).assured
-        → result.why ≡ Why.Cut Cut.Output → ⊥ }
     ensures undrawn { result.why ≡ Why.Cut Cut.Entropy → ⊥ }
 {
-    judge_stream(alloc, judge, input, out, &mut NoBlocks)
+    write_without_blocks(alloc, Judging { judge }, input, out)
 }

@@ -1,5 +1,5 @@
 -- What the length says comes first.
-use Rattle.std.proofs.Common.{ℕ, ◌<◌, ◌^◌, List, drop, refl, ap, ◌∙◌, subst, arith}
+use Rattle.std.proofs.Common.{ℕ, ◌<◌, List, drop, refl, ap, ◌∙◌, subst, arith}
 use Rattle.std.specs.Int.{from_le_bytes, w32}
 use Rattle.bson_codec.specs.Reading.{signed_below}
 use Rattle.fle_stream.specs.Streams.{stated}
@@ -9,40 +9,50 @@ use Rattle.fle_stream.proofs.Bodies.{head_read, failed_head, ended_head, ended_b
 use Rattle.fle_stream.proofs.next.next_document.Goals as goal
 
 pub returns-in-Err-clause-next : goal.returns-in-Err-clause-next
-returns-in-Err-clause-next g c = λ told is.
+returns-in-Err-clause-next g c = λ other told is.
     let read = head_read told c.fill_piece.new.piece _
     (from_le_bytes w32 c.fill_piece.new.piece) c.fill_piece.auto.piece refl (c.in-Whole.ensures.bytes told is) in
-    let says = stated_low (from_le_bytes w32 c.fill_piece.new.piece) c.in-Err.fault c.in-Err.ensures.stated in
-    (4, rw says.fault (low_length told read.four (ap (λ (m : ℕ). signed_below m 5) read.says ∙ says.below)), read.left)
+    let says = stated_low (from_le_bytes w32 c.fill_piece.new.piece) c.in-Err.fault c.in-Err.ensures.stated in (
+      4,
+      rw says.fault (low_length c.args.limit other told read.four (ap (λ
+          (m : ℕ). signed_below m 5) read.says ∙ says.below)),
+      read.left,
+    )
 
 pub returns-in-Ok-clause-next : goal.returns-in-Ok-clause-next
-returns-in-Ok-clause-next g c = λ told is.
+returns-in-Ok-clause-next g c = λ other told is.
     let read = head_read told c.fill_piece.new.piece _
     (from_le_bytes w32 c.fill_piece.new.piece) c.fill_piece.auto.piece refl (c.in-Whole.ensures.bytes told is) in
     let says = stated_ok (from_le_bytes w32 c.fill_piece.new.piece) c.in-Ok.size c.in-Ok.ensures.stated in
-    let above : 2 ^ 24 < stated told = omega (arith, read.says, says.same, c.if-size-gt-MAX_LENGTH.true) in
-    (over_limit told read.four (ap (λ (m : ℕ). signed_below m 5) read.says ∙ says.plain) above, read.left)
+    let above : c.args.limit < stated told = omega (arith, read.says, says.same, c.if-limit-size.true) in (
+      over_limit c.args.limit other told read.four (ap (λ
+          (m : ℕ). signed_below m 5) read.says ∙ says.plain) above,
+      read.left,
+    )
 
 pub returns-in-Failed-clause-next : goal.returns-in-Failed-clause-next
-returns-in-Failed-clause-next g c = λ told is. failed_head told c.fill_piece.new.piece _ c.fill_piece.auto.piece
+returns-in-Failed-clause-next g c = λ other told is. failed_head c.args.limit other told c.fill_piece.new.piece _
+    c.fill_piece.auto.piece
     (c.in-Failed.ensures.bytes told is)
 
 pub returns-in-Ended-eq0-clause-next : goal.returns-in-Ended-eq0-clause-next
-returns-in-Ended-eq0-clause-next g c = λ told is.
+returns-in-Ended-eq0-clause-next g c = λ other told is.
     let takes = c.in-Ended-eq0.ensures.bytes told is in (
-      none_left told (omega (arith, takes.0, c.in-Ended-eq0)),
+      none_left c.args.limit other told (omega (arith, takes.0, c.in-Ended-eq0)),
       all_read told _ 0 (omega (arith, takes.0, c.in-Ended-eq0)) takes.2,
     )
 
 pub returns-in-Ended-clause-next : goal.returns-in-Ended-clause-next
-returns-in-Ended-clause-next g c = λ told is.
-    ended_by told _ c.in-Ended.n c.short.result c.short.ensures.short
-    (ended_head told c.fill_piece.new.piece _ c.in-Ended.n (c.in-Ended.ensures.bytes told is) (omega arith)
+returns-in-Ended-clause-next g c = λ other told is.
+    ended_by c.args.limit other told _ c.in-Ended.n c.short.result c.short.ensures.short
+    (ended_head c.args.limit other told c.fill_piece.new.piece _ c.in-Ended.n (c.in-Ended.ensures.bytes told is)
+    (omega arith)
     (omega (arith, c.in-Ended.ensures.within, c.fill_piece.auto.piece)))
 
 pub returns-in-Ok-2-clause-next : goal.returns-in-Ok-2-clause-next
-returns-in-Ok-2-clause-next g c = λ told is.
+returns-in-Ok-2-clause-next g c = λ other told is.
     let read = head_read told c.fill_piece.new.piece _
     (from_le_bytes w32 c.fill_piece.new.piece) c.fill_piece.auto.piece refl (c.in-Whole.ensures.bytes told is) in
-    subst (λ (x : List ℕ). NextIs x (g.S.Source.seen c.next_body.new.source).told c.next_body.result) read.is
-    (c.next_body.ensures.next (drop 4 told) read.left)
+    subst (λ (x : List ℕ). NextIs c.args.limit other x
+    (g.S.Source.seen c.next_body.new.source).told c.next_body.result) read.is
+    (c.next_body.ensures.next other (drop 4 told) read.left)
