@@ -1,18 +1,22 @@
 -- What the named files hold leads on, or the task fails.
-use Rattle.std.proofs.Common.{◌≡◌, ℕ, Option, Some, Result, Ok, Err, List, ◌∙◌, ap, refl}
-use Rattle.fle_outside.specs.Seen.{EntropySeen, SinkSeen}
+use Rattle.std.proofs.Common.{◌≡◌, ℕ, true, Option, Some, Result, Ok, Err, List, ◌∙◌, ap, refl}
+use Rattle.fle_outside.specs.Counts.{Rose}
+use Rattle.fle_outside.specs.Files.{Files}
+use Rattle.fle_outside.specs.Seen.{EntropySeen, FolderSeen, SinkSeen, SourceSeen}
 use Rattle.key_vault.specs.Loading.{Loads, vault}
 use Rattle.key_vault.specs.declared.faults.VaultFault.{VaultFault}
 use Rattle.key_vault.specs.declared.faults.VaultFault.TheVariants as vault_faults
 use Rattle.local_kms.specs.Master.{master_in}
 use Rattle.local_kms.specs.declared.master.MasterFault.{MasterFault}
+use Rattle.fle_stream.specs.Acted.{Acted, EndsAs, AreTold, objects}
 use Rattle.fle_stream.specs.Did.{Did}
-use Rattle.fle_stream.specs.Ended.{EndsAs}
-use Rattle.fle_stream.specs.Files.{LoadIs}
+use Rattle.fle_stream.specs.Files.{IsOfFiles, LoadIs}
 use Rattle.fle_stream.specs.Task.{Task, with_file}
+use Rattle.fle_stream.specs.Turn.{Pace}
 use Rattle.fle_stream.specs.declared.why.Cut.TheVariants as cuts
 use Rattle.fle_stream.specs.declared.why.Why.{Why}
 use Rattle.fle_stream.specs.declared.why.Why.TheVariants as whys
+use Rattle.fle_stream.proofs.Acts.{IsEarly, acts_early}
 use Rattle.fle_stream.proofs.Programs.{did_task, did_fail, did_folder, did_memory, ends_task}
 use Rattle.fle_files.specs.Infos.{ReadsAs, infos_read}
 use Rattle.fle_files.specs.Setup.{Leads, infos_limit, infos_or, infos_why, master_limit, master_or, master_why}
@@ -78,7 +82,7 @@ lead_stop first rest (whys.Cut cuts.Output) stops = absurd stops
 lead_stop first rest (whys.Cut cuts.Entropy) stops = absurd stops
 
 -- a run ends for this reason before its input is read
-pub did_stop : {A : Type 0} (files : (A → Task) → Task) (why : Why) (next : A → Task) (told : List ℕ)
+did_stop : {A : Type 0} (files : (A → Task) → Task) (why : Why) (next : A → Task) (told : List ℕ)
     (after : Option (List ℕ)) (entropy : EntropySeen) (out : SinkSeen)
     → Leads files (Err why) → after ≡ Some told → Did (files next) told after entropy entropy out out 0 why
 did_stop files (whys.Finished finish) next told after entropy out is left =
@@ -91,7 +95,7 @@ did_stop files (whys.Cut cuts.Input) next told after entropy out is left = absur
 did_stop files (whys.Cut cuts.Output) next told after entropy out is left = absurd is
 did_stop files (whys.Cut cuts.Entropy) next told after entropy out is left = absurd is
 
-pub ends_stop : {A : Type 0} (files : (A → Task) → Task) (why : Why) (next : A → Task)
+ends_stop : {A : Type 0} (files : (A → Task) → Task) (why : Why) (next : A → Task)
     → Leads files (Err why) → EndsAs (files next) why
 ends_stop files (whys.Finished finish) next is = ends_task (whys.Finished finish) (is next) refl
 ends_stop files (whys.Cut cuts.Folder) next is = tt
@@ -99,3 +103,24 @@ ends_stop files (whys.Cut cuts.Memory) next is = tt
 ends_stop files (whys.Cut cuts.Input) next is = absurd is
 ends_stop files (whys.Cut cuts.Output) next is = absurd is
 ends_stop files (whys.Cut cuts.Entropy) next is = absurd is
+
+stops_early : (why : Why) → IsOfFiles why → IsEarly why
+stops_early (whys.Finished finish) kind = tt
+stops_early (whys.Cut cuts.Folder) kind = tt
+stops_early (whys.Cut cuts.Memory) kind = tt
+stops_early (whys.Cut cuts.Input) kind = absurd kind
+stops_early (whys.Cut cuts.Output) kind = absurd kind
+stops_early (whys.Cut cuts.Entropy) kind = absurd kind
+
+-- with all that is so of a run
+pub acts_stop : {A : Type 0} (leads : Files → (A → Task) → Task) (next : A → Task) {pace : Pace} {input : SourceSeen}
+    {files files_after : FolderSeen} {out : SinkSeen} {entropy : EntropySeen} (why : Why) → IsOfFiles why
+    → ((all : Files) → files.told ≡ Some all → Leads (leads all) (Err why))
+    → (why ≡ whys.Cut cuts.Folder → Rose files.faults files_after.faults)
+    → (files.assured ≡ true → why ≡ whys.Cut cuts.Folder → ⊥)
+    → Acted AreTold (λ all. leads all next) pace (objects input files out entropy)
+    (objects input files_after out entropy) (record { number = 0; why = why })
+acts_stop leads next {out = out} {entropy = entropy} why kind stops cause sure =
+    acts_early why (stops_early why kind)
+    (λ all told after has is. did_stop (leads all) why next told after entropy out (stops all has) is)
+    (λ all has. ends_stop (leads all) why next (stops all has)) cause sure
