@@ -94,7 +94,7 @@ pub record Sealing (x : Setup) (cs : List Items) (outputs : List Output) (blocks
   pub bytes : flat_map doc_bytes sealed ≡ written outputs blocks
 
 module _ (x : Setup) (uuids : AreByUuid x.keys) where
-  sealed_under : (c : Items) (plan : Plan) (own : List Block) → All (λ b. b < 256) (items_bytes c)
+  pub sealed_under : (c : Items) (plan : Plan) (own : List Block) → All (λ b. b < 256) (items_bytes c)
       → IsAccepted x c plan → AreBlocks own → length own ≡ plan.draws
       → IsSealedUnder x c own (sealed (found_in x.keys) (sites_in x c) own (at_front c))
   sealed_under c plan own bytes a are count = record {
@@ -110,8 +110,8 @@ module _ (x : Setup) (uuids : AreByUuid x.keys) where
   one : (b : Bool) (w : Verdict) (number n : ℕ) (c : Items) (cs : List Items) (o last : Outcome) (blocks : List Block)
       → All (λ b. b < 256) (items_bytes c) → verdict_of x c ≡ w → last.outputs ≡ []
       → ((rest : List Block) → AreBlocks rest → length rest ≡ draws_of o.outputs → Sealing x cs o.outputs rest)
-      → AreBlocks blocks → length blocks ≡ draws_of (cond b (judged w number n o) last).outputs
-      → Sealing x (cond b (if_accepted w c cs) []) (cond b (judged w number n o) last).outputs blocks
+      → AreBlocks blocks → length blocks ≡ draws_of (cond b (judged w number 1 n o) last).outputs
+      → Sealing x (cond b (if_accepted w c cs) []) (cond b (judged w number 1 n o) last).outputs blocks
   one false w number n c cs o last blocks bytes e nothing others are count =
       subst (λ (os : List Output). Sealing x [] os blocks) (sym nothing)
       (none blocks (count ∙ ap draws_of nothing))

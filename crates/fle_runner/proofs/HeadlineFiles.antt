@@ -13,7 +13,10 @@ use Rattle.fle_outside.specs.Blocks.{Block}
 use Rattle.fle_outside.specs.Files.{Files, file_of}
 use Rattle.fle_outside.specs.Seen.{EntropySeen, SinkSeen}
 use Rattle.fle_outside.specs.Writing.{Gains}
+use Rattle.fle_stream.specs.Did.{Did}
 use Rattle.fle_stream.specs.Ended.{Whole}
+use Rattle.fle_stream.specs.declared.why.Why.{Why}
+use Rattle.fle_stream.proofs.Programs.{did_task}
 use Rattle.fle_stream.specs.Outcome.{Outcome}
 use Rattle.fle_stream.specs.Plan.{draws_of, written}
 use Rattle.fle_stream.specs.Task.{Task, each, outcome_of, with_file}
@@ -21,8 +24,10 @@ use Rattle.key_vault.specs.Loading.{vault}
 use Rattle.local_kms.specs.Master.{master_in}
 use Rattle.fle_runner.specs.Decrypt.{decrypt_task, decrypt_verdict}
 use Rattle.fle_runner.specs.Encrypt.{encrypt_verdict}
-use Rattle.fle_runner.specs.Headline.{AreByUuid, AreReadable, AreSealedUnder, SealsStream, Setup, verdict_of}
-use Rattle.fle_runner.specs.HeadlineFiles.{HoldKeys, HoldSetup, HoldsBytes, IsDecrypt, IsEncrypt}
+use Rattle.fle_runner.specs.Headline.{AreByUuid, AreReadable, AreSealedUnder, SealsFirst, SealsStream, Setup}
+use Rattle.fle_runner.specs.Headline.{verdict_of}
+use Rattle.fle_runner.specs.HeadlineFiles.{HoldKeys, HoldSetup, HoldsBytes, IsDecrypt, IsEncrypt, IsMark}
+use Rattle.fle_runner.specs.Mark.{mark_verdict}
 use Rattle.fle_files.specs.Infos.{infos_read}
 use Rattle.fle_runner.specs.ReadBack.{outputs_back, read_whole, stream}
 use Rattle.fle_files.specs.Setup.{infos_limit, infos_or, master_limit, master_or, vault_limit, vault_or}
@@ -32,6 +37,7 @@ use Rattle.fle_words.specs.Words.{Form}
 use Rattle.fle_runner.proofs.Backs.{reads_back, writes_back}
 use Rattle.fle_runner.proofs.Headline.{seals_stream}
 use Rattle.fle_runner.proofs.HeadlineBack.{come_back}
+use Rattle.fle_runner.proofs.HeadlineFronts.{seals_first}
 use Rattle.fle_runner.proofs.HeadlineKeys.{vault_uuids}
 
 -- a file that is there and within its limit leads on
@@ -80,6 +86,15 @@ task_is now words all x h =
     ap (λ (form : Option Form). task_of now form all) h.form
     ∙ files_lead all h.keys h.schemas h.master x h.files
 
+-- or that each be marked
+pub mark_is : (now : ℕ) (words : List (List ℕ)) (all : Files) (db : List ℕ) (infos : List Collection)
+    → IsMark words all db infos → task now words all ≡ each (mark_verdict infos db)
+mark_is now words all db infos h =
+    let next : List Collection → Task = λ (held : List Collection). each (mark_verdict held db) in
+    ap (λ (form : Option Form). task_of now form all) h.form
+    ∙ leads 1 infos_limit all h.schemas h.schemas_bytes (λ bytes. infos_or 1 next (infos_read bytes)) h.schemas_file
+    ∙ ap (infos_or 1 next) h.schemas_say
+
 -- what a run of `encrypt` wrote whose outputs were all written
 pub encrypts : (now : ℕ) (words : List (List ℕ)) (all : Files) (told : List ℕ) (x : Setup)
     (entropy entropy_after : EntropySeen) (out out_after : SinkSeen)
@@ -89,6 +104,16 @@ pub encrypts : (now : ℕ) (words : List (List ℕ)) (all : Files) (told : List 
 encrypts now words all told x entropy entropy_after out out_after h bytes w =
     seals_stream x told entropy entropy_after out out_after (held_uuids all h.keys h.master x.keys h.files.held) bytes
     (subst (λ (t : Task). Whole (outcome_of t told) entropy entropy_after out out_after) (task_is now words all x h) w)
+
+-- and of one that something cut short
+pub encrypts_first : (now : ℕ) (words : List (List ℕ)) (all : Files) (told : List ℕ) (x : Setup)
+    {after : Option (List ℕ)} {entropy entropy_after : EntropySeen} {out out_after : SinkSeen} {number : ℕ} {why : Why}
+    → IsEncrypt words all x → All (λ b. b < 256) told
+    → Did (task now words all) told after entropy entropy_after out out_after number why
+    → SealsFirst x told entropy entropy_after out out_after
+encrypts_first now words all told x h bytes did =
+    seals_first x told (held_uuids all h.keys h.master x.keys h.files.held) bytes
+    (did_task (sym (task_is now words all x h)) did).ran
 
 -- words and files ask that each document be opened
 keys_lead : (all : Files) (keys master : List ℕ) (opened : Keyring) → HoldKeys all keys master opened
@@ -121,11 +146,11 @@ decrypts now words all x commands blocks sealed h each_sealed readable few =
     ∙ reads_back (decrypt_verdict x.keys) commands sealed (come_back x commands blocks sealed each_sealed readable) few
 
 -- opening draws no block
-no_draws : (number : ℕ) (commands sealed : List Items) → draws_of (outputs_back number commands sealed) ≡ 0
-no_draws number [] sealed = refl
-no_draws number (c ∷ cs) [] = refl
-no_draws number (c ∷ cs) (d ∷ ds) =
-    let none = no_draws (number + 1) cs ds in
+no_draws : (commands sealed : List Items) → draws_of (outputs_back commands sealed) ≡ 0
+no_draws [] sealed = refl
+no_draws (c ∷ cs) [] = refl
+no_draws (c ∷ cs) (d ∷ ds) =
+    let none = no_draws cs ds in
     omega (arith, none)
 
 no_block : (blocks : List Block) → length blocks ≡ 0 → blocks ≡ []
@@ -140,7 +165,7 @@ pub opened_gains : (x : Setup) (commands : List Items) (blocks : List Block) (se
 opened_gains x commands blocks sealed o entropy entropy_after out out_after each_sealed readable is w =
     let comes = come_back x commands blocks sealed each_sealed readable in
     let none : length w.drawn ≡ 0 =
-    w.enough ∙ (ap (λ (p : Outcome). draws_of p.outputs) is ∙ no_draws 1 commands sealed) in
+    w.enough ∙ (ap (λ (p : Outcome). draws_of p.outputs) is ∙ no_draws commands sealed) in
     let bytes : written o.outputs w.drawn ≡ stream commands =
     ap (λ (p : Outcome). written p.outputs w.drawn) is
     ∙ (ap (λ (bs : List Block). written (read_whole commands sealed).outputs bs) (no_block w.drawn none)

@@ -12,8 +12,8 @@ use Rattle.bson_codec.specs.Layout.{IsDoc}
 use Rattle.bson_codec.specs.Reading.{document}
 use Rattle.bson_codec.specs.declared.fault.BsonFault.{BsonFault}
 use Rattle.bson_codec.proofs.Documents.{document_takes}
-use Rattle.fle_stream.specs.Streams.{Docs, Standing, doc, documents, ends, first_by, rounds, spelled, standing, stated}
-use Rattle.fle_stream.specs.Streams.{stops, whole}
+use Rattle.fle_stream.specs.Streams.{Docs, Standing, doc, document_limit, documents, documents_within, ends, first_by}
+use Rattle.fle_stream.specs.Streams.{rounds, spelled, standing, stated, stops, whole}
 use Rattle.fle_stream.proofs.Streams.{standing_whole}
 
 -- a document of n bytes: it has a spelling, of as many bytes
@@ -54,21 +54,22 @@ spelled_read behind m bytes (Ok c) read within all others =
     )
 spelled_read behind m bytes (Err fault) read within all others = tt
 
-first_read : (behind : List ℕ → Docs) (bytes : List ℕ) (s : Standing) → standing bytes ≡ s → All (λ b. b < 256) bytes
+first_read : (limit : ℕ) (behind : List ℕ → Docs) (bytes : List ℕ) (s : Standing) → standing limit bytes ≡ s → All
+    (λ b. b < 256) bytes
     → ((m : ℕ) → AreRead (behind (drop m bytes))) → AreRead (first_by behind bytes s)
 unfolding standing
-first_read behind bytes (stops rest) is all others = tt
-first_read behind bytes (whole m) is all others =
+first_read limit behind bytes (stops rest) is all others = tt
+first_read limit behind bytes (whole m) is all others =
     spelled_read behind m bytes (document (take m bytes)) refl
-    (standing_whole (length bytes) (stated bytes) m is).within all (others m)
+    (standing_whole limit (length bytes) (stated bytes) m is).within all (others m)
 
-rounds_read : (n : ℕ) (bytes : List ℕ) → All (λ b. b < 256) bytes → AreRead (rounds n bytes)
+rounds_read : (limit other n : ℕ) (bytes : List ℕ) → All (λ b. b < 256) bytes → AreRead (rounds limit other n bytes)
 unfolding rounds
-rounds_read zero bytes all = tt
-rounds_read (suc n) bytes all =
-    first_read (rounds n) bytes (standing bytes) refl all
-    (λ m. rounds_read n (drop m bytes) (All-drop (λ b. b < 256) m bytes all))
+rounds_read limit other zero bytes all = tt
+rounds_read limit other (suc n) bytes all =
+    first_read limit (rounds other limit n) bytes (standing limit bytes) refl all
+    (λ m. rounds_read other limit n (drop m bytes) (All-drop (λ b. b < 256) m bytes all))
 
 pub documents_read : (bytes : List ℕ) → All (λ b. b < 256) bytes → AreRead (documents bytes)
-unfolding documents
-documents_read bytes all = rounds_read (length bytes + 1) bytes all
+unfolding documents_within
+documents_read bytes all = rounds_read document_limit document_limit (length bytes + 1) bytes all

@@ -7,12 +7,14 @@ pub mod Shows
 pub mod JsonMarks
 pub mod Vaults
 pub mod VerbEnds
+pub mod Asked
 pub mod NewKeys
 pub mod Backs
 pub mod HeadlineReads
 pub mod Headline
 pub mod HeadlineBack
 pub mod HeadlineKeys
+pub mod HeadlineFronts
 pub mod HeadlineFiles
 pub mod HeadlineWorlds
 pub mod TwoStreams

@@ -1,16 +1,13 @@
 -- New keys: how long their documents are, and that they can be written.
 use Rattle.std.proofs.Common.{◌≡◌, ℕ, List, [], ◌∷◌, length}
-use Rattle.std.proofs.Common.{◌∙◌, ap, arith}
+use Rattle.std.proofs.Common.{subst, arith}
 use Rattle.std.specs.Prelude.{codes}
 use Rattle.bson_tree.specs.Tree.{Items, node, item}
 use Rattle.bson_tree.specs.Spelling.{doc_bytes, items_bytes}
 use Rattle.data_key.specs.Written.{binary, history, key_fields, names_field, numbered}
 use Rattle.data_key.specs.declared.key_doc.KeyDoc.{KeyDoc}
 use Rattle.data_key.proofs.Sizes.{binary_size, element_size, framed_size}
-use Rattle.fle_runner.specs.Keygen.{IsOfKey, blank_key, document_size, keygen_plan}
-use Rattle.fle_stream.specs.Ended.{EndsAs}
-use Rattle.fle_stream.specs.Plan.{Plan, draws_of, size_of as outputs_size}
-use Rattle.fle_stream.specs.Task.{Task, makes, outcome_of}
+use Rattle.fle_runner.specs.Keygen.{IsOfKey, blank_key, document_size}
 use Rattle.fle_stream.specs.declared.why.Cut.TheVariants as cuts
 use Rattle.fle_stream.specs.declared.why.Why.{Why}
 use Rattle.fle_stream.specs.declared.why.Why.TheVariants as whys
@@ -57,19 +54,5 @@ document_long key now sixteen long =
       framed_size (items_bytes (key_fields blank now now 0)),
     )
 
--- a key was made
-pub ends_key : (plan : Plan) (why : Why) → IsOfKey why → EndsAs (makes plan) why
-ends_key plan (whys.Finished finish) kind = tt
-ends_key plan (whys.Cut cuts.Folder) kind = tt
-ends_key plan (whys.Cut cuts.Input) kind = tt
-ends_key plan (whys.Cut cuts.Output) kind = tt
-ends_key plan (whys.Cut cuts.Entropy) kind = tt
-ends_key plan (whys.Cut cuts.Memory) kind = tt
-
-pub key_size : (t : Task) (told : List ℕ) (names : List (List ℕ)) (now : ℕ) (master : List ℕ)
-    → t ≡ makes (keygen_plan names now master) → outputs_size (outcome_of t told).outputs ≡ document_size names now
-key_size t told names now master is = ap (λ (x : Task). outputs_size (outcome_of x told).outputs) is ∙ omega arith
-
-pub key_draws : (t : Task) (told : List ℕ) (names : List (List ℕ)) (now : ℕ) (master : List ℕ)
-    → t ≡ makes (keygen_plan names now master) → draws_of (outcome_of t told).outputs ≡ 8
-key_draws t told names now master is = ap (λ (x : Task). draws_of (outcome_of x told).outputs) is
+pub key_unfailed : (why : Why) → IsOfKey why → why ≡ whys.Cut cuts.Folder → ⊥
+key_unfailed why kind at = subst IsOfKey at kind

@@ -17,32 +17,32 @@ use Rattle.fle_runner.specs.TwoStreams.{AreVerdictsAlike, EndAlike, HaveEqualSke
 use Rattle.fle_runner.proofs.HeadlineReads.{AreRead, documents_read}
 use Rattle.fle_runner.proofs.HeadlineWorlds.{equal_lengths}
 
-judged_alike : (v w : Verdict) (number n : ℕ) (o p : Outcome) → AreVerdictsAlike v w → EndAlike o p
-    → EndAlike (judged v number n o) (judged w number n p)
-judged_alike (writes a) (writes b) number n o p alike rest = record {
+judged_alike : (v w : Verdict) (number d n : ℕ) (o p : Outcome) → AreVerdictsAlike v w → EndAlike o p
+    → EndAlike (judged v number d n o) (judged w number d n p)
+judged_alike (writes a) (writes b) number d n o p alike rest = record {
   finish = rest.finish;
   number = rest.number;
   used = ap (λ (used : ℕ). n + used) rest.used;
   outputs = (refl, refl, alike, rest.outputs);
 }
-judged_alike (refused reason place) (refused other there) number n o p alike rest = record {
+judged_alike (refused reason place) (refused other there) number d n o p alike rest = record {
   finish = ap₂ finishes.Refused alike.0 alike.1;
   number = refl;
   used = refl;
   outputs = tt;
 }
-judged_alike too_long too_long number n o p alike rest = record {
+judged_alike too_long too_long number d n o p alike rest = record {
   finish = refl;
   number = refl;
   used = refl;
   outputs = tt;
 }
-judged_alike (writes a) (refused other there) number n o p alike rest = absurd alike
-judged_alike (writes a) too_long number n o p alike rest = absurd alike
-judged_alike (refused reason place) (writes b) number n o p alike rest = absurd alike
-judged_alike (refused reason place) too_long number n o p alike rest = absurd alike
-judged_alike too_long (writes b) number n o p alike rest = absurd alike
-judged_alike too_long (refused other there) number n o p alike rest = absurd alike
+judged_alike (writes a) (refused other there) number d n o p alike rest = absurd alike
+judged_alike (writes a) too_long number d n o p alike rest = absurd alike
+judged_alike (refused reason place) (writes b) number d n o p alike rest = absurd alike
+judged_alike (refused reason place) too_long number d n o p alike rest = absurd alike
+judged_alike too_long (writes b) number d n o p alike rest = absurd alike
+judged_alike too_long (refused other there) number d n o p alike rest = absurd alike
 
 -- where nothing is judged any more
 finished_alike : (b : Bool) (number : ℕ) (rest : Rest)
@@ -73,9 +73,9 @@ module _ (infos : List Collection) (v : Items → Verdict)
       let long : n ≡ m = read.0.size ∙ (equal_lengths (rows_of infos c) c d e.0 ∙ sym other_read.0.size) in
       let rest = outcome v (number + 1) (taken + n) docs in
       subst (λ (k : ℕ). EndAlike (outcome v number taken (doc n c docs)) (outcome v number taken (doc k d others))) long
-      (next_alike (nat_lt taken (2 ^ 40)) number (judged (v c) number n rest)
-      (judged (v d) number n (outcome v (number + 1) (taken + n) others))
-      (judged_alike (v c) (v d) number n rest (outcome v (number + 1) (taken + n) others) (same c d e.0)
+      (next_alike (nat_lt taken (2 ^ 40)) number (judged (v c) number 1 n rest)
+      (judged (v d) number 1 n (outcome v (number + 1) (taken + n) others))
+      (judged_alike (v c) (v d) number 1 n rest (outcome v (number + 1) (taken + n) others) (same c d e.0)
       (alike_from (number + 1) (taken + n) docs others read.1 other_read.1 e.1)))
 
   pub streams_alike : (told other : List ℕ) → All (λ b. b < 256) told → All (λ b. b < 256) other

@@ -1,19 +1,14 @@
 -- The ends that a verb can make, and the statuses that they have.
-use Rattle.std.proofs.Common.{◌≡◌, ℕ, ◌≤◌, List, Option, Some, None, ap, refl, subst, arith}
+use Rattle.std.proofs.Common.{◌≡◌, Option, Some, None, refl}
 use Rattle.fle_stream.specs.Codes.{status_of}
-use Rattle.fle_outside.specs.Files.{Files}
 use Rattle.fle_stream.specs.Ended.{IsUnread}
-use Rattle.fle_stream.specs.Plan.{draws_of, size_of}
-use Rattle.fle_stream.specs.Task.{Task, outcome_of}
-use Rattle.fle_stream.specs.Turn.{IsOfStream, RunTook}
+use Rattle.fle_stream.specs.Turn.{IsOfStream}
 use Rattle.fle_stream.specs.declared.why.Cut.{Cut}
+use Rattle.fle_stream.specs.declared.why.Cut.TheVariants as cuts
 use Rattle.fle_stream.specs.declared.why.Finish.{Finish}
 use Rattle.fle_stream.specs.declared.why.Finish.TheVariants as finishes
-use Rattle.fle_stream.specs.declared.why.Cut.TheVariants as cuts
 use Rattle.fle_stream.specs.declared.why.Why.{Why}
 use Rattle.fle_stream.specs.declared.why.Why.TheVariants as whys
-use Rattle.fle_words.specs.Words.{Form}
-use Rattle.fle_runner.specs.Verbs.{task_of}
 use Rattle.fle_runner.specs.Keys.{IsOfKeys, IsOfText}
 use Rattle.fle_runner.specs.Keygen.{IsOfKeygen}
 use Rattle.fle_runner.specs.Statuses.{IsStatusOfDemo, IsStatusOfEncrypt, IsStatusOfKeygen, IsStatusOfKeys}
@@ -137,25 +132,7 @@ unasked is none = cc
 pub uncut : {finish : Finish} {cut : Cut} → whys.Finished finish ≡ whys.Cut cut → ⊥
 uncut at = cc
 
--- a run that is at no document took nothing
-pub took_none : (taken number : ℕ) → number ≡ 0 → RunTook taken taken number
-took_none taken number none = (omega arith, omega arith)
-
 -- there was no memory
 abbrev pub IsMemory : Why → Type 0
 IsMemory (whys.Cut cuts.Memory) = Unit {0}
 IsMemory _ = ⊥
-
--- the words that ask for this have its task
-pub task_asked : {form asked : Option Form} (now : ℕ) (all : Files) → form ≡ asked
-    → task_of now form all ≡ task_of now asked all
-task_asked now all is = ap (λ (f : Option Form). task_of now f all) is
-
--- so what is enough for one task is for the other
-pub bytes_enough : {t u : Task} {n : ℕ} (told : List ℕ) → t ≡ u → size_of (outcome_of t told).outputs ≤ n
-    → size_of (outcome_of u told).outputs ≤ n
-bytes_enough {n = n} told is enough = subst (λ (t : Task). size_of (outcome_of t told).outputs ≤ n) is enough
-
-pub blocks_enough : {t u : Task} {n : ℕ} (told : List ℕ) → t ≡ u → draws_of (outcome_of t told).outputs ≤ n
-    → draws_of (outcome_of u told).outputs ≤ n
-blocks_enough {n = n} told is enough = subst (λ (t : Task). draws_of (outcome_of t told).outputs ≤ n) is enough

@@ -82,6 +82,29 @@ pub record SealsStream (x : Setup) (told : List ℕ) (entropy entropy_after : En
   pub draws : Draws entropy entropy_after blocks
   pub gains : Gains out.told out_after.told (flat_map doc_bytes sealed)
 
+-- whatever cut the run short, it sealed the first of the commands that it accepted, with the first blocks that it drew,
+-- and wrote their bytes, one after another, and a part of the next output
+pub record SealsFirst (x : Setup) (told : List ℕ) (entropy entropy_after : EntropySeen)
+    (out out_after : SinkSeen) : Type 0 where
+  pub whole : List Items
+  pub others : List Items
+  pub split : accepted (verdict_of x) 0 (documents told) ≡ whole ++ others
+  pub sealed : List Items
+  pub blocks : List Block
+  pub more : List Block
+  pub each : AreSealedUnder x whole blocks sealed
+  pub draws : Draws entropy entropy_after (blocks ++ more)
+  pub part : List ℕ
+  pub gains : Gains out.told out_after.told (flat_map doc_bytes sealed ++ part)
+
+-- and of commands that are opened, it wrote the first, and a part of the next output
+pub record OpensFirst (commands : List Items) (out out_after : SinkSeen) : Type 0 where
+  pub whole : List Items
+  pub others : List Items
+  pub split : commands ≡ whole ++ others
+  pub part : List ℕ
+  pub gains : Gains out.told out_after.told (flat_map doc_bytes whole ++ part)
+
 -- commands that their sealed forms open to: each has a spelling, is accepted by its contents, and has no payload
 -- outside its protected values; the sealed one isn't too long for the input
 abbrev pub AreReadable : Setup → List Items → List Items → Type 0

@@ -5,6 +5,7 @@ use Rattle.std.specs.List.{All}
 use Rattle.bson_tree.specs.Tree.{Items}
 use Rattle.context_machine.specs.Rings.{ring}
 use Rattle.data_key.specs.declared.key_doc.KeyDoc.{KeyDoc}
+use Rattle.encrypt_schema.specs.Language.Collection.{Collection}
 use Rattle.doc_rewrite.specs.Opened.{Keyring}
 use Rattle.fle_outside.specs.Blocks.{Block}
 use Rattle.fle_outside.specs.Files.{Files, file_of}
@@ -14,11 +15,11 @@ use Rattle.fle_stream.specs.declared.status.Status.{Status}
 use Rattle.fle_stream.specs.declared.status.Status.TheVariants as statuses
 use Rattle.key_vault.specs.Loading.{vault}
 use Rattle.local_kms.specs.Master.{master_in}
-use Rattle.fle_runner.specs.Headline.{AreReadable, AreSealedUnder, SealsStream, Setup}
+use Rattle.fle_runner.specs.Headline.{AreReadable, AreSealedUnder, OpensFirst, SealsFirst, SealsStream, Setup}
 use Rattle.fle_files.specs.Infos.{infos_read}
 use Rattle.fle_runner.specs.ReadBack.{stream}
 use Rattle.fle_files.specs.Setup.{infos_limit, master_limit, vault_limit}
-use Rattle.fle_words.specs.Words.{decrypt, encrypt, form_of}
+use Rattle.fle_words.specs.Words.{decrypt, encrypt, form_of, mark}
 
 -- the file of this name is there, and has these bytes, at most so many
 pub record HoldsBytes (all : Files) (name : List ℕ) (limit : ℕ) (bytes : List ℕ) : Type 0 where
@@ -52,6 +53,14 @@ pub record IsEncrypt (words : List (List ℕ)) (all : Files) (x : Setup) : Type 
   pub form : form_of words ≡ Some (encrypt x.db keys schemas master)
   pub files : HoldSetup all keys schemas master x
 
+-- the words are `mark DB SCHEMAS`, and the file is there, within its limit, and says this
+pub record IsMark (words : List (List ℕ)) (all : Files) (db : List ℕ) (infos : List Collection) : Type 0 where
+  pub schemas : List ℕ
+  pub form : form_of words ≡ Some (mark db schemas)
+  pub schemas_bytes : List ℕ
+  pub schemas_file : HoldsBytes all schemas infos_limit schemas_bytes
+  pub schemas_say : infos_read schemas_bytes ≡ Ok infos
+
 -- the words are `decrypt KEYS MASTER`, and the files are there, within their limits, and say this
 pub record IsDecrypt (words : List (List ℕ)) (all : Files) (opened : Keyring) : Type 0 where
   pub keys : List ℕ
@@ -59,18 +68,23 @@ pub record IsDecrypt (words : List (List ℕ)) (all : Files) (opened : Keyring) 
   pub form : form_of words ≡ Some (decrypt keys master)
   pub files : HoldKeys all keys master opened
 
--- `encrypt`, where no object failed and memory lasted: every accepted command was sealed, and nothing else changed
+-- `encrypt`: the first of the accepted commands were sealed and written, whatever cut the run short; and where no
+-- object
+-- failed and memory lasted, every accepted command was sealed, and nothing else changed
 abbrev pub SealsAll : List (List ℕ) → World → World → Status → Type 0
 SealsAll words before after status =
     (all : Files) (told : List ℕ) (x : Setup) → before.files.told ≡ Some all → before.input.told ≡ Some told
-    → IsEncrypt words all x → All (λ b. b < 256) told → IsSettled status
-    → SealsStream x told before.entropy after.entropy before.out after.out
+    → IsEncrypt words all x → All (λ b. b < 256) told
+    → SealsFirst x told before.entropy after.entropy before.out after.out
+    × (IsSettled status → SealsStream x told before.entropy after.entropy before.out after.out)
 
--- `decrypt` over sealed commands, where no object failed and memory lasted: the commands were written, byte for byte
+-- `decrypt` over sealed commands: the first of the commands were written, byte for byte, whatever cut the run short;
+-- and
+-- where no object failed and memory lasted, all of them
 abbrev pub OpensAll : List (List ℕ) → World → World → Status → Type 0
 OpensAll words before after status =
     (all : Files) (x : Setup) (commands : List Items) (blocks : List Block) (sealed : List Items)
     → before.files.told ≡ Some all → before.input.told ≡ Some (stream sealed) → IsDecrypt words all x.keys
     → AreSealedUnder x commands blocks sealed → AreReadable x commands sealed → length (stream sealed) < 2 ^ 40
-    → IsSettled status
-    → (status ≡ statuses.Done) × Gains before.out.told after.out.told (stream commands)
+    → OpensFirst commands before.out after.out
+    × (IsSettled status → (status ≡ statuses.Done) × Gains before.out.told after.out.told (stream commands))

@@ -20,19 +20,18 @@ ComesTo v (c ∷ cs) (d ∷ ds) =
 abbrev pub stream : List Items → List ℕ
 stream ds = flat_map doc_bytes ds
 
--- the outputs of these documents, the first of which has this number
-abbrev pub outputs_back : ℕ → List Items → List Items → List Output
-outputs_back number [] ds = []
-outputs_back number (c ∷ cs) [] = []
-outputs_back number (c ∷ cs) (d ∷ ds) =
-    record { read = length (doc_bytes d); number = number; plan = plain_plan (doc_bytes c) }
-    ∷ outputs_back (number + 1) cs ds
+-- the outputs of these documents
+abbrev pub outputs_back : List Items → List Items → List Output
+outputs_back [] ds = []
+outputs_back (c ∷ cs) [] = []
+outputs_back (c ∷ cs) (d ∷ ds) =
+    record { read = length (doc_bytes d); documents = 1; plan = plain_plan (doc_bytes c) } ∷ outputs_back cs ds
 
 -- all documents were read, and the list was written
 abbrev pub read_whole : List Items → List Items → Outcome
 read_whole cs ds = record {
   finish = finishes.Done;
   number = 1 + length ds;
-  outputs = outputs_back 1 cs ds;
+  outputs = outputs_back cs ds;
   used = length (stream ds);
 }

@@ -28,13 +28,13 @@ AreVerdictsAlike (refused reason place) (refused other there) = (reason ≡ othe
 AreVerdictsAlike too_long too_long = Unit {0}
 AreVerdictsAlike _ _ = ⊥
 
--- as many outputs, each from as many bytes of the input, and alike
+-- as many outputs, each from as many bytes of the input and as many documents, and alike
 abbrev pub AreOutputsAlike : List Output → List Output → Type 0
 AreOutputsAlike [] [] = Unit {0}
 AreOutputsAlike [] (p ∷ ps) = ⊥
 AreOutputsAlike (o ∷ os) [] = ⊥
 AreOutputsAlike (o ∷ os) (p ∷ ps) =
-    (o.read ≡ p.read) × (o.number ≡ p.number) × ArePlansAlike o.plan p.plan × AreOutputsAlike os ps
+    (o.read ≡ p.read) × (o.documents ≡ p.documents) × ArePlansAlike o.plan p.plan × AreOutputsAlike os ps
 
 -- two runs come to one end at one document, behind outputs that are alike, and read as many bytes
 pub record EndAlike (o p : Outcome) : Type 0 where

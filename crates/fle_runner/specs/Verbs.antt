@@ -1,7 +1,10 @@
 -- What each form of the words asks for, with the files that there are.
 use Rattle.std.specs.Prelude.{ℕ, Option, Some, None, List}
 use Rattle.fle_outside.specs.Files.{Files, file_of}
-use Rattle.fle_stream.specs.Task.{Task, fails}
+use Rattle.fle_outside.specs.Seen.{FolderSeen}
+use Rattle.fle_stream.specs.Acted.{AreAny, AreTold}
+use Rattle.fle_stream.specs.Task.{Task, fails, one_document}
+use Rattle.fle_stream.specs.Turn.{Pace}
 use Rattle.fle_words.specs.Words.{Form, mark, show, keys, keygen, encrypt, decrypt, demo, form_of}
 use Rattle.fle_runner.specs.Mark.{mark_task}
 use Rattle.fle_runner.specs.Show.{show_task}
@@ -26,6 +29,18 @@ task_for now (demo db n) files = demo_task db n
 abbrev pub task_of : ℕ → Option Form → Files → Task
 task_of now None files = fails finishes.Words
 task_of now (Some form) files = task_for now form files
+
+-- the files that a run of these words goes by: those that the folder tells; `show`, `demo` and words without a form go
+-- by none
+abbrev pub AreShown : Option Form → FolderSeen → Files → Type 0
+AreShown None files all = AreAny files all
+AreShown (Some show) files all = AreAny files all
+AreShown (Some (demo db n)) files all = AreAny files all
+AreShown (Some form) files all = AreTold files all
+
+-- how they read the input: one document a step, whatever the verb
+abbrev pub pace_for : Option Form → Pace
+pace_for form = one_document
 
 -- what the words and the files ask for at this time, in milliseconds since 1970 as 64 bits
 abbrev pub task : ℕ → List (List ℕ) → Files → Task

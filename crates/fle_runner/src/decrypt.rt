@@ -12,14 +12,12 @@ ghost use Rattle.fle_outside.specs.Files.{Files, file_of};
 ghost use Rattle.fle_outside.specs.Seen.{EntropySeen};
 ghost use Rattle.fle_runner.specs.Decrypt.{decrypt_task, decrypt_verdict, with_opening};
 ghost use Rattle.fle_files.specs.Setup.{Leads};
+ghost use Rattle.fle_stream.specs.Acted.{Acted, AreTold, objects};
 ghost use Rattle.fle_stream.specs.Codes.{status_of};
-ghost use Rattle.fle_stream.specs.Did.{Did};
-ghost use Rattle.fle_stream.specs.Ended.{EndsAs, IsUnread};
+ghost use Rattle.fle_stream.specs.Ended.{IsUnread};
 ghost use Rattle.fle_stream.specs.Files.{IsOfFiles};
 ghost use Rattle.fle_stream.specs.Judge.{JudgeIs};
-ghost use Rattle.fle_stream.specs.Plan.{size_of};
-ghost use Rattle.fle_stream.specs.Task.{outcome_of};
-ghost use Rattle.fle_stream.specs.Turn.{RunTook};
+ghost use Rattle.fle_stream.specs.Task.{one_document};
 
 use crate::refusing::{judge_fault, judge_stop, refuse};
 use bson_codec::RawDoc;
@@ -169,25 +167,12 @@ pub fn decrypt<S: Source, F: Folder, O: Sink, B: Block256>(
     hooks: &B,
 ) -> End
     requires hooks { B.answers hooks.now }
-    ensures did { (all : Files) (told : List ℕ) (e : EntropySeen) → (F.seen files.old).told ≡ Some all
-        → (S.seen input.old).told ≡ Some told
-        → Did (decrypt_task (file_of all keys.now) (file_of all master.now)) told (S.seen input.new).told e e
-        (O.seen out.old) (O.seen out.new) result.number result.why }
+    ensures run { (e : EntropySeen) → Acted AreTold (λ all. decrypt_task (file_of all keys.now)
+        (file_of all master.now))
+        one_document (objects (S.seen input.old) (F.seen files.old) (O.seen out.old) e)
+        (objects (S.seen input.new) (F.seen files.new) (O.seen out.new) e) result }
     ensures formed { result.why ≡ Why.Finished Finish.Words → ⊥ }
-    ensures placed { (all : Files) → (F.seen files.old).told ≡ Some all
-        → EndsAs (decrypt_task (file_of all keys.now) (file_of all master.now)) result.why }
     ensures untouched { IsUnread (status_of result.why) → (input.new ≡ input.old) × (out.new ≡ out.old) }
-    ensures took { RunTook (S.seen input.old).taken (S.seen input.new).taken result.number }
-    ensures numbered { result.why ≡ Why.Cut Cut.Input → 0 < result.number }
-    ensures folder_cause { result.why ≡ Why.Cut Cut.Folder → Rose (F.seen files.old).faults (F.seen files.new).faults }
-    ensures folder_sure { (F.seen files.old).assured ≡ true → result.why ≡ Why.Cut Cut.Folder → ⊥ }
-    ensures in_cause { result.why ≡ Why.Cut Cut.Input → Rose (S.seen input.old).faults (S.seen input.new).faults }
-    ensures in_sure { (S.seen input.old).assured ≡ true → result.why ≡ Why.Cut Cut.Input → ⊥ }
-    ensures out_cause { result.why ≡ Why.Cut Cut.Output → Rose (O.seen out.old).faults (O.seen out.new).faults }
-    ensures out_sure { (all : Files) (told : List ℕ) → (F.seen files.old).told ≡ Some all
-        → (S.seen input.old).told ≡ Some told
-        → size_of (outcome_of (decrypt_task (file_of all keys.now) (file_of all master.now)) told).outputs
-        ≤ (O.seen out.old).assured → result.why ≡ Why.Cut Cut.Output → ⊥ }
     ensures undrawn { result.why ≡ Why.Cut Cut.Entropy → ⊥ }
 {
     let OpeningFiles { keys, master } = match load_opening(alloc, files, keys, master) {

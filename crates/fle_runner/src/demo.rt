@@ -1,13 +1,12 @@
 //! `demo DB N`: a key and N commands are made by generators, each command is sealed and opened again, and a line sums
 //! it up.
 
-ghost use Rattle.std.specs.Prelude.{◌≡◌, ◌≤◌, ℕ, List, Option, Some, length};
-ghost use Rattle.fle_demo.specs.Sums.{demo_text};
-ghost use Rattle.fle_outside.specs.Counts.{Rose};
-ghost use Rattle.fle_outside.specs.Seen.{EntropySeen};
+ghost use Rattle.std.specs.Prelude.{◌≤◌, length};
+ghost use Rattle.fle_outside.specs.Seen.{EntropySeen, FolderSeen, SourceSeen};
 ghost use Rattle.fle_runner.specs.Demo.{demo_task};
 ghost use Rattle.fle_runner.specs.Keys.{IsOfText};
-ghost use Rattle.fle_stream.specs.Did.{Did};
+ghost use Rattle.fle_stream.specs.Acted.{Acted, AreAny, objects};
+ghost use Rattle.fle_stream.specs.Task.{one_document};
 
 use crypto_hooks::Block256;
 use fle_demo::demo_line;
@@ -20,13 +19,9 @@ pub fn demo<O: Sink, B: Block256>(alloc: Global, db: &str, n: u32, out: &mut O, 
     requires hooks { B.answers hooks.now }
     requires short { length db.now ≤ 63 }
     requires few { n ≤ 100000 }
-    ensures did { (told : List ℕ) (after : Option (List ℕ)) (entropy : EntropySeen) → after ≡ Some told
-        → Did (demo_task db.now n) told after entropy entropy (O.seen out.old) (O.seen out.new) result.number
-        result.why }
+    ensures run { (input : SourceSeen) (files : FolderSeen) (e : EntropySeen) → Acted AreAny (λ _. demo_task db.now n)
+        one_document (objects input files (O.seen out.old) e) (objects input files (O.seen out.new) e) result }
     ensures kind { IsOfText result.why }
-    ensures unnumbered { result.number ≡ 0 }
-    ensures out_cause { result.why ≡ Why.Cut Cut.Output → Rose (O.seen out.old).faults (O.seen out.new).faults }
-    ensures out_sure { length (demo_text db.now n) ≤ (O.seen out.old).assured → result.why ≡ Why.Cut Cut.Output → ⊥ }
 {
     match demo_line(alloc, db.as_bytes(), n, hooks) {
         Ok(text) => write_made(out, &text),

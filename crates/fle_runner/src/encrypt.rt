@@ -1,18 +1,16 @@
 //! `encrypt DB KEYS SCHEMAS MASTER`: each command with its protected values sealed.
 
-ghost use Rattle.std.specs.Prelude.{true, ◌≡◌, ◌<◌, ◌≤◌, IfErr, List, ℕ, Some};
+ghost use Rattle.std.specs.Prelude.{true, ◌≡◌, IfErr, Some};
 ghost use Rattle.fle_outside.specs.Counts.{Rose};
 ghost use Rattle.fle_outside.specs.Files.{Files, file_of};
 ghost use Rattle.fle_runner.specs.Encrypt.{encrypt_task};
 ghost use Rattle.fle_runner.specs.Encrypt.{with_sealing};
 ghost use Rattle.fle_files.specs.Setup.{Leads};
+ghost use Rattle.fle_stream.specs.Acted.{Acted, AreTold, objects};
 ghost use Rattle.fle_stream.specs.Codes.{status_of};
-ghost use Rattle.fle_stream.specs.Did.{Did};
-ghost use Rattle.fle_stream.specs.Ended.{EndsAs, IsUnread};
+ghost use Rattle.fle_stream.specs.Ended.{IsUnread};
 ghost use Rattle.fle_stream.specs.Files.{IsOfFiles};
-ghost use Rattle.fle_stream.specs.Plan.{draws_of, size_of};
-ghost use Rattle.fle_stream.specs.Task.{outcome_of};
-ghost use Rattle.fle_stream.specs.Turn.{RunTook};
+ghost use Rattle.fle_stream.specs.Task.{one_document};
 
 use crate::sealing::Sealer;
 use crypto_hooks::Block256;
@@ -35,13 +33,23 @@ pub struct SealingFiles {
     pub master: MasterKey,
 }
 
+/// The words behind `encrypt`.
+#[derive(Clone, Copy)]
+pub struct EncryptWords<'a> {
+    /// The database's name.
+    pub db: &'a str,
+    /// The name of the file of key documents.
+    pub keys: &'a str,
+    /// The name of the file of collection infos.
+    pub schemas: &'a str,
+    /// The name of the file of the master key.
+    pub master: &'a str,
+}
+
 /// Seals each command of the input.
 pub fn encrypt<S: Source, F: Folder, O: Sink, N: Entropy, B: Block256>(
     alloc: Global,
-    db: &str,
-    keys: &str,
-    schemas: &str,
-    master: &str,
+    words: EncryptWords<'_>,
     input: &mut S,
     files: &mut F,
     out: &mut O,
@@ -49,42 +57,19 @@ pub fn encrypt<S: Source, F: Folder, O: Sink, N: Entropy, B: Block256>(
     hooks: &B,
 ) -> End
     requires hooks { B.answers hooks.now }
-    ensures did { (all : Files) (told : List ℕ) → (F.seen files.old).told ≡ Some all
-        → (S.seen input.old).told ≡ Some told
-        → Did (encrypt_task db.now (file_of all keys.now) (file_of all schemas.now) (file_of all master.now)) told
-        (S.seen input.new).told (N.seen entropy.old) (N.seen entropy.new) (O.seen out.old) (O.seen out.new)
-        result.number result.why }
+    ensures run { Acted AreTold (λ all. encrypt_task words.entry.db.now (file_of all words.entry.keys.now)
+        (file_of all words.entry.schemas.now) (file_of all words.entry.master.now)) one_document
+        (objects (S.seen input.old) (F.seen files.old) (O.seen out.old) (N.seen entropy.old))
+        (objects (S.seen input.new) (F.seen files.new) (O.seen out.new) (N.seen entropy.new)) result }
     ensures formed { result.why ≡ Why.Finished Finish.Words → ⊥ }
-    ensures placed { (all : Files) → (F.seen files.old).told ≡ Some all
-        → EndsAs (encrypt_task db.now (file_of all keys.now) (file_of all schemas.now) (file_of all master.now))
-        result.why }
     ensures untouched { IsUnread (status_of result.why)
         → (input.new ≡ input.old) × (out.new ≡ out.old) × (entropy.new ≡ entropy.old) }
-    ensures took { RunTook (S.seen input.old).taken (S.seen input.new).taken result.number }
-    ensures numbered { result.why ≡ Why.Cut Cut.Input → 0 < result.number }
-    ensures folder_cause { result.why ≡ Why.Cut Cut.Folder → Rose (F.seen files.old).faults (F.seen files.new).faults }
-    ensures folder_sure { (F.seen files.old).assured ≡ true → result.why ≡ Why.Cut Cut.Folder → ⊥ }
-    ensures in_cause { result.why ≡ Why.Cut Cut.Input → Rose (S.seen input.old).faults (S.seen input.new).faults }
-    ensures in_sure { (S.seen input.old).assured ≡ true → result.why ≡ Why.Cut Cut.Input → ⊥ }
-    ensures out_cause { result.why ≡ Why.Cut Cut.Output → Rose (O.seen out.old).faults (O.seen out.new).faults }
-    ensures out_sure { (all : Files) (told : List ℕ) → (F.seen files.old).told ≡ Some all
-        → (S.seen input.old).told ≡ Some told
-        → size_of (outcome_of (encrypt_task db.now (file_of all keys.now) (file_of all schemas.now)
-        (file_of all master.now)) told).outputs ≤ (O.seen out.old).assured
-        → result.why ≡ Why.Cut Cut.Output → ⊥ }
-    ensures entropy_cause { result.why ≡ Why.Cut Cut.Entropy
-        → Rose (N.seen entropy.old).faults (N.seen entropy.new).faults }
-    ensures entropy_sure { (all : Files) (told : List ℕ) → (F.seen files.old).told ≡ Some all
-        → (S.seen input.old).told ≡ Some told
-        → draws_of (outcome_of (encrypt_task db.now (file_of all keys.now) (file_of all schemas.now)
-        (file_of all master.now)) told).outputs ≤ (N.seen entropy.old).assured
-        → result.why ≡ Why.Cut Cut.Entropy → ⊥ }
 {
     let SealingFiles {
         keys,
         infos,
         master,
-    } = match load_sealing(alloc, files, keys, schemas, master) {
+    } = match load_sealing(alloc, files, words.keys, words.schemas, words.master) {
         Ok(held) => held,
         Err(why) => return End::unread(why),
     };
@@ -95,7 +80,7 @@ pub fn encrypt<S: Source, F: Folder, O: Sink, N: Entropy, B: Block256>(
                 keys,
                 infos,
                 cache,
-                db,
+                db: words.db,
                 hooks,
             },
             input,

@@ -1,20 +1,17 @@
 //! `keygen MASTER NAME*`: a new key document.
 
-ghost use Rattle.std.specs.Prelude.{true, ◌≡◌, ◌≤◌, ◌⊎◌, List, ℕ, Option, Some, IfOk, length, map, string_bytes};
+ghost use Rattle.std.specs.Prelude.{◌≡◌, ◌≤◌, ◌⊎◌, List, ℕ, IfOk, length, map, string_bytes};
 ghost use Rattle.bson_tree.specs.Spelling.{doc_bytes};
 ghost use Rattle.data_key.specs.Written.{key_fields, size_of as names_size};
 ghost use Rattle.fle_outside.specs.Blocks.{Block};
-ghost use Rattle.fle_outside.specs.Counts.{Rose};
 ghost use Rattle.fle_outside.specs.Drawing.{Draws};
-ghost use Rattle.fle_outside.specs.Files.{Files, file_of};
-ghost use Rattle.fle_outside.specs.Seen.{EntropySeen};
+ghost use Rattle.fle_outside.specs.Files.{file_of};
+ghost use Rattle.fle_outside.specs.Seen.{EntropySeen, FolderSeen, SourceSeen};
 ghost use Rattle.fle_runner.specs.Keygen.{DrawsEight, IsOfKey, IsOfKeygen, document_size, keygen_plan, keygen_task};
+ghost use Rattle.fle_stream.specs.Acted.{Acted, AreAny, AreTold, objects};
 ghost use Rattle.fle_stream.specs.Codes.{status_of};
-ghost use Rattle.fle_stream.specs.Did.{Did};
-ghost use Rattle.fle_stream.specs.Ended.{EndsAs, IsUnread};
-ghost use Rattle.fle_stream.specs.Plan.{draws_of, size_of};
-ghost use Rattle.fle_stream.specs.Task.{makes, outcome_of};
-ghost use Rattle.fle_stream.specs.Turn.{RunTook};
+ghost use Rattle.fle_stream.specs.Ended.{IsUnread};
+ghost use Rattle.fle_stream.specs.Task.{makes, one_document};
 ghost use Rattle.local_kms.specs.Made.{key_of_blocks};
 
 use bson_tree::{Bytes, Names};
@@ -22,53 +19,47 @@ use crypto_hooks::Block256;
 use data_key::{KeyDoc, Provider, write_key};
 use fle_files::load_master;
 use fle_outside::{Entropy, Folder, Memory, Sink};
-use fle_stream::{Cut, End, Finish, Why, write_made};
+use fle_stream::{Cut, End, Why, write_made};
 use local_kms::{MasterKey, NewFault, new_key};
 use std::alloc::Global;
 
-/// Makes a key with these names under the master key of a file, and writes its document, with the time, the 64 bits of
-/// its milliseconds since 1970, as both its dates. It reads no input, and draws eight blocks before it writes.
+/// The words behind `keygen`, and when they were given.
+#[derive(Clone, Copy)]
+pub struct KeygenWords<'a> {
+    /// The name of the file of the master key.
+    pub master: &'a str,
+    /// The key's alternate names.
+    pub names: &'a [String],
+    /// The 64 bits of the milliseconds since 1970.
+    pub time: u64,
+}
+
+/// Makes a key with these names under the master key of a file, and writes its document, with the time as both its
+/// dates. It reads no input, and draws eight blocks before it writes.
 pub fn keygen<F: Folder, O: Sink, N: Entropy, B: Block256>(
     alloc: Global,
-    master: &str,
-    names: &[String],
-    time: u64,
+    words: KeygenWords<'_>,
     files: &mut F,
     out: &mut O,
     entropy: &mut N,
     hooks: &B,
 ) -> End
     requires hooks { B.answers hooks.now }
-    requires few { length names.now ≤ 1000 }
-    requires small { names_size (map string_bytes names.now) ≤ 15999840 }
-    ensures did { (all : Files) (told : List ℕ) (after : Option (List ℕ)) → (F.seen files.old).told ≡ Some all
-        → after ≡ Some told
-        → Did (keygen_task (map string_bytes names.now) time (file_of all master.now)) told after (N.seen entropy.old)
-        (N.seen entropy.new) (O.seen out.old) (O.seen out.new) result.number result.why }
+    requires few { length words.names.now ≤ 1000 }
+    requires small { names_size (map string_bytes words.names.now) ≤ 15999840 }
+    ensures run { (input : SourceSeen) → Acted AreTold
+        (λ all. keygen_task (map string_bytes words.entry.names.now) words.entry.time
+        (file_of all words.entry.master.now)) one_document
+        (objects input (F.seen files.old) (O.seen out.old) (N.seen entropy.old))
+        (objects input (F.seen files.new) (O.seen out.new) (N.seen entropy.new)) result }
     ensures kind { IsOfKeygen result.why }
+    ensures untouched { IsUnread (status_of result.why) → (out.new ≡ out.old) × (entropy.new ≡ entropy.old) }
+    ensures eight_assured { 8 ≤ (N.seen entropy.old).assured → result.why ≡ Why.Cut Cut.Entropy → ⊥ }
     ensures none_or_eight { result.why ≡ Why.Cut Cut.Memory
         → (entropy.new ≡ entropy.old) ⊎ DrawsEight (N.seen entropy.old) (N.seen entropy.new) }
-    ensures formed { result.why ≡ Why.Finished Finish.Words → ⊥ }
-    ensures placed { (all : Files) → (F.seen files.old).told ≡ Some all
-        → EndsAs (keygen_task (map string_bytes names.now) time (file_of all master.now)) result.why }
-    ensures untouched { IsUnread (status_of result.why) → (out.new ≡ out.old) × (entropy.new ≡ entropy.old) }
-    ensures took { (n : ℕ) → RunTook n n result.number }
-    ensures no_read { result.why ≡ Why.Cut Cut.Input → ⊥ }
-    ensures folder_cause { result.why ≡ Why.Cut Cut.Folder → Rose (F.seen files.old).faults (F.seen files.new).faults }
-    ensures folder_sure { (F.seen files.old).assured ≡ true → result.why ≡ Why.Cut Cut.Folder → ⊥ }
-    ensures out_cause { result.why ≡ Why.Cut Cut.Output → Rose (O.seen out.old).faults (O.seen out.new).faults }
-    ensures out_sure { (all : Files) (told : List ℕ) → (F.seen files.old).told ≡ Some all
-        → size_of (outcome_of (keygen_task (map string_bytes names.now) time (file_of all master.now)) told).outputs
-        ≤ (O.seen out.old).assured → result.why ≡ Why.Cut Cut.Output → ⊥ }
-    ensures entropy_cause { result.why ≡ Why.Cut Cut.Entropy
-        → Rose (N.seen entropy.old).faults (N.seen entropy.new).faults }
-    ensures entropy_sure { (all : Files) (told : List ℕ) → (F.seen files.old).told ≡ Some all
-        → draws_of (outcome_of (keygen_task (map string_bytes names.now) time (file_of all master.now)) told).outputs
-        ≤ (N.seen entropy.old).assured → result.why ≡ Why.Cut Cut.Entropy → ⊥ }
-    ensures eight_assured { 8 ≤ (N.seen entropy.old).assured → result.why ≡ Why.Cut Cut.Entropy → ⊥ }
 {
-    match load_master(alloc, files, 1, master) {
-        Ok(master) => make_key(alloc, &master, names, time, out, entropy, hooks),
+    match load_master(alloc, files, 1, words.master) {
+        Ok(master) => make_key(alloc, &master, words.names, words.time, out, entropy, hooks),
         Err(why) => End::unread(why),
     }
 }
@@ -86,19 +77,14 @@ fn make_key<O: Sink, N: Entropy, B: Block256>(
     requires hooks { B.answers hooks.now }
     requires few { length names.now ≤ 1000 }
     requires small { names_size (map string_bytes names.now) ≤ 15999840 }
-    ensures did { (told : List ℕ) (after : Option (List ℕ)) → after ≡ Some told
-        → Did (makes (keygen_plan (map string_bytes names.now) time master.now)) told after (N.seen entropy.old)
-        (N.seen entropy.new) (O.seen out.old) (O.seen out.new) result.number result.why }
+    ensures run { (input : SourceSeen) (files : FolderSeen) → Acted AreAny
+        (λ _. makes (keygen_plan (map string_bytes names.now) time master.now)) one_document
+        (objects input files (O.seen out.old) (N.seen entropy.old))
+        (objects input files (O.seen out.new) (N.seen entropy.new)) result }
     ensures kind { IsOfKey result.why }
+    ensures eight_assured { 8 ≤ (N.seen entropy.old).assured → result.why ≡ Why.Cut Cut.Entropy → ⊥ }
     ensures none_or_eight { result.why ≡ Why.Cut Cut.Memory
         → (entropy.new ≡ entropy.old) ⊎ DrawsEight (N.seen entropy.old) (N.seen entropy.new) }
-    ensures unnumbered { result.number ≡ 0 }
-    ensures out_cause { result.why ≡ Why.Cut Cut.Output → Rose (O.seen out.old).faults (O.seen out.new).faults }
-    ensures out_sure { document_size (map string_bytes names.now) time ≤ (O.seen out.old).assured
-        → result.why ≡ Why.Cut Cut.Output → ⊥ }
-    ensures entropy_cause { result.why ≡ Why.Cut Cut.Entropy
-        → Rose (N.seen entropy.old).faults (N.seen entropy.new).faults }
-    ensures entropy_sure { 8 ≤ (N.seen entropy.old).assured → result.why ≡ Why.Cut Cut.Entropy → ⊥ }
 {
     let Ok(names) = names_of(alloc, names) else {
         return End::unread(Why::Cut(Cut::Memory));
@@ -116,17 +102,13 @@ fn write_new<O: Sink>(alloc: Global, key: &KeyDoc, time: u64, out: &mut O) -> En
     requires small { names_size key.now.names ≤ 15999840 }
     requires long { (length key.now.id ≡ 16) × (length key.now.material ≡ 160) }
     requires local { key.now.provider ≡ Provider.Local }
-    ensures did { (master : List ℕ) (names : List (List ℕ)) (blocks : List Block) (told : List ℕ)
-        (left : Option (List ℕ)) (before after : EntropySeen)
-        → length blocks ≡ 8 → key.now ≡ key_of_blocks master names blocks → Draws before after blocks → left ≡ Some told
-        → Did (makes (keygen_plan names time master)) told left before after (O.seen out.old)
-        (O.seen out.new) result.number result.why }
+    ensures run { (master : List ℕ) (names : List (List ℕ)) (blocks : List Block) (input : SourceSeen)
+        (files : FolderSeen) (before after : EntropySeen)
+        → length blocks ≡ 8 → key.now ≡ key_of_blocks master names blocks → Draws before after blocks
+        → Acted AreAny (λ _. makes (keygen_plan names time master)) one_document
+        (objects input files (O.seen out.old) before) (objects input files (O.seen out.new) after) result }
     ensures kind { IsOfKey result.why }
     ensures drawn { result.why ≡ Why.Cut Cut.Entropy → ⊥ }
-    ensures unnumbered { result.number ≡ 0 }
-    ensures out_cause { result.why ≡ Why.Cut Cut.Output → Rose (O.seen out.old).faults (O.seen out.new).faults }
-    ensures out_sure { document_size key.now.names time ≤ (O.seen out.old).assured → result.why ≡ Why.Cut Cut.Output
-        → ⊥ }
 {
     match document_of(alloc, key, time) {
         Ok(bytes) => write_made(out, &bytes),

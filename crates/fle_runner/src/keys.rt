@@ -1,47 +1,31 @@
 //! `keys KEYS`: a line of text for each key of a vault.
 
-ghost use Rattle.std.specs.Prelude.{true, ◌≡◌, ◌≤◌, ◌++◌, List, ℕ, Option, Some, IfOk, OnOk, length};
-ghost use Rattle.fle_outside.specs.Counts.{Rose};
-ghost use Rattle.fle_outside.specs.Files.{Files, file_of};
-ghost use Rattle.fle_outside.specs.Seen.{EntropySeen};
+ghost use Rattle.std.specs.Prelude.{◌≡◌, ◌++◌, IfOk, OnOk};
+ghost use Rattle.fle_outside.specs.Files.{file_of};
+ghost use Rattle.fle_outside.specs.Seen.{EntropySeen, FolderSeen, SourceSeen};
 ghost use Rattle.fle_runner.specs.Keys.{IsOfKeys, IsOfText, key_line, key_lines, keys_task, provider_word};
 ghost use Rattle.fle_runner.specs.Verdicts.{plain_plan};
+ghost use Rattle.fle_stream.specs.Acted.{Acted, AreAny, AreTold, objects};
 ghost use Rattle.fle_stream.specs.Codes.{status_of};
-ghost use Rattle.fle_stream.specs.Did.{Did};
-ghost use Rattle.fle_stream.specs.Ended.{EndsAs, IsUnread};
-ghost use Rattle.fle_stream.specs.Plan.{size_of};
-ghost use Rattle.fle_stream.specs.Task.{makes, outcome_of};
-ghost use Rattle.fle_stream.specs.Turn.{RunTook};
+ghost use Rattle.fle_stream.specs.Ended.{IsUnread};
+ghost use Rattle.fle_stream.specs.Task.{makes, one_document};
 
 use bson_codec::writing::append;
 use data_key::{KeyDoc, Provider};
 use fle_files::load_vault;
 use fle_outside::{Folder, Memory, Sink};
-use fle_stream::{Cut, End, Finish, Why, write_made};
+use fle_stream::{Cut, End, Why, write_made};
 use itoa::Buffer;
 use std::alloc::Global;
 use uuid::Uuid;
 
 /// Tells the keys of a vault, in its order. It reads no input and draws no block.
 pub fn keys<F: Folder, O: Sink>(alloc: Global, vault: &str, files: &mut F, out: &mut O) -> End
-    ensures did { (all : Files) (told : List ℕ) (after : Option (List ℕ)) (entropy : EntropySeen)
-        → (F.seen files.old).told ≡ Some all → after ≡ Some told
-        → Did (keys_task (file_of all vault.now)) told after entropy entropy (O.seen out.old)
-        (O.seen out.new) result.number result.why }
+    ensures run { (input : SourceSeen) (e : EntropySeen) → Acted AreTold (λ all. keys_task (file_of all vault.now))
+        one_document (objects input (F.seen files.old) (O.seen out.old) e)
+        (objects input (F.seen files.new) (O.seen out.new) e) result }
     ensures kind { IsOfKeys result.why }
-    ensures formed { result.why ≡ Why.Finished Finish.Words → ⊥ }
-    ensures placed { (all : Files) → (F.seen files.old).told ≡ Some all
-        → EndsAs (keys_task (file_of all vault.now)) result.why }
     ensures untouched { IsUnread (status_of result.why) → out.new ≡ out.old }
-    ensures took { (n : ℕ) → RunTook n n result.number }
-    ensures no_read { result.why ≡ Why.Cut Cut.Input → ⊥ }
-    ensures folder_cause { result.why ≡ Why.Cut Cut.Folder → Rose (F.seen files.old).faults (F.seen files.new).faults }
-    ensures folder_sure { (F.seen files.old).assured ≡ true → result.why ≡ Why.Cut Cut.Folder → ⊥ }
-    ensures out_cause { result.why ≡ Why.Cut Cut.Output → Rose (O.seen out.old).faults (O.seen out.new).faults }
-    ensures out_sure { (all : Files) (told : List ℕ) → (F.seen files.old).told ≡ Some all
-        → size_of (outcome_of (keys_task (file_of all vault.now)) told).outputs ≤ (O.seen out.old).assured
-        → result.why ≡ Why.Cut Cut.Output → ⊥ }
-    ensures undrawn { result.why ≡ Why.Cut Cut.Entropy → ⊥ }
 {
     match load_vault(alloc, files, 1, vault) {
         Ok(vault) => write_keys(alloc, vault.keys(), out),
@@ -51,13 +35,10 @@ pub fn keys<F: Folder, O: Sink>(alloc: Global, vault: &str, files: &mut F, out: 
 
 /// Writes the line of each key.
 fn write_keys<O: Sink>(alloc: Global, keys: &[KeyDoc], out: &mut O) -> End
-    ensures did { (told : List ℕ) (after : Option (List ℕ)) (entropy : EntropySeen) → after ≡ Some told
-        → Did (makes (plain_plan (key_lines keys.now))) told after entropy entropy (O.seen out.old)
-        (O.seen out.new) result.number result.why }
+    ensures run { (input : SourceSeen) (files : FolderSeen) (e : EntropySeen) → Acted AreAny
+        (λ _. makes (plain_plan (key_lines keys.now))) one_document (objects input files (O.seen out.old) e)
+        (objects input files (O.seen out.new) e) result }
     ensures kind { IsOfText result.why }
-    ensures unnumbered { result.number ≡ 0 }
-    ensures out_cause { result.why ≡ Why.Cut Cut.Output → Rose (O.seen out.old).faults (O.seen out.new).faults }
-    ensures out_sure { length (key_lines keys.now) ≤ (O.seen out.old).assured → result.why ≡ Why.Cut Cut.Output → ⊥ }
 {
     match lines_of(alloc, keys) {
         Ok(text) => write_made(out, &text),

@@ -1,6 +1,6 @@
 //! Laws over whole runs. They speak of definitions alone, and `main` calls none of them.
 
-ghost use Rattle.std.specs.Prelude.{◌≡◌, ◌<◌, ◌≤◌, ◌^◌, List, ℕ, [], length, true, false, Some, Ok, Err};
+ghost use Rattle.std.specs.Prelude.{◌≡◌, ◌<◌, ◌≤◌, ◌^◌, List, ℕ, [], length, true, Option, Some, Ok, Err};
 ghost use Rattle.std.specs.List.{All};
 ghost use Rattle.bson_tree.specs.Tree.{Items};
 ghost use Rattle.context_machine.specs.Rings.{ring};
@@ -12,10 +12,10 @@ ghost use Rattle.fle_outside.specs.Blocks.{Block};
 ghost use Rattle.fle_outside.specs.Files.{Files};
 ghost use Rattle.fle_outside.specs.Seen.{EntropySeen, SinkSeen};
 ghost use Rattle.fle_runner.specs.Decrypt.{decrypt_verdict};
-ghost use Rattle.fle_runner.specs.Encrypt.{encrypt_verdict};
+ghost use Rattle.fle_runner.specs.Encrypt.{encrypt_task, encrypt_verdict};
 ghost use Rattle.fle_runner.specs.Headline.{AreByUuid, AreOpenable, AreReadable, AreSealedUnder, SealsStream, Setup};
 ghost use Rattle.fle_runner.specs.Headline.{accepted, verdict_of};
-ghost use Rattle.fle_runner.specs.HeadlineFiles.{IsEncrypt};
+ghost use Rattle.fle_runner.specs.HeadlineFiles.{IsEncrypt, IsMark};
 ghost use Rattle.fle_files.specs.Infos.{infos_read, is_json};
 ghost use Rattle.fle_runner.specs.Mark.{mark_task, mark_verdict};
 ghost use Rattle.fle_runner.specs.ReadBack.{ComesTo, read_whole, stream};
@@ -38,11 +38,13 @@ pub fn empty_input_is_done()
         → outcome_of (task now words all) [] ≡ finished Finish.Done 1 0 }
 {}
 
-/// `mark` over a file in JSON is `mark` over its documents in BSON.
+/// `mark` and `encrypt` over a file in JSON are `mark` and `encrypt` over its documents in BSON.
 pub fn json_infos_are_their_bson()
-    ensures same { (db json bson : List ℕ) → length json ≤ infos_limit → length bson ≤ infos_limit → is_json json ≡ true
-        → is_json bson ≡ false
+    ensures mark { (db json bson : List ℕ) → length json ≤ infos_limit → length bson ≤ infos_limit → is_json json ≡ true
         → json_infos json ≡ Ok bson → mark_task db (Some json) ≡ mark_task db (Some bson) }
+    ensures encrypt { (db : List ℕ) (vault master : Option (List ℕ)) (json bson : List ℕ) → length json ≤ infos_limit
+        → length bson ≤ infos_limit → is_json json ≡ true → json_infos json ≡ Ok bson
+        → encrypt_task db vault (Some json) master ≡ encrypt_task db vault (Some bson) master }
 {}
 
 /// No file comes to want of memory: that is an answer of reading it alone.
@@ -85,22 +87,31 @@ pub fn sealed_commands_are_read_back()
         ≡ read_whole (accepted (verdict_of x) 0 (documents told)) s.sealed }
 {}
 
-/// Streams of commands with equal skeletons come to one end: how and where a run of `mark` or of `encrypt` stops, how
-/// many bytes it reads, and how many outputs it writes before, of how many bytes and with how many random blocks, tells
-/// of protected values their types, their lengths and whether they are binaries of subtype 06, and nothing else.
+/// Under the same words and files, streams of commands with equal skeletons come to one end: how and where a run of
+/// `mark` or of `encrypt` stops, how many bytes it reads, and how many outputs it writes before, of how many bytes and
+/// with how many random blocks, tells of protected values their types, their lengths and whether they are binaries of
+/// subtype 06, and nothing else.
 pub fn two_streams()
-    ensures mark { (infos : List Collection) (db told other : List ℕ) → All (λ b. b < 256) told
+    ensures mark { (now : ℕ) (words : List (List ℕ)) (all : Files) (db : List ℕ) (infos : List Collection)
+        (told other : List ℕ) → IsMark words all db infos → All (λ b. b < 256) told → All (λ b. b < 256) other
+        → HaveEqualSkeletons infos (documents told) (documents other)
+        → EndAlike (outcome_of (task now words all) told) (outcome_of (task now words all) other) }
+    ensures encrypt { (now : ℕ) (words : List (List ℕ)) (all : Files) (x : Setup) (told other : List ℕ)
+        → IsEncrypt words all x → All (λ b. b < 256) told → All (λ b. b < 256) other
+        → HaveEqualSkeletons x.infos (documents told) (documents other)
+        → EndAlike (outcome_of (task now words all) told) (outcome_of (task now words all) other) }
+    // The same of the verdicts alone, whatever files they come from.
+    ensures marking { (infos : List Collection) (db told other : List ℕ) → All (λ b. b < 256) told
         → All (λ b. b < 256) other → HaveEqualSkeletons infos (documents told) (documents other)
         → EndAlike (outcome_of (each (mark_verdict infos db)) told) (outcome_of (each (mark_verdict infos db)) other) }
-    ensures encrypt { (keys : Keyring) (infos : List Collection) (db told other : List ℕ) → All (λ b. b < 256) told
+    ensures sealing { (keys : Keyring) (infos : List Collection) (db told other : List ℕ) → All (λ b. b < 256) told
         → All (λ b. b < 256) other → HaveEqualSkeletons infos (documents told) (documents other)
         → EndAlike (outcome_of (each (encrypt_verdict keys infos db)) told)
         (outcome_of (each (encrypt_verdict keys infos db)) other) }
 {}
 
 /// Words and files that ask for `encrypt` ask that each command of the input be sealed, and a run that nothing cut
-/// short
-/// sealed every command that it accepted, and wrote nothing else.
+/// short sealed every command that it accepted, and wrote nothing else.
 pub fn encrypt_seals_the_input()
     ensures task { (now : ℕ) (words : List (List ℕ)) (all : Files) (x : Setup) → IsEncrypt words all x
         → task now words all ≡ each (verdict_of x) }

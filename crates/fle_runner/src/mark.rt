@@ -8,13 +8,11 @@ ghost use Rattle.fle_outside.specs.Files.{Files, file_of};
 ghost use Rattle.fle_outside.specs.Seen.{EntropySeen};
 ghost use Rattle.fle_runner.specs.Mark.{mark_task, mark_verdict, sized, verdict_into, verdict_under};
 ghost use Rattle.fle_runner.specs.Verdicts.{first_start};
+ghost use Rattle.fle_stream.specs.Acted.{Acted, AreTold, objects};
 ghost use Rattle.fle_stream.specs.Codes.{status_of};
-ghost use Rattle.fle_stream.specs.Did.{Did};
-ghost use Rattle.fle_stream.specs.Ended.{EndsAs, IsUnread};
+ghost use Rattle.fle_stream.specs.Ended.{IsUnread};
 ghost use Rattle.fle_stream.specs.Judge.{JudgeIs};
-ghost use Rattle.fle_stream.specs.Plan.{size_of};
-ghost use Rattle.fle_stream.specs.Task.{outcome_of};
-ghost use Rattle.fle_stream.specs.Turn.{RunTook};
+ghost use Rattle.fle_stream.specs.Task.{one_document};
 
 use crate::refusing::{judge_fault, refuse};
 use bson_codec::RawDoc;
@@ -120,25 +118,11 @@ pub fn mark<S: Source, F: Folder, O: Sink>(
     files: &mut F,
     out: &mut O,
 ) -> End
-    ensures did { (all : Files) (told : List ℕ) (e : EntropySeen) → (F.seen files.old).told ≡ Some all
-        → (S.seen input.old).told ≡ Some told
-        → Did (mark_task db.now (file_of all schemas.now)) told (S.seen input.new).told e e (O.seen out.old)
-        (O.seen out.new) result.number result.why }
+    ensures run { (e : EntropySeen) → Acted AreTold (λ all. mark_task db.now (file_of all schemas.now)) one_document
+        (objects (S.seen input.old) (F.seen files.old) (O.seen out.old) e)
+        (objects (S.seen input.new) (F.seen files.new) (O.seen out.new) e) result }
     ensures formed { result.why ≡ Why.Finished Finish.Words → ⊥ }
-    ensures placed { (all : Files) → (F.seen files.old).told ≡ Some all
-        → EndsAs (mark_task db.now (file_of all schemas.now)) result.why }
     ensures untouched { IsUnread (status_of result.why) → (input.new ≡ input.old) × (out.new ≡ out.old) }
-    ensures took { RunTook (S.seen input.old).taken (S.seen input.new).taken result.number }
-    ensures numbered { result.why ≡ Why.Cut Cut.Input → 0 < result.number }
-    ensures folder_cause { result.why ≡ Why.Cut Cut.Folder → Rose (F.seen files.old).faults (F.seen files.new).faults }
-    ensures folder_sure { (F.seen files.old).assured ≡ true → result.why ≡ Why.Cut Cut.Folder → ⊥ }
-    ensures in_cause { result.why ≡ Why.Cut Cut.Input → Rose (S.seen input.old).faults (S.seen input.new).faults }
-    ensures in_sure { (S.seen input.old).assured ≡ true → result.why ≡ Why.Cut Cut.Input → ⊥ }
-    ensures out_cause { result.why ≡ Why.Cut Cut.Output → Rose (O.seen out.old).faults (O.seen out.new).faults }
-    ensures out_sure { (all : Files) (told : List ℕ) → (F.seen files.old).told ≡ Some all
-        → (S.seen input.old).told ≡ Some told
-        → size_of (outcome_of (mark_task db.now (file_of all schemas.now)) told).outputs ≤ (O.seen out.old).assured
-        → result.why ≡ Why.Cut Cut.Output → ⊥ }
     ensures undrawn { result.why ≡ Why.Cut Cut.Entropy → ⊥ }
 {
     match load_infos(alloc, files, 1, schemas) {

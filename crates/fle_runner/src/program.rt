@@ -6,12 +6,12 @@ ghost use Rattle.std.specs.List.{All};
 ghost use Rattle.fle_outside.specs.Files.{Files};
 ghost use Rattle.fle_runner.specs.HeadlineFiles.{OpensAll, SealsAll};
 ghost use Rattle.fle_runner.specs.Statuses.{EndsByVerb};
-ghost use Rattle.fle_runner.specs.Verbs.{task};
+ghost use Rattle.fle_runner.specs.Verbs.{AreShown, pace_for, task};
 ghost use Rattle.fle_words.specs.Words.{form_of, DrawsNoBlock};
 ghost use Rattle.fle_stream.specs.Ended.{Ended, IsSettled, Settles, WritesAll, WritesSurely, DrawsSurely, IsUnread};
 ghost use Rattle.fle_stream.specs.Ended.{world};
 
-use crate::act::act;
+use crate::act::{Request, act};
 use crypto_hooks::Block256;
 use fle_outside::{Entropy, Folder, Sink, Source};
 use fle_stream::{Status, report};
@@ -33,7 +33,8 @@ pub fn fle<S: Source, F: Folder, O: Sink, G: Sink, N: Entropy, B: Block256>(
 ) -> Status
     requires hooks { B.answers hooks.now }
     // One ending explains the status, the line, what was written and drawn and what the input has left.
-    ensures ended { Ended (task (cast_unsigned w64 now_ms) (map string_bytes words.now))
+    ensures ended { Ended (AreShown (form_of (map string_bytes words.now)))
+        (task (cast_unsigned w64 now_ms) (map string_bytes words.now)) (pace_for (form_of (map string_bytes words.now)))
         (world (S.seen input.old) (F.seen files.old) (O.seen out.old) (G.seen diag.old) (N.seen entropy.old))
         (world (S.seen input.new) (F.seen files.new) (O.seen out.new) (G.seen diag.new) (N.seen entropy.new)) result }
     // Status 2 is that of words without a form, want of memory aside.
@@ -69,15 +70,10 @@ pub fn fle<S: Source, F: Folder, O: Sink, G: Sink, N: Entropy, B: Block256>(
     ensures verb { EndsByVerb (form_of (map string_bytes words.now)) result S.seen input.old input.new F.seen
         files.old files.new N.seen entropy.old entropy.new }
 {
-    let end = act(
-        alloc,
+    let request = Request {
         words,
-        now_ms.cast_unsigned(),
-        input,
-        files,
-        out,
-        entropy,
-        hooks,
-    );
+        time: now_ms.cast_unsigned(),
+    };
+    let end = act(alloc, request, input, files, out, entropy, hooks);
     report(diag, &end)
 }

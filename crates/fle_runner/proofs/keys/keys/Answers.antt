@@ -1,41 +1,24 @@
 -- The file is loaded, and then its keys are told.
-use Rattle.std.proofs.Common.{arith}
-use Rattle.fle_outside.specs.Files.{file_of}
+use Rattle.fle_outside.specs.Files.{Files, file_of}
 use Rattle.fle_runner.specs.Keys.{key_lines}
 use Rattle.fle_files.specs.Setup.{with_vault}
 use Rattle.fle_runner.specs.Verdicts.{plain_plan}
 use Rattle.fle_stream.specs.Task.{makes}
-use Rattle.fle_stream.proofs.Programs.{did_task, ends_task}
-use Rattle.fle_files.proofs.Loaded.{did_stop, ends_stop}
-use Rattle.fle_runner.proofs.Vaults.{ends_text, lines_size}
+use Rattle.fle_stream.proofs.Acts.{acts_behind}
+use Rattle.fle_files.proofs.Loaded.{acts_stop}
+use Rattle.fle_runner.proofs.Vaults.{text_unfailed}
 use Rattle.fle_runner.proofs.keys.keys.Goals as goal
 
-pub returns-in-Ok-clause-did : goal.returns-in-Ok-clause-did
-returns-in-Ok-clause-did g c = λ all told after entropy has is.
-    let from = c.in-Ok.ensures.leads all has (λ keys. makes (plain_plan (key_lines keys))) in
-    let did = rw c.keys.ensures.same at c.write_keys.ensures.did told after entropy is in
-    did_task from did
+pub returns-in-Ok-clause-run : goal.returns-in-Ok-clause-run
+returns-in-Ok-clause-run g c = λ input e.
+    acts_behind (makes (plain_plan (key_lines c.in-Ok.vault)))
+    (λ all has. c.in-Ok.ensures.leads all has (λ keys. makes (plain_plan (key_lines keys))))
+    (text_unfailed _ c.write_keys.ensures.kind)
+    (λ files. rw c.keys.ensures.same at (c.write_keys.ensures.run input files e))
 
-pub returns-in-Ok-clause-placed : goal.returns-in-Ok-clause-placed
-returns-in-Ok-clause-placed g c = λ all has.
-    let from = c.in-Ok.ensures.leads all has (λ keys. makes (plain_plan (key_lines keys))) in
-    ends_task _ from (ends_text (plain_plan (key_lines c.in-Ok.vault)) _ c.write_keys.ensures.kind)
-
-pub returns-in-Ok-clause-out_sure : goal.returns-in-Ok-clause-out_sure
-returns-in-Ok-clause-out_sure g c = λ all told has enough at.
-    let from = c.in-Ok.ensures.leads all has (λ keys. makes (plain_plan (key_lines keys))) in
-    let size = lines_size _ told c.in-Ok.vault from in
-    let sure = rw c.keys.ensures.same at c.write_keys.ensures.out_sure in
-    sure (omega (arith, enough, size)) at
-
-pub returns-in-Err-clause-did : goal.returns-in-Err-clause-did
-returns-in-Err-clause-did g c = λ all told after entropy has is.
+pub returns-in-Err-clause-run : goal.returns-in-Err-clause-run
+returns-in-Err-clause-run g c = λ input e.
     rw c.unread.ensures.unread
-    (did_stop (with_vault 1 (file_of all c.args.vault.now)) c.in-Err.why
-    (λ keys. makes (plain_plan (key_lines keys))) told _ _ _ (c.in-Err.ensures.leads all has) is)
-
-pub returns-in-Err-clause-placed : goal.returns-in-Err-clause-placed
-returns-in-Err-clause-placed g c = λ all has.
-    rw c.unread.ensures.unread
-    (ends_stop (with_vault 1 (file_of all c.args.vault.now)) c.in-Err.why
-    (λ keys. makes (plain_plan (key_lines keys))) (c.in-Err.ensures.leads all has))
+    (acts_stop (λ (all : Files). with_vault 1 (file_of all c.args.vault.now))
+    (λ keys. makes (plain_plan (key_lines keys))) c.in-Err.why c.in-Err.ensures.kind c.in-Err.ensures.leads
+    c.in-Err.ensures.cause (λ sure. (c.in-Err.ensures.sure sure).0))
