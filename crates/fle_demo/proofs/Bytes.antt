@@ -45,7 +45,7 @@ person_bytes first second i =
     FRONT ++ (ssn_text (ssn_of first) ++ (SALARY ++ (to_le_bytes w32 (salary_of second)
     ++ (NUMBER ++ to_le_bytes w32 i))))
 
-elements_are : (db : List ℕ) (i x : ℕ) → items_bytes (command db i x) ≡ front (length db) i x ++ (db ++ 0 ∷ [])
+pub elements_are : (db : List ℕ) (i x : ℕ) → items_bytes (command db i x) ≡ front (length db) i x ++ (db ++ 0 ∷ [])
 unfolding command
 elements_are db i x = ap (λ (t : List ℕ). front (length db) i x ++ t) (append-nil (db ++ 0 ∷ []))
 

@@ -1,5 +1,5 @@
 -- The demo's key is to be had under its master key.
-use Rattle.std.proofs.Common.{◌≡◌, ◌∙◌, ℕ, ◌+◌, ◌<◌, Bool, cond, List, [], ◌∷◌, ◌++◌, length, Option, Some, None}
+use Rattle.std.proofs.Common.{◌≡◌, ◌∙◌, ℕ, ◌<◌, Bool, cond, List, [], ◌∷◌, ◌++◌, length, Option, Some, None}
 use Rattle.std.proofs.Common.{Ok}
 use Rattle.std.proofs.Common.{refl, ap, arith, length-append}
 use Rattle.std.proofs.lemmas.List.Elements.{All-append, All-get_or}
@@ -17,7 +17,7 @@ use Rattle.local_kms.specs.Made.{block_at, key_of_blocks, material_of, six_block
 use Rattle.local_kms.specs.Wrapped.{key_of_plain, unwrapped}
 
 -- what is known of the data key and the vector in eight blocks
-record AreSeeds (key iv : List ℕ) : Type 0 where
+pub record AreSeeds (key iv : List ℕ) : Type 0 where
   pub long : length key ≡ 96
   pub bytes : All (λ b. b < 256) key
   pub vector : IsBlock iv
@@ -69,9 +69,9 @@ only_key master key plain local is =
     ∙ ap (λ p. opened_by p (Some plain)) local
 
 -- the data key and the vector that eight blocks make
-eight : (blocks : List Block) → length blocks ≡ 8 → AreBlocks blocks
+pub seeds_are : (blocks : List Block) → length blocks ≡ 8 → AreBlocks blocks
     → AreSeeds (six_blocks 1 blocks) (block_at 7 blocks)
-eight blocks long are =
+seeds_are blocks long are =
     let at : (i : ℕ) → i < 8 → IsBlock (block_at i blocks) =
     λ i small. All-get_or IsBlock blocks i [] (omega (arith, long, small)) are in
     let whole =
@@ -86,5 +86,5 @@ pub made_key : (master : List ℕ) (blocks : List Block) (key : KeyDoc) → leng
     → key_of (key ∷ []) master key.id ≡ Ok (six_blocks 1 blocks)
 made_key master blocks key number are is long =
     only_key master key (six_blocks 1 blocks) (ap (λ (k : KeyDoc). k.provider) is)
-    (opens master (six_blocks 1 blocks) (block_at 7 blocks) key.material (eight blocks number are)
+    (opens master (six_blocks 1 blocks) (block_at 7 blocks) key.material (seeds_are blocks number are)
     (ap (λ (k : KeyDoc). k.material) is) long)

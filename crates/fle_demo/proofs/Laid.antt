@@ -10,7 +10,7 @@ use Rattle.bson_tree.specs.Spelling.{doc_bytes}
 use Rattle.bson_codec.specs.Layout.{IsName, IsValue, AreElements, IsItems, IsDoc}
 use Rattle.bson_codec.specs.Table.{layout_of}
 use Rattle.data_key.specs.Written.{binary, int, text}
-use Rattle.fle_demo.specs.Commands.{command, deterministic, info, insert, key_ids, person, properties, random}
+use Rattle.fle_demo.specs.Commands.{command, deterministic, info, key_ids, person, random}
 use Rattle.fle_demo.specs.Commands.{schema}
 use Rattle.fle_demo.specs.Commands.{salary_of, single, ssn_of, ssn_text}
 use Rattle.fle_demo.specs.Generator.{after_two, next_output}

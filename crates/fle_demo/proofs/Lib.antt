@@ -9,3 +9,4 @@ pub mod Blocks
 pub mod Infos
 pub mod Sums
 pub mod Lines
+pub mod ComesBack

@@ -1,7 +1,8 @@
 //! What holds of each command of the demo, so that it's sealed whatever the database and the number are. The functions
 //! do nothing; their clauses are the laws.
 
-ghost use Rattle.std.specs.Prelude.{◌≡◌, ◌≤◌, ◌+◌, ◌∷◌, [], ℕ, List, Some, Ok, length};
+ghost use Rattle.std.specs.Prelude.{◌≡◌, ◌<◌, ◌≤◌, ◌+◌, ◌∷◌, [], ℕ, List, Some, Ok, length};
+ghost use Rattle.std.specs.List.{All};
 ghost use Rattle.bson_codec.specs.Layout.{IsDoc};
 ghost use Rattle.bson_tree.specs.Spelling.{doc_bytes};
 ghost use Rattle.data_key.specs.declared.key_doc.KeyDoc.{KeyDoc};
@@ -11,7 +12,7 @@ ghost use Rattle.context_machine.specs.Rings.{ring};
 ghost use Rattle.encrypt_schema.specs.Language.Collection.{Collection};
 ghost use Rattle.encrypt_schema.specs.Language.Collections.{collection_in, collections};
 ghost use Rattle.fle_outside.specs.Blocks.{AreBlocks, Block};
-ghost use Rattle.fle_demo.specs.Sums.{alone};
+ghost use Rattle.fle_demo.specs.Sums.{alone, demo_key, sums_of};
 ghost use Rattle.fle_demo.specs.Commands.{command, info, rules};
 ghost use Rattle.fle_demo.specs.States.{IsAccepted, IsKeyed};
 ghost use Rattle.fle_demo.specs.Totals.{IsAlone};
@@ -43,6 +44,13 @@ pub fn commands_are_keyed()
     ensures keyed { (key : KeyDoc) (master plain db : List ℕ) (i x : ℕ) (c : Collection) → length key.id ≡ 16
         → length db ≤ 63 → collection_in [] (info key.id) ≡ Ok c → key_of (key ∷ []) master key.id ≡ Ok plain
         → IsKeyed (ring (key ∷ []) master) c (alone (command db i x)) }
+{}
+
+/// Every command comes back: under the key that is made first, each of N commands is sealed to a document that opens to
+/// the command, so that the line counts N of them.
+pub fn every_command_comes_back()
+    ensures equal { (db : List ℕ) (n : ℕ) → length db ≤ 63 → All (λ b. b < 256) db
+        → (sums_of (demo_key n) db n).equal ≡ n }
 {}
 
 /// The key that eight blocks make opens to six of them.
