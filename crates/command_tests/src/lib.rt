@@ -1,9 +1,11 @@
-//! Tests of commands: of the public calls of `command_marker`, `doc_rewrite` and `context_machine` (MongoDB Client Side
-//! Encryption).
+//! Tests of commands: of the public calls of `command_marker`, `reply_check`, `doc_rewrite` and `context_machine`
+//! (MongoDB Client Side Encryption).
 //!
 //! They stand in a crate of their own since a crate with tests is proved once more for them.
 #![tactic(auto)]
 
+#[cfg(test)]
+mod checking;
 #[cfg(test)]
 mod documents;
 #[cfg(test)]
