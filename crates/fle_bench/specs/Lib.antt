@@ -3,6 +3,7 @@ pub mod Documents
 pub mod Message
 pub mod Payload
 pub mod Value
+pub mod Vaults
 pub mod Turns
 pub mod Words
 pub mod Protected

@@ -6,7 +6,7 @@ use Rattle.fle_bench.specs.declared.job.Way.TheVariants.{Tables, Closures, Boxes
 use Rattle.fle_bench.specs.declared.job.KeySetup.TheVariants.{Kept, Fresh}
 use Rattle.fle_bench.specs.declared.job.Subject.{Subject}
 use Rattle.fle_bench.specs.declared.job.Subject.TheVariants.{Cbc, Hmac, AeadSeal, AeadOpen, Payload, BsonCheck}
-use Rattle.fle_bench.specs.declared.job.Subject.TheVariants.{Document, RuleNames}
+use Rattle.fle_bench.specs.declared.job.Subject.TheVariants.{Document, RuleNames, VaultKeys, VaultRewrap}
 
 -- the word for a subject
 abbrev pub word_of : Subject → List ℕ
@@ -29,3 +29,5 @@ word_of BsonCheck = codes "bson-check"
 word_of RuleNames = codes "rule-names"
 word_of (Document Seal) = codes "document-seal"
 word_of (Document Open) = codes "document-open"
+word_of VaultRewrap = codes "vault-rewrap"
+word_of VaultKeys = codes "vault-keys"

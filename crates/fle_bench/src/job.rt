@@ -56,6 +56,10 @@ pub enum Subject {
     /// A command whose protected values are sealed, behind the rules for them, or a document that is opened; they stand
     /// on standard input.
     Document(Direction),
+    /// The file of a vault, which stands on standard input, under another master key.
+    VaultRewrap,
+    /// The keys of such a vault alone: each opened twice and sealed once.
+    VaultKeys,
 }
 
 /// The subject that a word names.
@@ -87,6 +91,8 @@ pub fn subject_of(word: &str) -> Option<Subject>
         "rule-names" => Some(Subject::RuleNames),
         "document-seal" => Some(Subject::Document(Direction::Seal)),
         "document-open" => Some(Subject::Document(Direction::Open)),
+        "vault-rewrap" => Some(Subject::VaultRewrap),
+        "vault-keys" => Some(Subject::VaultKeys),
         _ => None,
     }
 }

@@ -23,6 +23,7 @@ mod input;
 mod job;
 mod opening;
 mod payload;
+mod rewrapping;
 mod rules;
 mod sealing;
 
@@ -73,6 +74,12 @@ fn run(rt: &HostRuntime, subject: Subject, size: usize, turns: u32) -> anyhow::R
             &read_input(rt, size)?,
             turns,
         ),
+        Subject::VaultRewrap => {
+            made_of_vault(rewrapping::run_vault(rt.alloc(), &read_input(rt, size)?, turns))
+        }
+        Subject::VaultKeys => {
+            made_of_vault(rewrapping::run_keys(rt.alloc(), &read_input(rt, size)?, turns))
+        }
     }
 }
 
@@ -96,6 +103,14 @@ fn run_document(
     match documents::run(alloc, direction, bytes, turns) {
         Some(sum) => Ok(sum),
         None => anyhow::bail!("the input is not what is sealed or opened"),
+    }
+}
+
+/// What was made of a vault.
+fn made_of_vault(sum: Option<u32>) -> anyhow::Result<u32> {
+    match sum {
+        Some(sum) => Ok(sum),
+        None => anyhow::bail!("the input is no vault of the example's master key"),
     }
 }
 
