@@ -1,6 +1,6 @@
 -- A file of collection infos in JSON leads to what its documents in BSON lead to.
 use Rattle.std.proofs.Common.{◌≡◌, ◌∙◌, ℕ, ◌+◌, ◌<◌, ◌≤◌, ◌^◌, Bool, true, false, cond, nat_lt, Option, Some, None}
-use Rattle.std.proofs.Common.{Result, Ok, Err, List, [], ◌∷◌, ◌++◌, length, refl, sym, ap, subst, arith, append-nil}
+use Rattle.std.proofs.Common.{Result, Ok, Err, List, [], ◌∷◌, ◌++◌, length, sym, ap, arith, append-nil}
 use Rattle.std.proofs.Common.{append_assoc, length-append}
 use Rattle.std.specs.Int.{to_le_bytes, w32}
 use Rattle.std.specs.Prelude.{slice_index}
@@ -17,7 +17,6 @@ use Rattle.ext_json.specs.declared.fault.JsonFault.{JsonFault}
 use Rattle.ext_json.specs.declared.fault.JsonFault.TheVariants as json_faults
 use Rattle.fle_files.specs.Infos.{infos_read, is_json}
 use Rattle.fle_files.specs.Setup.{infos_limit, infos_or, with_infos, with_master, with_vault}
-use Rattle.fle_files.specs.declared.infos.InfosFault.{InfosFault}
 use Rattle.fle_files.proofs.InfosRead.{bson_is, json_is}
 use Rattle.fle_stream.specs.Task.{Task, each, fails}
 use Rattle.fle_stream.specs.declared.why.Finish.TheVariants as finishes

@@ -3,14 +3,13 @@ use Rattle.std.proofs.Common.{◌∙◌, ℕ, List, ap, refl, subst, sym}
 use Rattle.context_machine.specs.Rings.{ring}
 use Rattle.fle_outside.specs.Files.{Files, file_of}
 use Rattle.fle_stream.specs.Files.{IsOfFiles}
-use Rattle.fle_stream.specs.Task.{Task, each}
+use Rattle.fle_stream.specs.Task.{each}
 use Rattle.fle_stream.specs.Turn.{IsOfStream}
 use Rattle.fle_stream.proofs.Acts.{acts_behind, acts_memory, folder_no}
 use Rattle.key_vault.specs.Cached.{Cached}
 use Rattle.fle_files.proofs.Loaded.{acts_stop}
 use Rattle.fle_runner.proofs.VerbEnds.{stream_reads, uncut}
 use Rattle.fle_runner.specs.Encrypt.{encrypt_verdict, with_sealing}
-use Rattle.fle_runner.specs.declared.encrypt.SealingFiles.{SealingFiles}
 use Rattle.fle_runner.proofs.encrypt.encrypt.Goals as goal
 
 pub returns-in-Err : goal.returns-in-Err

@@ -1,5 +1,5 @@
 -- The document is written, or there is no memory for it.
-use Rattle.std.proofs.Common.{◌∙◌, List, ℕ, length, ap, refl, arith, sym}
+use Rattle.std.proofs.Common.{◌∙◌, length, ap, refl, arith}
 use Rattle.bson_tree.specs.Spelling.{doc_bytes}
 use Rattle.data_key.specs.declared.key_doc.KeyDoc.{KeyDoc}
 use Rattle.data_key.specs.Written.{key_fields}
