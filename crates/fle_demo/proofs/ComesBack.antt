@@ -9,7 +9,7 @@ use Rattle.std.proofs.lemmas.List.Elements.{All-append, All-cons, All-drop, All-
 use Rattle.std.proofs.lemmas.List.Elements.{All-nil, All-tail, All-take}
 use Rattle.std.specs.List.{All}
 use Rattle.std.specs.Cmp.Lexicographic.{bytes_decides}
-use Rattle.std.specs.Int.{to_le_bytes, w32}
+use Rattle.std.specs.Int.{to_le_bytes, w32, w64}
 use Rattle.bson_codec.specs.Reading.{document}
 use Rattle.bson_codec.specs.declared.fault.BsonFault.{BsonFault}
 use Rattle.bson_codec.proofs.Documents.{document_again}
@@ -174,8 +174,8 @@ module _ (keys : Keyring) (id plain : List ℕ) (long : length id ≡ 16) (opens
       let ss = sites_of (two_rules id) (roles (two_rules id) 0 given) in
       let sites = sites_are id db i x in
       let ids : AreLong ss = subst AreLong (sym sites) (long, (long, tt)) in
-      let size = sealed_long ss (alone given) (marks_stand (two_rules id) (alone given)).places _ refl ids (found_in keys)
-      (block ∷ []) one in
+      let stands = (marks_stand (two_rules id) (alone given)).places in
+      let size = sealed_long ss (alone given) stands _ refl ids (found_in keys) (block ∷ []) one in
       omega (arith, size, short, command_size db i x, ap grown sites)
 
   back : opened keys (alone (sealed_form keys id block given)) ≡ Ok given
@@ -214,10 +214,22 @@ module _ (keys : Keyring) (id plain : List ℕ) (long : length id ≡ 16) (opens
 
 -- ---- the key that is made first
 
+-- eight bytes of a number of 64 bits
+eight_bytes : (n : ℕ) → Bytes (to_le_bytes w64 n)
+eight_bytes n =
+    All-from_recursion (λ b. b < 256) (to_le_bytes w64 n) (
+      omega arith,
+      (
+        omega arith,
+        (omega arith, (omega arith, (omega arith, (omega arith, (omega arith, (omega arith, tt)))))),
+      ),
+    )
+
 block_is : (x : ℕ) → IsBlock (block_behind x)
 block_is x = record {
   len = refl;
-  bytes = All-from_recursion (λ b. b < 256) (block_behind x) (omega arith, (omega arith, (omega arith, (omega arith, (omega arith, (omega arith, (omega arith, (omega arith, (omega arith, (omega arith, (omega arith, (omega arith, (omega arith, (omega arith, (omega arith, (omega arith, tt))))))))))))))));
+  bytes = joined (to_le_bytes w64 (next_output x)) (to_le_bytes w64 (after_two x)) (eight_bytes (next_output x))
+      (eight_bytes (after_two x));
 }
 
 blocks_are : (n x : ℕ) → AreBlocks (blocks_behind n x)

@@ -27,24 +27,32 @@ use Rattle.fle_stream.specs.Ended.{Whole}
 use Rattle.fle_stream.specs.Task.{each, outcome_of}
 use Rattle.fle_stream.specs.Outcome.{Outcome, finished, judged, outcome, rest_finish}
 use Rattle.fle_stream.specs.Plan.{Output, Plan, Verdict, writes, refused, too_long, draws_of, written}
+use Rattle.fle_engine.specs.Rulings as rulings
+use Rattle.fle_engine.specs.Rulings.{Ruling, by_refusal, makes, sized_plan}
+use Rattle.fle_engine.specs.Sealing.{seal_ruling, seal_under, sealed_plan}
 use Rattle.fle_stream.specs.Streams.{Docs, doc, documents, ends, rest_size}
 use Rattle.fle_stream.specs.declared.why.Bound.TheVariants as bounds
 use Rattle.fle_stream.specs.declared.why.Finish.TheVariants as finishes
 use Rattle.command_marker.specs.Reply.{reply_limit}
-use Rattle.fle_runner.specs.Encrypt.{at_front, encrypt_verdict, seal_under, sealed_plan}
+use Rattle.fle_runner.specs.Encrypt.{at_front, encrypt_verdict}
 use Rattle.fle_runner.specs.Headline.{AreByUuid, AreSealedUnder, IsSealedUnder, Setup, accepted, if_accepted, sites_in}
 use Rattle.fle_runner.specs.Headline.{SealsStream, verdict_of}
-use Rattle.fle_runner.specs.Verdicts.{by_refusal, sized_plan}
+use Rattle.fle_runner.specs.Verdicts.{as_verdict}
 use Rattle.fle_runner.proofs.HeadlineReads.{AreRead, documents_read}
 
 -- ---- an accepted command
 
-unrefused : (c : Items) (r : Option Refusal) (v : Verdict) (plan : Plan) → by_refusal c r v ≡ writes plan
-    → (r ≡ None) × (v ≡ writes plan)
-unrefused c None v plan e = (refl, e)
-unrefused c (Some r) v plan e = absurd cc
+made : (c : Items) (v : Ruling) (plan : Plan) → as_verdict c v ≡ writes plan → v ≡ makes plan
+made c (makes p) plan e = let same : p ≡ plan = cc in ap makes same
+made c (rulings.refused r) plan e = absurd cc
+made c rulings.too_long plan e = absurd cc
 
-below : (b : Bool) (p plan : Plan) → cond b too_long (writes p) ≡ writes plan → plan ≡ p
+unrefused : (r : Option Refusal) (v : Ruling) (plan : Plan) → by_refusal r v ≡ makes plan
+    → (r ≡ None) × (v ≡ makes plan)
+unrefused None v plan e = (refl, e)
+unrefused (Some r) v plan e = absurd cc
+
+below : (b : Bool) (p plan : Plan) → cond b rulings.too_long (makes p) ≡ makes plan → plan ≡ p
 below true p plan e = absurd cc
 below false p plan e = cc
 
@@ -55,12 +63,13 @@ pub record IsAccepted (x : Setup) (c : Items) (plan : Plan) : Type 0 where
   pub is : plan ≡ sealed_plan x.keys (sites_in x c) c
 
 pub is_accepted : (x : Setup) (c : Items) (plan : Plan) → verdict_of x c ≡ writes plan → IsAccepted x c plan
-unfolding encrypt_verdict
+unfolding encrypt_verdict seal_ruling
 is_accepted x c plan e =
     let rows = rows_of x.infos c in
     let p = sealed_plan x.keys (sites_in x c) c in
-    let a = unrefused c (verdict x.db x.infos 0 c) (seal_under x.keys rows c) plan e in
-    let b = unrefused c (first_keyless x.keys (needs_of rows (at_front c))) (sized_plan p) plan a.1 in
+    let e = made c (seal_ruling x.keys x.infos x.db c) plan e in
+    let a = unrefused (verdict x.db x.infos 0 c) (seal_under x.keys rows c) plan e in
+    let b = unrefused (first_keyless x.keys (needs_of rows (at_front c))) (sized_plan p) plan a.1 in
     record { none = a.0; keyed = b.0; is = below (nat_lt reply_limit p.size) p plan b.1 }
 
 -- ---- the keys of its rules

@@ -18,11 +18,12 @@ use Rattle.doc_rewrite.proofs.OpensAgain.{opens_again, spelled_again}
 use Rattle.context_machine.specs.Rings.{found_in, key_if}
 use Rattle.fle_stream.specs.Plan.{Verdict, writes, refused, too_long}
 use Rattle.fle_stream.specs.Streams.{Docs, doc, documents, ends}
-use Rattle.fle_runner.specs.Decrypt.{decrypt_verdict, opened_or}
+use Rattle.fle_engine.specs.Opening.{open_ruling, opened_or}
+use Rattle.fle_runner.specs.Decrypt.{decrypt_verdict}
 use Rattle.fle_runner.specs.Headline.{AreOpenable, AreReadable, AreSealedUnder, Setup, accepted, if_accepted}
 use Rattle.fle_runner.specs.Headline.{verdict_of}
 use Rattle.fle_runner.specs.ReadBack.{ComesTo}
-use Rattle.fle_runner.specs.Verdicts.{plain_plan}
+use Rattle.fle_runner.specs.Verdicts.{as_verdict, plain_plan}
 use Rattle.fle_runner.proofs.Headline.{is_accepted}
 use Rattle.fle_runner.proofs.HeadlineReads.{AreRead, documents_read}
 use Rattle.fle_runner.specs.Encrypt.{at_front}
@@ -38,8 +39,8 @@ all_had keys id key e = found_had (keys id) key e
 -- a document that opens comes to the bytes of what it opens to
 opens_to : (keys : Keyring) (c d : Items) → opened keys (at_front d) ≡ Ok c
     → decrypt_verdict keys d ≡ writes (plain_plan (doc_bytes c))
-unfolding decrypt_verdict
-opens_to keys c d e = ap (λ (r : Result Items Refusal). opened_or d r) e
+unfolding decrypt_verdict open_ruling
+opens_to keys c d e = ap (λ (r : Result Items Refusal). as_verdict d (opened_or r)) e
 
 pub come_back : (x : Setup) (cs : List Items) (blocks : List Block) (ds : List Items) → AreSealedUnder x cs blocks ds
     → AreReadable x cs ds → ComesTo (decrypt_verdict x.keys) cs ds

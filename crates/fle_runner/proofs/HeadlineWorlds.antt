@@ -36,11 +36,14 @@ use Rattle.context_machine.specs.Rings.{first_keyless, need_of, needs_of}
 use Rattle.doc_rewrite.specs.Opened.{Keyring, reason_in}
 use Rattle.doc_rewrite.specs.SealedTrees.{rule_of}
 use Rattle.doc_rewrite.specs.Sites.{draws_of, grown, sites_of}
-use Rattle.fle_stream.specs.Plan.{Plan, Verdict, writes, too_long}
-use Rattle.fle_runner.specs.Encrypt.{at_front, encrypt_verdict, seal_under, sealed_plan}
-use Rattle.fle_runner.specs.Mark.{mark_verdict, replies}
+use Rattle.fle_engine.specs.Replies.{mark_ruling, replies}
+use Rattle.fle_engine.specs.Rulings.{Ruling, at_front, by_refusal, makes, plain_plan, ruling_with, sized_plan, too_long}
+use Rattle.fle_engine.specs.Sealing.{seal_ruling, seal_under, sealed_plan}
+use Rattle.fle_stream.specs.Plan.{Plan}
+use Rattle.fle_runner.specs.Encrypt.{encrypt_verdict}
+use Rattle.fle_runner.specs.Mark.{mark_verdict}
 use Rattle.fle_runner.specs.TwoStreams.{ArePlansAlike, AreVerdictsAlike}
-use Rattle.fle_runner.specs.Verdicts.{by_refusal, plain_plan, sized_plan, verdict_with}
+use Rattle.fle_runner.specs.Verdicts.{as_verdict}
 
 -- ---- lengths
 
@@ -128,49 +131,53 @@ module _ (keys : Keyring) (rows : List Row) where
 
 -- ---- verdicts
 
-by_alike : (c d : Items) (o : Option Refusal) (v w : Verdict)
-    → ((r : Refusal) → o ≡ Some r → place_of r.at c ≡ place_of r.at d) → AreVerdictsAlike v w
-    → AreVerdictsAlike (by_refusal c o v) (by_refusal d o w)
+-- what two commands come to is alike
+abbrev AreAlike : Items → Items → Ruling → Ruling → Type 0
+AreAlike c d v w = AreVerdictsAlike (as_verdict c v) (as_verdict d w)
+
+by_alike : (c d : Items) (o : Option Refusal) (v w : Ruling)
+    → ((r : Refusal) → o ≡ Some r → place_of r.at c ≡ place_of r.at d) → AreAlike c d v w
+    → AreAlike c d (by_refusal o v) (by_refusal o w)
 by_alike c d None v w there alike = alike
 by_alike c d (Some r) v w there alike = (refl, there r refl)
 
-sized_by : (b : Bool) (p q : Plan) → ArePlansAlike p q
-    → AreVerdictsAlike (cond b too_long (writes p)) (cond b too_long (writes q))
-sized_by true p q alike = tt
-sized_by false p q alike = alike
+sized_by : (c d : Items) (b : Bool) (p q : Plan) → ArePlansAlike p q
+    → AreAlike c d (cond b too_long (makes p)) (cond b too_long (makes q))
+sized_by c d true p q alike = tt
+sized_by c d false p q alike = alike
 
-sized_alike : (p q : Plan) → ArePlansAlike p q → AreVerdictsAlike (sized_plan p) (sized_plan q)
-sized_alike p q alike =
-    subst (λ (n : ℕ). AreVerdictsAlike (sized_plan p) (cond (nat_lt reply_limit n) too_long (writes q))) alike.size
-    (sized_by (nat_lt reply_limit p.size) p q alike)
+sized_alike : (c d : Items) (p q : Plan) → ArePlansAlike p q → AreAlike c d (sized_plan p) (sized_plan q)
+sized_alike c d p q alike =
+    subst (λ (n : ℕ). AreAlike c d (sized_plan p) (cond (nat_lt reply_limit n) too_long (makes q))) alike.size
+    (sized_by c d (nat_lt reply_limit p.size) p q alike)
 
--- a verdict by what becomes of a command that isn't refused
-with_alike : (accepts : List Row → Items → Verdict) (infos : List Collection) (db : List ℕ) (c d : Items)
+-- what a command comes to by what becomes of one that isn't refused
+with_alike : (accepts : List Row → Items → Ruling) (infos : List Collection) (db : List ℕ) (c d : Items)
     → skeleton (rows_of infos c) c ≡ skeleton (rows_of infos c) d
-    → AreVerdictsAlike (accepts (rows_of infos c) c) (accepts (rows_of infos c) d)
-    → AreVerdictsAlike (verdict_with accepts infos db c) (verdict_with accepts infos db d)
+    → AreAlike c d (accepts (rows_of infos c) c) (accepts (rows_of infos c) d)
+    → AreAlike c d (ruling_with accepts infos db c) (ruling_with accepts infos db d)
 with_alike accepts infos db c d e alike =
     let rows = rows_of infos c in
-    let first = verdict_with accepts infos db c in
+    let first = ruling_with accepts infos db c in
     let one = by_alike c d (verdict db infos 0 c) (accepts rows c) (accepts rows d)
     (λ r is. equal_told db (info_of infos c) rows c d r e is) alike in
-    subst (λ (rs : List Row). AreVerdictsAlike first (by_refusal d (verdict db infos 0 d) (accepts rs d)))
+    subst (λ (rs : List Row). AreAlike c d first (by_refusal (verdict db infos 0 d) (accepts rs d)))
     (equal_rows infos rows c d e)
-    (subst (λ (o : Option Refusal). AreVerdictsAlike first (by_refusal d o (accepts rows d)))
+    (subst (λ (o : Option Refusal). AreAlike c d first (by_refusal o (accepts rows d)))
     (equal_verdicts db infos 0 c d e) one)
 
 pub mark_alike : (infos : List Collection) (db : List ℕ) (c d : Items)
     → skeleton (rows_of infos c) c ≡ skeleton (rows_of infos c) d
     → AreVerdictsAlike (mark_verdict infos db c) (mark_verdict infos db d)
-unfolding mark_verdict
+unfolding mark_verdict mark_ruling
 mark_alike infos db c d e =
     let rows = rows_of infos c in
     with_alike replies infos db c d e
-    (sized_alike (plain_plan (reply_to rows c)) (plain_plan (reply_to rows d))
+    (sized_alike c d (plain_plan (reply_to rows c)) (plain_plan (reply_to rows d))
     (record { draws = refl; size = reply_equal rows c d e }))
 
 seal_alike : (keys : Keyring) (rows : List Row) (c d : Items) → skeleton rows c ≡ skeleton rows d
-    → AreVerdictsAlike (seal_under keys rows c) (seal_under keys rows d)
+    → AreAlike c d (seal_under keys rows c) (seal_under keys rows d)
 seal_alike keys rows c d e =
     let same = equal_roles rows 0 c d e in
     let p = sealed_plan keys (sites_of rows (roles rows 0 c)) c in
@@ -180,14 +187,14 @@ seal_alike keys rows c d e =
       draws = ap (λ (ms : List Mark). draws_of (sites_of rows ms)) same;
       size = omega (arith, equal_lengths rows c d e, more);
     } in
-    subst (λ (ms : List Mark). AreVerdictsAlike (seal_under keys rows c)
-    (by_refusal d (first_keyless keys (map need_of (sites_of rows ms))) (sized_plan q))) same
+    subst (λ (ms : List Mark). AreAlike c d (seal_under keys rows c)
+    (by_refusal (first_keyless keys (map need_of (sites_of rows ms))) (sized_plan q))) same
     (by_alike c d (first_keyless keys (needs_of rows (at_front c))) (sized_plan p) (sized_plan q)
-    (λ r is. keyless_told keys rows c d r e is) (sized_alike p q plans))
+    (λ r is. keyless_told keys rows c d r e is) (sized_alike c d p q plans))
 
 pub encrypt_alike : (keys : Keyring) (infos : List Collection) (db : List ℕ) (c d : Items)
     → skeleton (rows_of infos c) c ≡ skeleton (rows_of infos c) d
     → AreVerdictsAlike (encrypt_verdict keys infos db c) (encrypt_verdict keys infos db d)
-unfolding encrypt_verdict
+unfolding encrypt_verdict seal_ruling
 encrypt_alike keys infos db c d e =
     with_alike (seal_under keys) infos db c d e (seal_alike keys (rows_of infos c) c d e)

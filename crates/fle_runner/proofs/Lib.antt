@@ -1,7 +1,5 @@
-pub mod Ways
-pub mod Descent
-pub mod Spots
-pub mod Verdicts
+pub mod Judgements
+pub mod Engines
 pub mod Marks
 pub mod Shows
 pub mod JsonMarks
@@ -18,6 +16,4 @@ pub mod HeadlineFronts
 pub mod HeadlineFiles
 pub mod HeadlineWorlds
 pub mod TwoStreams
-pub mod Fed
-pub mod Seals
 pub mod Unseals

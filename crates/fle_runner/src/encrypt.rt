@@ -12,13 +12,14 @@ ghost use Rattle.fle_stream.specs.Ended.{IsUnread};
 ghost use Rattle.fle_stream.specs.Files.{IsOfFiles};
 ghost use Rattle.fle_stream.specs.Task.{one_document};
 
-use crate::sealing::Sealer;
+use crate::judging::Sealing;
 use crypto_hooks::Block256;
 use encrypt_schema::Infos;
+use fle_engine::Engine;
 use fle_files::{load_infos, load_master, load_vault};
 use fle_outside::{Entropy, Folder, Memory, Sink, Source};
 use fle_stream::{Cut, End, Finish, Why, judge_stream};
-use key_vault::{KeyCache, Vault};
+use key_vault::Vault;
 use local_kms::MasterKey;
 use std::alloc::Global;
 
@@ -73,20 +74,8 @@ pub fn encrypt<S: Source, F: Folder, O: Sink, N: Entropy, B: Block256>(
         Ok(held) => held,
         Err(why) => return End::unread(why),
     };
-    match KeyCache::new(alloc, master) {
-        Ok(cache) => judge_stream(
-            alloc,
-            Sealer {
-                keys,
-                infos,
-                cache,
-                db: words.db,
-                hooks,
-            },
-            input,
-            out,
-            entropy,
-        ),
+    match Engine::of(alloc, words.db.as_bytes(), keys, infos, master) {
+        Ok(engine) => judge_stream(alloc, Sealing { engine, hooks }, input, out, entropy),
         Err(Memory) => End::unread(Why::Cut(Cut::Memory)),
     }
 }

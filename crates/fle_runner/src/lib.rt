@@ -13,16 +13,14 @@ mod decrypt;
 mod demo;
 mod encrypt;
 mod help;
+mod judging;
 mod keygen;
 mod keys;
 pub mod laws;
 mod mark;
-mod placing;
 mod program;
-mod refusing;
-mod sealing;
 mod show;
 
+pub use fle_engine::place_at;
 pub use help::{HELP, VERSION, tell};
-pub use placing::place_at;
 pub use program::fle;

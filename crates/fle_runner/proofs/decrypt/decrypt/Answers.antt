@@ -1,5 +1,5 @@
 -- The files are loaded, and then the stream is judged.
-use Rattle.std.proofs.Common.{◌∙◌, ℕ, List, ap, refl, subst, sym}
+use Rattle.std.proofs.Common.{◌∙◌, refl, subst, sym}
 use Rattle.context_machine.specs.Rings.{ring}
 use Rattle.fle_outside.specs.Files.{Files, file_of}
 use Rattle.fle_stream.specs.Files.{IsOfFiles}
@@ -7,8 +7,8 @@ use Rattle.fle_stream.specs.Task.{each}
 use Rattle.fle_stream.specs.Turn.{IsOfStream}
 use Rattle.fle_stream.proofs.Acts.{acts_behind, acts_memory, folder_no}
 use Rattle.fle_stream.proofs.Turned.{memory_not_entropy}
-use Rattle.key_vault.specs.Cached.{Cached}
 use Rattle.fle_files.proofs.Loaded.{acts_stop}
+use Rattle.fle_runner.proofs.Engines.{opens_as}
 use Rattle.fle_runner.proofs.VerbEnds.{stream_reads, uncut}
 use Rattle.fle_runner.specs.Decrypt.{decrypt_verdict, with_opening}
 use Rattle.fle_runner.proofs.decrypt.decrypt.Goals as goal
@@ -29,13 +29,12 @@ pub returns-in-Ok-new : goal.returns-in-Ok-new
 returns-in-Ok-new g c =
     let ends = c.judge_without_blocks.ensures in
     let held = c.in-Ok.held in
-    let cached = ap (λ (x : Cached). x.master) c.in-Ok-new.ensures.empty in
+    let same = opens_as held c.in-Ok-new.opener c.in-Ok-new.ensures.made in
     record {
       run = λ e.
-          acts_behind (each (decrypt_verdict (ring held.keys c.in-Ok-new.cache.master)))
-          (λ all has. c.in-Ok.ensures.leads all has (λ held. each (decrypt_verdict (ring held.keys held.master))) ∙ ap
-          (λ (m : List ℕ). each (decrypt_verdict (ring held.keys m))) (sym cached)) (folder_no _ ends.kind)
-          (λ files. ends.run files e);
+          acts_behind (each (decrypt_verdict (ring c.in-Ok-new.opener.keys c.in-Ok-new.opener.cache.master)))
+          (λ all has. c.in-Ok.ensures.leads all has (λ held. each (decrypt_verdict
+          (ring held.keys held.master))) ∙ same) (folder_no _ ends.kind) (λ files. ends.run files e);
       formed = λ at. subst IsOfStream at ends.kind;
       untouched = λ none. absurd (stream_reads _ ends.kind none);
       undrawn = ends.undrawn;

@@ -1,13 +1,13 @@
 -- The files are loaded, and then the stream is judged.
-use Rattle.std.proofs.Common.{◌∙◌, ℕ, List, ap, refl, subst, sym}
+use Rattle.std.proofs.Common.{◌∙◌, refl, subst, sym}
 use Rattle.context_machine.specs.Rings.{ring}
 use Rattle.fle_outside.specs.Files.{Files, file_of}
 use Rattle.fle_stream.specs.Files.{IsOfFiles}
 use Rattle.fle_stream.specs.Task.{each}
 use Rattle.fle_stream.specs.Turn.{IsOfStream}
 use Rattle.fle_stream.proofs.Acts.{acts_behind, acts_memory, folder_no}
-use Rattle.key_vault.specs.Cached.{Cached}
 use Rattle.fle_files.proofs.Loaded.{acts_stop}
+use Rattle.fle_runner.proofs.Engines.{seals_as}
 use Rattle.fle_runner.proofs.VerbEnds.{stream_reads, uncut}
 use Rattle.fle_runner.specs.Encrypt.{encrypt_verdict, with_sealing}
 use Rattle.fle_runner.proofs.encrypt.encrypt.Goals as goal
@@ -25,23 +25,24 @@ returns-in-Err g c =
       untouched = λ _. (refl, refl, refl);
     })
 
-pub returns-in-Ok-new : goal.returns-in-Ok-new
-returns-in-Ok-new g c =
+pub returns-in-Ok-of : goal.returns-in-Ok-of
+returns-in-Ok-of g c =
     let ends = c.judge_stream.ensures in
     let held = c.in-Ok.held in
     let db = c.args.words.db.now in
-    let cached = ap (λ (x : Cached). x.master) c.in-Ok-new.ensures.empty in
+    let engine = c.in-Ok-of.engine in
+    let rules = c.in-Ok-of.ensures.rules in
+    let same = seals_as held db engine (rules.0 ∙ c.as_bytes.ensures.value, rules.1) c.in-Ok-of.ensures.secrets in
     record {
       run =
-          acts_behind (each (encrypt_verdict (ring held.keys c.in-Ok-new.cache.master) held.infos db))
-          (λ all has. c.in-Ok.ensures.leads all has (λ held. each (encrypt_verdict
-          (ring held.keys held.master) held.infos db)) ∙ ap (λ (m : List ℕ). each (encrypt_verdict
-          (ring held.keys m) held.infos db)) (sym cached)) (folder_no _ ends.kind) ends.run;
+          acts_behind (each (encrypt_verdict (ring engine.opener.keys engine.opener.cache.master) engine.marker.infos
+          engine.marker.db.items)) (λ all has. c.in-Ok.ensures.leads all has (λ held. each (encrypt_verdict
+          (ring held.keys held.master) held.infos db)) ∙ same) (folder_no _ ends.kind) ends.run;
       formed = λ at. subst IsOfStream at ends.kind;
       untouched = λ none. absurd (stream_reads _ ends.kind none);
     }
 
-pub returns-in-Err-new : goal.returns-in-Err-new
-returns-in-Err-new g c =
-    rw c.unread-in-Err-new.ensures.unread
+pub returns-in-Err-of : goal.returns-in-Err-of
+returns-in-Err-of g c =
+    rw c.unread-in-Err-of.ensures.unread
     (record { run = acts_memory; formed = λ at. uncut (sym at); untouched = λ none. absurd none })
