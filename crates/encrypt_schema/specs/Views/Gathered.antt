@@ -20,6 +20,7 @@ pub record Read : Type 0 where
   pub algorithm : Option Tree
   pub types : Option Tree
 
+-- no setting
 abbrev pub no_settings : Read
 no_settings = record { key = None; algorithm = None; types = None }
 
@@ -27,14 +28,17 @@ no_settings = record { key = None; algorithm = None; types = None }
 abbrev pub with_key : Read → Tree → Option Read
 with_key r t = if is_some r.key then None else (if is_some (key_of t) then Some (record r { key = Some t }) else None)
 
+-- the algorithm, which is named by a string
 abbrev pub with_algorithm : Read → Tree → Option Read
 with_algorithm r t =
     if is_some r.algorithm then None else (if is_string_value t then Some (record r { algorithm = Some t }) else None)
 
+-- the types, which stand in `encrypt` alone
 abbrev pub with_types : Bool → Read → Tree → Option Read
 with_types typed r t =
     if is_some r.types then None else (if typed && is_types t then Some (record r { types = Some t }) else None)
 
+-- a setting by its name; there are three
 abbrev pub with_setting : Bool → Read → List ℕ → Tree → Option Read
 with_setting typed r name t =
     if named name (codes "keyId") then with_key r t
@@ -68,6 +72,7 @@ pub record Gathered : Type 0 where
   pub encrypt : Option Read
   pub metadata : Option Read
 
+-- neither keyword
 abbrev pub none_gathered : Gathered
 none_gathered = record { encrypt = None; metadata = None }
 
@@ -102,5 +107,6 @@ settings_seen s = record {
   types = option_map (λ i. i.tree) s.types;
 }
 
+-- the same of both keywords
 abbrev pub found_seen : Found → Gathered
 found_seen f = record { encrypt = option_map settings_seen f.encrypt; metadata = option_map settings_seen f.metadata }
