@@ -1,6 +1,6 @@
 -- What was looked up stands where it says, also where one more is kept.
 use Rattle.std.proofs.Common.{◌≡◌, ℕ, Bool, true, false, cond, ◌&&◌, not, List, [], ◌∷◌, ◌++◌, Option, Some, None}
-use Rattle.std.proofs.Common.{option_map, is_some, refl}
+use Rattle.std.proofs.Common.{option_map, is_some, refl, sym, ap}
 use Rattle.bson_codec.specs.Borrowed.{At}
 use Rattle.encrypt_schema.specs.declared.command.marks.Span.{Span}
 use Rattle.encrypt_schema.specs.declared.command.pointing.Found.{Found}
@@ -12,6 +12,8 @@ use Rattle.encrypt_schema.specs.Commands.Pointers.{Target, Targets, nth_span, nt
 use Rattle.encrypt_schema.specs.Commands.Stations.{Store}
 use Rattle.encrypt_schema.specs.Views.Walking.{targets_seen}
 use Rattle.encrypt_schema.specs.Views.Pointing.{AreFound}
+use Rattle.encrypt_schema.specs.declared.schema.policy.KeyRef.TheVariants.{Id}
+use Rattle.encrypt_schema.proofs.Commands.PointerSpans.{by_id, key_found, key_past, span_by_id, span_seen}
 
 pub found_more : (rows : List Row) (root : Option At) (fs : List Found) (f : Found) → AreFound rows root fs
     → Some f.name ≡ nth_span f.rule (targets_seen rows root) → AreFound rows root (fs ++ f ∷ [])
@@ -28,3 +30,17 @@ there b None name e = absurd cc
 pub found_clean : (rows : List Row) (ts : Targets) (i : ℕ) (name : Span) → Some name ≡ nth_span i ts
     → None ≡ pointer_offence rows ts (Store i)
 found_clean rows ts i name e = there (is_pointer (policy_at i rows).key) (nth_target i ts) name e
+
+-- no text names the key of a rule with an id
+pub nameless : (rows : List Row) (root : Option At) (i : ℕ) (id : List ℕ) → (policy_at i rows).key ≡ Id id
+    → None ≡ nth_span i (targets_seen rows root)
+nameless rows None i id e = refl
+nameless rows (Some d) i id e = sym (ap span_seen (span_by_id rows i id d.start d.tree e))
+
+-- and it is refused for no pointer
+pub clean_by_id : (rows : List Row) (root : Option At) (i : ℕ) (id : List ℕ) → (policy_at i rows).key ≡ Id id
+    → None ≡ pointer_offence rows (targets_seen rows root) (Store i)
+clean_by_id rows root i id e = sym (by_id rows (targets_seen rows root) i id e)
+
+-- a rule with an id, or none: no text names its key, and it is refused for no pointer
+pub ruleset by_ids = (nameless, clean_by_id, key_found, key_past)

@@ -1,6 +1,6 @@
 //! The rules' pointers as they are read in one document: each leads somewhere once, however many values ask for it.
 
-ghost use Rattle.std.specs.Prelude.{◌≡◌, None, Some, IfErr, IfOk, IfSome};
+ghost use Rattle.std.specs.Prelude.{◌≡◌, true, None, Some, IfErr, IfOk, IfSome};
 ghost use Rattle.encrypt_schema.specs.Commands.Offences.{pointer_offence};
 ghost use Rattle.encrypt_schema.specs.Commands.Pointers.{nth_span};
 ghost use Rattle.encrypt_schema.specs.Commands.Stations.{Store};
@@ -10,6 +10,7 @@ use crate::command::marks::Span;
 use crate::command::pointers::name_under;
 use crate::command::reason::Reason;
 use crate::path::rows::Rows;
+use crate::schema::policy::KeyRef;
 use bson_codec::RawDoc;
 use std::alloc::Global;
 use std::marker::Model;
@@ -87,10 +88,41 @@ impl<'r, 'd> Pointing<'r, 'd> {
         }
     }
 
+    /// Whether no text names the key of the rule of this number, since it stands by its id, or there is no such rule.
+    #[tactic(auto, using(crate::proofs::Commands::Lookups::by_ids))]
+    fn is_by_id(&self, i: u32) -> bool
+        ensures nameless { result ≡ true → None ≡ nth_span i (targets_read self.now) }
+        ensures clean { result ≡ true → None ≡ pointer_offence self.now.rows (targets_read self.now) (Store i) }
+    {
+        match self.rows.policy(i) {
+            Some(policy) => match &policy.key {
+                KeyRef::Id(_) => true,
+                KeyRef::Pointer(_) => false,
+            },
+            None => true,
+        }
+    }
+
     /// Where the text stands that names the key of the rule of this number, where its key is a pointer; `PointerBad`
     /// where the rule has a pointer and its target isn't there.
-    #[tactic(auto, using(crate::proofs::Commands::Lookups::found_clean))]
     pub(crate) fn name(&mut self, i: u32) -> Result<Option<Span>, Reason>
+        ensures name { IfOk result (λ name. name ≡ nth_span i (targets_read self.old)) }
+        ensures clean { IfOk result (λ _. None ≡ pointer_offence self.old.rows (targets_read self.old) (Store i)) }
+        ensures refused { IfErr result (λ reason.
+            Some reason ≡ pointer_offence self.old.rows (targets_read self.old) (Store i)) }
+        ensures same { self.new ≡ self.old }
+    {
+        if self.is_by_id(i) {
+            Ok(None)
+        } else {
+            self.look_up(i)
+        }
+    }
+
+    /// The same, looked up where it wasn't before.
+    #[inline(never)]
+    #[tactic(auto, using(crate::proofs::Commands::Lookups::found_clean))]
+    fn look_up(&mut self, i: u32) -> Result<Option<Span>, Reason>
         ensures name { IfOk result (λ name. name ≡ nth_span i (targets_read self.old)) }
         ensures clean { IfOk result (λ _. None ≡ pointer_offence self.old.rows (targets_read self.old) (Store i)) }
         ensures refused { IfErr result (λ reason.
