@@ -11,14 +11,14 @@ use Rattle.fle_stream.specs.Did.{Did}
 use Rattle.fle_stream.specs.Outcome.{Outcome}
 use Rattle.fle_stream.specs.Plan.{DrawsNone, Plan, Verdict, draws_of, size_of}
 use Rattle.fle_stream.specs.Run.{Ran}
-use Rattle.fle_stream.specs.Task.{Task, fails, makes, each, course_of, outcome_of, reads_input, spans_of}
+use Rattle.fle_stream.specs.Task.{Task, fails, makes, each, pairs, course_of, outcome_of, reads_input, spans_of}
 use Rattle.fle_stream.specs.Turn.{IsOfStream, Pace}
 use Rattle.fle_stream.specs.declared.end.End.{End}
 use Rattle.fle_stream.specs.declared.why.Cut.TheVariants as cuts
 use Rattle.fle_stream.specs.declared.why.Finish.{Finish}
 use Rattle.fle_stream.specs.declared.why.Why.{Why}
 use Rattle.fle_stream.specs.declared.why.Why.TheVariants as whys
-use Rattle.fle_stream.proofs.Programs.{did_fail, did_memory, did_task, ends_each, ends_task}
+use Rattle.fle_stream.proofs.Programs.{did_fail, did_memory, did_task, ends_each, ends_pairs, ends_task}
 use Rattle.fle_stream.proofs.Turned.{finished_no, memory_not_folder}
 use Rattle.fle_stream.proofs.Undrawn.{did_undrawing}
 
@@ -28,6 +28,7 @@ course_is : (t : Task) (told : List ℕ) → course_of t 1 0 told ≡ outcome_of
 course_is (fails finish) told = refl
 course_is (makes plan) told = refl
 course_is (each v) told = refl
+course_is (pairs w) told = refl
 
 -- what is enough for its outcome is for its course from the first document on
 pub course_bytes : (t : Task) (told : List ℕ) {n : ℕ} → size_of (outcome_of t told).outputs ≤ n
@@ -45,6 +46,7 @@ pub ends_reads : (t : Task) → reads_input t ≡ true → (why : Why) → IsOfS
 ends_reads (fails finish) reads why kind = absurd (false≢true reads)
 ends_reads (makes plan) reads why kind = absurd (false≢true reads)
 ends_reads (each v) reads why kind = ends_each v why kind
+ends_reads (pairs w) reads why kind = ends_pairs w why kind
 
 pub folder_no : (why : Why) → IsOfStream why → why ≡ whys.Cut cuts.Folder → ⊥
 folder_no why kind at = subst IsOfStream at kind
@@ -57,6 +59,8 @@ pub did_turns : (t : Task) {told : List ℕ} {after : Option (List ℕ)} {entrop
 did_turns (fails finish) reads kind ran = absurd (false≢true reads)
 did_turns (makes plan) reads kind ran = absurd (false≢true reads)
 did_turns (each v) {why = why} reads kind ran =
+    record { ran = ran; unread = λ at. absurd (folder_no why kind at) }
+did_turns (pairs w) {why = why} reads kind ran =
     record { ran = ran; unread = λ at. absurd (folder_no why kind at) }
 
 -- ---- a verb that draws no block

@@ -11,3 +11,6 @@ pub mod Turned
 pub mod Undrawn
 pub mod Writings
 pub mod Acts
+pub mod Paired
+pub mod PairTurns
+pub mod Opens

@@ -6,11 +6,12 @@ use Rattle.fle_stream.specs.Acted.{EndsAs}
 use Rattle.fle_stream.specs.Did.{Did}
 use Rattle.fle_stream.specs.Files.{LoadIs}
 use Rattle.bson_tree.specs.Tree.{Items}
+use Rattle.fle_stream.specs.Pairs.{Pairing}
 use Rattle.fle_stream.specs.Plan.{Verdict}
 use Rattle.fle_stream.specs.Turn.{IsOfStream}
 use Rattle.fle_stream.specs.Outcome.{Outcome, finished}
 use Rattle.fle_stream.specs.Run.{EndsIn, Ran}
-use Rattle.fle_stream.specs.Task.{Task, each, fails, outcome_of, spans_of, start_of, with_file}
+use Rattle.fle_stream.specs.Task.{Task, each, pairs, fails, outcome_of, spans_of, start_of, with_file}
 use Rattle.fle_stream.specs.declared.why.Finish.{Finish}
 use Rattle.fle_stream.specs.declared.why.Cut.TheVariants as cuts
 use Rattle.fle_stream.specs.declared.why.Why.{Why}
@@ -106,3 +107,12 @@ ends_each v (whys.Cut cuts.Input) kind = kind
 ends_each v (whys.Cut cuts.Output) kind = kind
 ends_each v (whys.Cut cuts.Entropy) kind = kind
 ends_each v (whys.Cut cuts.Memory) kind = tt
+
+-- a stream was judged pair by pair
+pub ends_pairs : (w : Pairing) (why : Why) → IsOfStream why → EndsAs (pairs w) why
+ends_pairs w (whys.Finished finish) kind = kind
+ends_pairs w (whys.Cut cuts.Folder) kind = tt
+ends_pairs w (whys.Cut cuts.Input) kind = kind
+ends_pairs w (whys.Cut cuts.Output) kind = kind
+ends_pairs w (whys.Cut cuts.Entropy) kind = kind
+ends_pairs w (whys.Cut cuts.Memory) kind = tt

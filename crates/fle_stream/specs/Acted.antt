@@ -6,7 +6,7 @@ use Rattle.fle_outside.specs.Seen.{SourceSeen, FolderSeen, SinkSeen, EntropySeen
 use Rattle.fle_stream.specs.Did.{Did}
 use Rattle.fle_stream.specs.Made.{IsOfOutput}
 use Rattle.fle_stream.specs.Plan.{draws_of, size_of}
-use Rattle.fle_stream.specs.Task.{Task, fails, makes, each, outcome_of, reads_input}
+use Rattle.fle_stream.specs.Task.{Task, fails, makes, each, pairs, outcome_of, reads_input}
 use Rattle.fle_stream.specs.Turn.{IsOfStream, Pace, RunTook}
 use Rattle.fle_stream.specs.declared.end.End.{End}
 use Rattle.fle_stream.specs.declared.why.Why.{Why}
@@ -33,7 +33,7 @@ abbrev pub AreAny : FolderSeen → Files → Type 0
 AreAny files all = Unit {0}
 
 -- how a task ends: one that fails ends so, one that makes an output is done, or its output or its blocks failed, and no
--- end is of words or files where each document is judged; a folder's failure may come first, and memory may run out
+-- end is of words or files where documents are judged; a folder's failure may come first, and memory may run out
 abbrev pub EndsAs : Task → Why → Type 0
 EndsAs t (whys.Cut cuts.Folder) = Unit {0}
 EndsAs t (whys.Cut cuts.Memory) = Unit {0}
@@ -41,6 +41,7 @@ EndsAs (fails finish) why = why ≡ whys.Finished finish
 EndsAs (makes plan) (whys.Cut cuts.Entropy) = Unit {0}
 EndsAs (makes plan) why = IsOfOutput why
 EndsAs (each v) why = IsOfStream why
+EndsAs (pairs w) why = IsOfStream why
 
 -- a verb ran over these objects, and ended so: its task follows from the files that it goes by, and it reads the input
 -- at this pace

@@ -9,6 +9,8 @@ pub mod Judge
 pub mod Write
 pub mod Line
 pub mod Held
+pub mod Pairs
+pub mod Check
 pub mod Task
 pub mod Files
 pub mod Did

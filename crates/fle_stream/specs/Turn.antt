@@ -51,6 +51,7 @@ EndsBy cut (turns.Ended at why) = why ≡ whys.Cut cut
 abbrev pub IsOfStream : Why → Type 0
 IsOfStream (whys.Finished finishes.Words) = ⊥
 IsOfStream (whys.Finished (finishes.Setup file fault document)) = ⊥
+IsOfStream (whys.Finished (finishes.Key reason document)) = ⊥
 IsOfStream (whys.Finished finish) = Unit {0}
 IsOfStream (whys.Cut cuts.Folder) = ⊥
 IsOfStream (whys.Cut cut) = Unit {0}
@@ -75,3 +76,9 @@ WroteOf documents size (turns.Ended at why) = Unit {0}
 abbrev pub EndsAt : ℕ → Turn → Type 0
 EndsAt number (turns.Wrote n d) = Unit {0}
 EndsAt number (turns.Ended at why) = at ≡ number
+
+-- what the second half of a turn over pairs took, behind a first document of so many bytes and this number
+abbrev pub TookBehind : ℕ → ℕ → ℕ → ℕ → Turn → Type 0
+TookBehind size number before after (turns.Wrote n d) = (size ≤ n) × RoseBy before after (n - size)
+TookBehind size number before after (turns.Ended at why) =
+    (number ≤ at) × (at ≤ number + 1) × (min before (2 ^ 64 - 1) ≤ after) × (after ≤ before + 48000000)

@@ -3,6 +3,7 @@
 ghost use Rattle.std.specs.Prelude.{◌≡◌, ◌^◌, ◌≤◌, length};
 ghost use Rattle.bson_tree.specs.Spelling.{doc_bytes};
 ghost use Rattle.bson_tree.specs.Tree.{Items};
+ghost use Rattle.fle_outside.specs.Seen.{EntropySeen};
 ghost use Rattle.fle_stream.specs.Judge.{JudgeIs};
 ghost use Rattle.fle_stream.specs.Plan.{Verdict};
 ghost use Rattle.fle_stream.specs.Write.{WriteIs};
@@ -67,15 +68,23 @@ impl<J: Judge> DocumentWriter for Judging<J> {
         out: &mut O,
         entropy: &mut N,
     ) -> Result<(), Why> {
-        match self.judge.judge(alloc, document, entropy) {
-            Judged::Written(output) => match write_whole(out, &output) {
-                Ok(()) => Ok(()),
-                Err(Failed) => Err(Why::Cut(Cut::Output)),
-            },
-            Judged::Refused(reason, place) => Err(Why::Finished(Finish::Refused(reason, place))),
-            Judged::TooLong => Err(Why::Finished(Finish::Limit(Bound::Output))),
-            Judged::Undrawn => Err(Why::Cut(Cut::Entropy)),
-            Judged::Memory => Err(Why::Cut(Cut::Memory)),
-        }
+        write_judged(self.judge.judge(alloc, document, entropy), out)
+    }
+}
+
+/// Writes the output that was made of a document whole, or says why the run ends there.
+pub(crate) fn write_judged<O: Sink>(judged: Judged, out: &mut O) -> Result<(), Why>
+    ensures wrote { (v : Verdict) (before now : EntropySeen) → JudgeIs v before now judged
+        → WriteIs v before now (O.seen out.old) (O.seen out.new) result }
+{
+    match judged {
+        Judged::Written(output) => match write_whole(out, &output) {
+            Ok(()) => Ok(()),
+            Err(Failed) => Err(Why::Cut(Cut::Output)),
+        },
+        Judged::Refused(reason, place) => Err(Why::Finished(Finish::Refused(reason, place))),
+        Judged::TooLong => Err(Why::Finished(Finish::Limit(Bound::Output))),
+        Judged::Undrawn => Err(Why::Cut(Cut::Entropy)),
+        Judged::Memory => Err(Why::Cut(Cut::Memory)),
     }
 }

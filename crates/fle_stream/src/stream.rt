@@ -4,13 +4,14 @@ ghost use Rattle.std.specs.Prelude.{◌≡◌, ◌<◌};
 ghost use Rattle.fle_outside.specs.Seen.{EntropySeen, FolderSeen};
 ghost use Rattle.fle_stream.specs.Acted.{Acted, AreAny, objects};
 ghost use Rattle.fle_stream.specs.Plan.{DrawsNone};
-ghost use Rattle.fle_stream.specs.Task.{each, one_document};
+ghost use Rattle.fle_stream.specs.Task.{each, one_document, pairs, two_documents};
 ghost use Rattle.fle_stream.specs.Turn.{IsOfStream};
 
 use crate::end::End;
 use crate::judging::{Judge, Judging};
 use crate::no_blocks::NoBlocks;
 use crate::one_by_one::{DocumentWriter, OneByOne};
+use crate::pairing::{PairJudge, PairJudging};
 use crate::turning::run_turns;
 use crate::why::{Cut, Why};
 use fle_outside::{Entropy, Sink, Source};
@@ -92,4 +93,25 @@ pub fn judge_without_blocks<J: Judge + Drop, S: Source, O: Sink>(
     ensures undrawn { result.why ≡ Why.Cut Cut.Entropy → ⊥ }
 {
     write_without_blocks(alloc, Judging { judge }, input, out)
+}
+
+/// Judges the documents of the input pair by pair, each first one after its answer, and writes its output, until one
+/// ends the run.
+pub fn judge_pairs<J: PairJudge + Drop, S: Source, O: Sink, N: Entropy>(
+    alloc: Global,
+    judge: J,
+    input: &mut S,
+    out: &mut O,
+    entropy: &mut N,
+) -> End
+    requires ready { J.ready judge }
+    ensures run { (files : FolderSeen) → Acted AreAny (λ _. pairs (J.pairing judge)) two_documents
+        (objects (S.seen input.old) files (O.seen out.old) (N.seen entropy.old))
+        (objects (S.seen input.new) files (O.seen out.new) (N.seen entropy.new)) result }
+    ensures kind { IsOfStream result.why }
+    ensures numbered { 0 < result.number }
+    ensures undrawn { DrawsNone (J.pairing judge).comes → result.why ≡ Why.Cut Cut.Entropy → ⊥ }
+{
+    let mut verb = PairJudging { judge };
+    run_turns(alloc, &mut verb, input, out, entropy)
 }
