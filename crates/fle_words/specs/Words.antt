@@ -14,8 +14,10 @@ pub data Form : Type 0 where
   keys : List ℕ → Form
   keygen : List ℕ → List (List ℕ) → Form
   encrypt : List ℕ → List ℕ → List ℕ → List ℕ → Form
+  encrypt_with : List ℕ → List ℕ → List ℕ → List ℕ → Form
   decrypt : List ℕ → List ℕ → Form
   demo : List ℕ → ℕ → Form
+  rewrap : List ℕ → List ℕ → List ℕ → Form
 
 -- `mark DB SCHEMAS`: DB has 1 to 63 bytes, SCHEMAS isn't empty
 abbrev pub mark_form : List ℕ → List ℕ → Option Form
@@ -27,6 +29,12 @@ abbrev pub encrypt_form : List ℕ → List ℕ → List ℕ → List ℕ → Op
 encrypt_form db vault schemas master =
     if (length db == 0 || nat_lt 63 (length db) || length vault == 0 || length schemas == 0 || length master == 0)
     then None else Some (encrypt db vault schemas master)
+
+-- `encrypt-with DB KEYS SCHEMAS MASTER`: the same
+abbrev pub encrypt_with_form : List ℕ → List ℕ → List ℕ → List ℕ → Option Form
+encrypt_with_form db vault schemas master =
+    if (length db == 0 || nat_lt 63 (length db) || length vault == 0 || length schemas == 0 || length master == 0)
+    then None else Some (encrypt_with db vault schemas master)
 
 -- `decrypt KEYS MASTER`: neither is empty
 abbrev pub decrypt_form : List ℕ → List ℕ → Option Form
@@ -75,6 +83,11 @@ counted_form db (Some n) = Some (demo db n)
 abbrev pub demo_form : List ℕ → List ℕ → Option Form
 demo_form db count = if (length db == 0 || nat_lt 63 (length db)) then None else counted_form db (count_in count)
 
+-- `rewrap OLD NEW KEYS`: OLD, NEW and KEYS aren't empty
+abbrev pub rewrap_form : List ℕ → List ℕ → List ℕ → Option Form
+rewrap_form from to vault =
+    if (length from == 0 || length to == 0 || length vault == 0) then None else Some (rewrap from to vault)
+
 -- the words behind `mark`: a database and a file of collection infos
 abbrev pub mark_words : List (List ℕ) → Option Form
 mark_words (db ∷ schemas ∷ []) = mark_form db schemas
@@ -100,6 +113,11 @@ abbrev pub encrypt_words : List (List ℕ) → Option Form
 encrypt_words (db ∷ vault ∷ schemas ∷ master ∷ []) = encrypt_form db vault schemas master
 encrypt_words _ = None
 
+-- the words behind `encrypt-with`: a database, a vault, a file of collection infos and a master key's file
+abbrev pub encrypt_with_words : List (List ℕ) → Option Form
+encrypt_with_words (db ∷ vault ∷ schemas ∷ master ∷ []) = encrypt_with_form db vault schemas master
+encrypt_with_words _ = None
+
 -- the words behind `decrypt`: a vault and a master key's file
 abbrev pub decrypt_words : List (List ℕ) → Option Form
 decrypt_words (vault ∷ master ∷ []) = decrypt_form vault master
@@ -110,6 +128,11 @@ abbrev pub demo_words : List (List ℕ) → Option Form
 demo_words (db ∷ count ∷ []) = demo_form db count
 demo_words _ = None
 
+-- the words behind `rewrap`: the files of the old master key and of the new one, and a vault
+abbrev pub rewrap_words : List (List ℕ) → Option Form
+rewrap_words (from ∷ to ∷ vault ∷ []) = rewrap_form from to vault
+rewrap_words _ = None
+
 -- the form of a verb and the words behind it
 abbrev pub verb_form : List ℕ → List (List ℕ) → Option Form
 verb_form verb words =
@@ -118,8 +141,10 @@ verb_form verb words =
     else (if is_verb verb (codes "keys") then keys_words words
     else (if is_verb verb (codes "keygen") then keygen_words words
     else (if is_verb verb (codes "encrypt") then encrypt_words words
+    else (if is_verb verb (codes "encrypt-with") then encrypt_with_words words
     else (if is_verb verb (codes "decrypt") then decrypt_words words
-    else (if is_verb verb (codes "demo") then demo_words words else None))))))
+    else (if is_verb verb (codes "demo") then demo_words words
+    else (if is_verb verb (codes "rewrap") then rewrap_words words else None))))))))
 
 -- the form that all words have behind the program's name, where they have one
 abbrev pub form_of : List (List ℕ) → Option Form
@@ -134,8 +159,10 @@ asked_form asked.Show = Some show
 asked_form (asked.Keys vault) = Some (keys vault.now)
 asked_form (asked.Keygen master names) = Some (keygen master.now (map string_bytes names.now))
 asked_form (asked.Encrypt db vault schemas master) = Some (encrypt db.now vault.now schemas.now master.now)
+asked_form (asked.EncryptWith db vault schemas master) = Some (encrypt_with db.now vault.now schemas.now master.now)
 asked_form (asked.Decrypt vault master) = Some (decrypt vault.now master.now)
 asked_form (asked.Demo db n) = Some (demo db.now n)
+asked_form (asked.Rewrap from to vault) = Some (rewrap from.now to.now vault.now)
 
 -- the names of a new key are few and small enough for its document, and the demo's commands few and short
 abbrev pub AreFew : Asked → Type 0
@@ -144,9 +171,11 @@ AreFew (asked.Mark db schemas) = Unit {0}
 AreFew asked.Show = Unit {0}
 AreFew (asked.Keys vault) = Unit {0}
 AreFew (asked.Encrypt db vault schemas master) = Unit {0}
+AreFew (asked.EncryptWith db vault schemas master) = Unit {0}
 AreFew (asked.Decrypt vault master) = Unit {0}
 AreFew (asked.Keygen master names) = (length names.now ≤ 1000) × (size_of (map string_bytes names.now) ≤ 15999840)
 AreFew (asked.Demo db n) = (length db.now ≤ 63) × (n ≤ 100000)
+AreFew (asked.Rewrap from to vault) = Unit {0}
 
 -- a run of these words draws no random block
 abbrev pub DrawsNoBlock : Option Form → Type 0
@@ -156,5 +185,7 @@ DrawsNoBlock (Some show) = Unit {0}
 DrawsNoBlock (Some (keys vault)) = Unit {0}
 DrawsNoBlock (Some (keygen master names)) = ⊥
 DrawsNoBlock (Some (encrypt db vault schemas master)) = ⊥
+DrawsNoBlock (Some (encrypt_with db vault schemas master)) = ⊥
 DrawsNoBlock (Some (decrypt vault master)) = Unit {0}
 DrawsNoBlock (Some (demo db n)) = Unit {0}
+DrawsNoBlock (Some (rewrap from to vault)) = ⊥

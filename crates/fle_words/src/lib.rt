@@ -6,6 +6,7 @@
 //! ```
 #![tactic(auto)]
 
+mod names;
 mod words;
 
 pub use words::{Asked, read_words};

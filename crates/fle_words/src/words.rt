@@ -1,21 +1,16 @@
 //! The words of a command line.
 
-ghost use Rattle.std.specs.Prelude.{◌≡◌, ◌≤◌, Bool, IfSome, not, true, nat_lt, length, map, string_bytes};
-ghost use Rattle.data_key.specs.Written.{size_of};
-ghost use Rattle.fle_words.specs.Words.{are_names, AreFew, asked_form, count_in, counted_form, decrypt_words};
-ghost use Rattle.fle_words.specs.Words.{demo_words, each_once, encrypt_words, form_of, is_count, keygen_words};
-ghost use Rattle.fle_words.specs.Words.{keys_words, mark_words, show_words, times, verb_form};
+ghost use Rattle.std.specs.Prelude.{◌≡◌, ◌≤◌, IfSome, length, map, string_bytes};
+ghost use Rattle.fle_words.specs.Words.{AreFew, asked_form, count_in, counted_form, decrypt_words};
+ghost use Rattle.fle_words.specs.Words.{demo_words, encrypt_with_words, encrypt_words, form_of, is_count};
+ghost use Rattle.fle_words.specs.Words.{keygen_words, keys_words, mark_words, rewrap_words, show_words};
+ghost use Rattle.fle_words.specs.Words.{verb_form};
 
+use crate::names::are_names;
 use itoa::Buffer;
 
 /// A database's name has at most this many bytes.
 const MAX_DB: usize = 63;
-
-/// A new key has at most this many names.
-const MAX_NAMES: usize = 1000;
-
-/// They have at most this many bytes together.
-const MAX_NAME_BYTES: usize = 15_999_840;
 
 /// The demo has at most this many commands.
 const MAX_COMMANDS: u32 = 100_000;
@@ -57,6 +52,17 @@ pub enum Asked<'a> {
         /// The name of the file of the master key.
         master: &'a str,
     },
+    /// The same, each command behind which its marking reply stands.
+    EncryptWith {
+        /// The database's name.
+        db: &'a str,
+        /// The name of the file of key documents.
+        keys: &'a str,
+        /// The name of the file of collection infos.
+        schemas: &'a str,
+        /// The name of the file of the master key.
+        master: &'a str,
+    },
     /// Each document with its payloads opened.
     Decrypt {
         /// The name of the file of key documents.
@@ -70,6 +76,15 @@ pub enum Asked<'a> {
         db: &'a str,
         /// How many commands.
         n: u32,
+    },
+    /// The keys of a vault under another master key.
+    Rewrap {
+        /// The name of the file of the master key that they are under.
+        from: &'a str,
+        /// The name of the file of the other one.
+        to: &'a str,
+        /// The name of the file of key documents.
+        vault: &'a str,
     },
 }
 
@@ -104,11 +119,17 @@ fn verb_words<'a>(verb: &str, words: &'a [String]) -> Asked<'a>
     if verb == "encrypt" {
         return encrypt_words(words);
     }
+    if verb == "encrypt-with" {
+        return encrypt_with_words(words);
+    }
     if verb == "decrypt" {
         return decrypt_words(words);
     }
     if verb == "demo" {
         return demo_words(words);
+    }
+    if verb == "rewrap" {
+        return rewrap_words(words);
     }
     Asked::Nothing
 }
@@ -187,6 +208,27 @@ fn encrypt_words(words: &[String]) -> Asked<'_>
     }
 }
 
+/// The words behind `encrypt-with`.
+fn encrypt_with_words(words: &[String]) -> Asked<'_>
+    ensures asked { asked_form result ≡ encrypt_with_words (map string_bytes words.now) }
+    ensures few { AreFew result }
+{
+    match words {
+        [db, keys, schemas, master]
+            if !db.is_empty()
+                && db.len() <= MAX_DB
+                && !keys.is_empty()
+                && !schemas.is_empty()
+                && !master.is_empty() => Asked::EncryptWith {
+            db: db.as_str(),
+            keys: keys.as_str(),
+            schemas: schemas.as_str(),
+            master: master.as_str(),
+        },
+        _ => Asked::Nothing,
+    }
+}
+
 /// The words behind `decrypt`.
 fn decrypt_words(words: &[String]) -> Asked<'_>
     ensures asked { asked_form result ≡ decrypt_words (map string_bytes words.now) }
@@ -208,6 +250,22 @@ fn demo_words(words: &[String]) -> Asked<'_>
 {
     match words {
         [db, count] if !db.is_empty() && db.len() <= MAX_DB => counted(db.as_str(), count.as_str()),
+        _ => Asked::Nothing,
+    }
+}
+
+/// The words behind `rewrap`.
+fn rewrap_words(words: &[String]) -> Asked<'_>
+    ensures asked { asked_form result ≡ rewrap_words (map string_bytes words.now) }
+    ensures few { AreFew result }
+{
+    match words {
+        [from, to, vault] if !from.is_empty() && !to.is_empty() && !vault.is_empty() =>
+            Asked::Rewrap {
+                from: from.as_str(),
+                to: to.as_str(),
+                vault: vault.as_str(),
+            },
         _ => Asked::Nothing,
     }
 }
@@ -241,50 +299,4 @@ fn is_count(word: &str, n: u32) -> bool
 {
     let mut digits = Buffer::new();
     word == digits.format(n) && 1 <= n && n <= MAX_COMMANDS
-}
-
-/// Whether these are the names of a new key.
-fn are_names(names: &[String]) -> bool
-    ensures names { result ≡ are_names (map string_bytes names.now) }
-{
-    names.len() <= MAX_NAMES && are_small(names) && each_once(names)
-}
-
-/// Whether the names have few enough bytes together.
-fn are_small(names: &[String]) -> bool
-    ensures small { result ≡ not (nat_lt 15999840 (size_of (map string_bytes names.now))) }
-{
-    let mut left = MAX_NAME_BYTES;
-    for name in names {
-        if left < name.len() {
-            return false;
-        }
-        left -= name.len();
-    }
-    true
-}
-
-/// Whether no name is empty, and each stands once.
-fn each_once(names: &[String]) -> bool
-    ensures once { result ≡ each_once (map string_bytes names.now) (map string_bytes names.now) }
-{
-    for name in names {
-        if name.is_empty() || times(name.as_str(), names) != 1 {
-            return false;
-        }
-    }
-    true
-}
-
-/// How many of the names are this one.
-fn times(name: &str, names: &[String]) -> usize
-    ensures times { result ≡ times name.now (map string_bytes names.now) }
-{
-    let mut n = 0;
-    for other in names {
-        if name == other.as_str() {
-            n += 1;
-        }
-    }
-    n
 }

@@ -1,7 +1,7 @@
 use Rattle.std.proofs.Common.{◌≡◌, drop, map}
 use Rattle.std.specs.Prelude.{string_bytes}
 use Rattle.fle_words.specs.Words.{each_once}
-use Rattle.fle_words.proofs.words.each_once.Given as goal
+use Rattle.fle_words.proofs.names.each_once.Given as goal
 
 abbrev pub invariant-loop-name : goal.invariant-loop-name
 invariant-loop-name l = record {

@@ -1,7 +1,7 @@
 use Rattle.std.proofs.Common.{◌≡◌, ◌+◌, drop, map}
 use Rattle.std.specs.Prelude.{string_bytes}
 use Rattle.data_key.specs.Written.{size_of}
-use Rattle.fle_words.proofs.words.are_small.Given as goal
+use Rattle.fle_words.proofs.names.are_small.Given as goal
 
 abbrev pub invariant-loop-name : goal.invariant-loop-name
 invariant-loop-name l = record {
