@@ -20,7 +20,7 @@ use Rattle.fle_stream.proofs.Acts.{IsEarly, acts_early}
 use Rattle.fle_stream.proofs.Programs.{did_task, did_fail, did_folder, did_memory, ends_task}
 use Rattle.fle_files.specs.Infos.{ReadsAs, infos_read}
 use Rattle.fle_files.specs.Setup.{Leads, infos_limit, infos_or, infos_why, master_limit, master_or, master_why}
-use Rattle.fle_files.specs.Setup.{vault_limit, vault_or, vault_why, with_infos, with_master, with_vault}
+use Rattle.fle_files.specs.Setup.{vault_limit, vault_or, vault_why, with_infos, with_keys, with_master, with_vault}
 use Rattle.fle_files.specs.declared.infos.InfosFault.{InfosFault}
 use Rattle.fle_files.specs.declared.infos.InfosFault.TheVariants as infos_faults
 
@@ -53,6 +53,16 @@ pub vault_fail : (number : ℕ) (file : Option (List ℕ)) (bytes : List ℕ) (f
 vault_fail number file bytes (vault_faults.Bad document kind) load read =
     λ next. load (λ bs. vault_or number next (vault bs)) ∙ ap (vault_or number next) read
 vault_fail number file bytes vault_faults.Memory load read = tt
+
+-- the same where the file's bytes lead on beside its keys
+pub keys_fail : (number : ℕ) (file : Option (List ℕ)) (bytes : List ℕ) (fault : VaultFault)
+    → IsLoaded number vault_limit file bytes → Loads (Err fault) (vault bytes)
+    → Leads (with_keys number file) (Err (vault_why number fault))
+keys_fail number file bytes (vault_faults.Bad document kind) load read =
+    λ next.
+    load (λ bs. vault_or number (λ keys. next (record { bytes = bs; keys = keys })) (vault bs))
+    ∙ ap (vault_or number (λ keys. next (record { bytes = bytes; keys = keys }))) read
+keys_fail number file bytes vault_faults.Memory load read = tt
 
 pub master_fail : (number : ℕ) (file : Option (List ℕ)) (bytes : List ℕ) (fault : MasterFault)
     → IsLoaded number master_limit file bytes → master_in bytes ≡ Err fault

@@ -20,6 +20,7 @@ use Rattle.fle_files.specs.Infos.{infos_read}
 use Rattle.fle_files.specs.Numbers.{master_number, vault_number}
 use Rattle.fle_files.specs.declared.infos.InfosFault.{InfosFault}
 use Rattle.fle_files.specs.declared.infos.InfosFault.TheVariants as infos_faults
+use Rattle.fle_files.specs.declared.setup.KeysFile.{KeysFile}
 
 -- the contents of this file are at fault: the fault's number, and that of the faulty document in it, 0 where it is at
 -- fault as a whole
@@ -75,6 +76,12 @@ with_infos number file next = with_file number infos_limit file (λ bytes. infos
 -- the vault is missing, too long or at fault, or its keys lead on
 abbrev pub with_vault : ℕ → Option (List ℕ) → (List KeyDoc → Task) → Task
 with_vault number file next = with_file number vault_limit file (λ bytes. vault_or number next (vault bytes))
+
+-- the same where the file's bytes lead on beside its keys
+abbrev pub with_keys : ℕ → Option (List ℕ) → (KeysFile → Task) → Task
+with_keys number file next =
+    with_file number vault_limit file
+    (λ bytes. vault_or number (λ keys. next (record { bytes = bytes; keys = keys })) (vault bytes))
 
 -- the master key's file is missing, too long or at fault, or the key leads on
 abbrev pub with_master : ℕ → Option (List ℕ) → (List ℕ → Task) → Task

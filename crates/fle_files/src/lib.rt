@@ -12,4 +12,4 @@ mod setup;
 
 pub use infos::{InfosFault, read_infos};
 pub use numbers::{number_of_master, number_of_reason, number_of_vault};
-pub use setup::{load_infos, load_master, load_vault};
+pub use setup::{KeysFile, load_infos, load_keys, load_master, load_vault};

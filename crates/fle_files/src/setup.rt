@@ -1,14 +1,16 @@
 //! What the named files of the words hold: collection infos, a key vault, a master key.
 
-ghost use Rattle.std.specs.Prelude.{true, ◌≡◌, ◌≤◌, IfErr, Some};
+ghost use Rattle.std.specs.Prelude.{true, ◌≡◌, ◌≤◌, length, IfErr, IfOk, Ok, Some};
+ghost use Rattle.key_vault.specs.Loading.{vault};
 ghost use Rattle.fle_outside.specs.Counts.{Rose};
 ghost use Rattle.fle_outside.specs.Files.{Files, file_of};
 ghost use Rattle.fle_files.specs.Setup.{Leads, at_fault, infos_why, master_why, vault_why};
-ghost use Rattle.fle_files.specs.Setup.{with_infos, with_master, with_vault};
+ghost use Rattle.fle_files.specs.Setup.{vault_limit, with_infos, with_keys, with_master, with_vault};
 ghost use Rattle.fle_stream.specs.Files.{IsOfFiles};
 
 use crate::infos::{InfosFault, read_infos};
 use crate::numbers::{number_of_master, number_of_vault};
+use bson_tree::Bytes;
 use encrypt_schema::Infos;
 use fle_outside::Folder;
 use fle_stream::{Cut, Finish, Number, SetupFault, Why, load_file};
@@ -75,6 +77,48 @@ pub fn load_vault<F: Folder>(
     };
     match Vault::load(alloc, &bytes) {
         Ok(vault) => Ok(vault),
+        Err(fault) => Err(why_vault(number, fault)),
+    }
+}
+
+/// A file of key documents, and the keys that it holds.
+#[derive(Drop)]
+pub struct KeysFile {
+    /// The bytes of the file.
+    pub bytes: Bytes,
+    /// Its keys.
+    pub keys: Vault,
+}
+
+/// Loads the key vault of the file of this number in the order of the words, and keeps the file's bytes beside its
+/// keys.
+pub fn load_keys<F: Folder>(
+    alloc: Global,
+    files: &mut F,
+    number: u8,
+    name: &str,
+) -> Result<KeysFile, Why>
+    ensures leads { (all : Files) → (F.seen files.old).told ≡ Some all
+        → Leads (with_keys number (file_of all name.now)) result }
+    ensures loaded { IfOk result (λ file. vault file.bytes ≡ Ok file.keys) }
+    ensures small { IfOk result (λ file. length file.bytes ≤ vault_limit) }
+    ensures kind { IfErr result IsOfFiles }
+    ensures same { (F.seen files.new).told ≡ (F.seen files.old).told }
+    ensures later { (F.seen files.old).faults ≤ (F.seen files.new).faults }
+    ensures cause { IfErr result (λ why. why ≡ Why.Cut Cut.Folder
+        → Rose (F.seen files.old).faults (F.seen files.new).faults) }
+    ensures sure { (F.seen files.old).assured ≡ true
+        → IfErr result (λ why. why ≡ Why.Cut Cut.Folder → ⊥) × ((F.seen files.new).assured ≡ true) }
+{
+    let bytes = match load_file(alloc, files, number, name, VAULT_LIMIT) {
+        Ok(bytes) => bytes,
+        Err(why) => return Err(why),
+    };
+    match Vault::load(alloc, &bytes) {
+        Ok(keys) => Ok(KeysFile {
+            bytes: Bytes::from_vec(bytes),
+            keys,
+        }),
         Err(fault) => Err(why_vault(number, fault)),
     }
 }
