@@ -9,3 +9,4 @@ pub mod Asked
 pub mod Shapes
 pub mod Readings
 pub mod Flags
+pub mod Clear
