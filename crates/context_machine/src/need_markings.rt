@@ -4,7 +4,7 @@ ghost use Rattle.std.specs.Prelude.{◌≡◌, [], false, true, None, Some, opti
 ghost use Rattle.bson_tree.specs.Spelling.{doc_bytes};
 ghost use Rattle.command_marker.specs.Commands.{is_marked_command};
 ghost use Rattle.context_machine.specs.Replying.{RepliesTo};
-ghost use Rattle.context_machine.specs.Waiting.{IsRefusal};
+ghost use Rattle.context_machine.specs.Waiting.{IsMarked, IsRefusal};
 ghost use Rattle.encrypt_schema.specs.Commands.Offences.{is_view};
 ghost use Rattle.encrypt_schema.specs.Commands.Targets.{rows_in};
 ghost use Rattle.encrypt_schema.specs.Commands.Visits.{content_verdict};
@@ -14,7 +14,7 @@ use crate::need_keys::NeedKeys;
 use crate::replying::{ReplyStop, reply_marked, reply_unmarked};
 use crate::wanted::Wanted;
 use bson_codec::RawDoc;
-use command_marker::mark_command;
+use command_marker::{Marked, mark_command};
 use encrypt_schema::{Info, MarkFault};
 use fle_outside::Memory;
 use std::alloc::Global;
@@ -76,6 +76,24 @@ impl<'a> NeedMarkings<'a> {
         match self.info {
             Some(info) => reply_marked(alloc, &self.command, info),
             None => reply_unmarked(alloc, &self.command),
+        }
+    }
+
+    /// The command with the marks of its protected values under the rules of its collection, none without an info; else
+    /// the first place that is refused by its contents. `Memory` may come at any time. The state stays: it may go on.
+    pub fn marked(&self, alloc: Global) -> Result<Option<Marked<'a>>, MarkFault>
+        ensures marked { IfOk result (IsMarked self.now.info self.now.command) }
+        ensures accepted { IfOk result (λ _. content_verdict (rows_in self.now.info) self.now.command.start
+            self.now.command.tree ≡ None) }
+        ensures refused { IfErr result (IsRefusal (content_verdict (rows_in self.now.info) self.now.command.start
+            self.now.command.tree)) }
+    {
+        match self.info {
+            Some(info) => match mark_command(alloc, info.rows(), self.command.again()) {
+                Ok(marked) => Ok(Some(marked)),
+                Err(fault) => Err(fault),
+            },
+            None => Ok(None),
         }
     }
 
