@@ -8,3 +8,4 @@ pub mod Fed
 pub mod Seals
 pub mod Unseals
 pub mod Loads
+pub mod Checks

@@ -6,7 +6,7 @@ use Rattle.command_marker.specs.Commands.{collection_in}
 use Rattle.context_machine.specs.Beginning.{AsksMarkings, BeginsAs, fed_found, fed_info}
 use Rattle.context_machine.specs.States.{Asks}
 use Rattle.context_machine.specs.declared.begun.Begun.TheVariants as begins
-use Rattle.context_machine.proofs.Infos.{found_kept}
+use Rattle.context_machine.proofs.Infos.{found_info, found_kept}
 use Rattle.encrypt_schema.specs.Commands.Offences.{is_view}
 use Rattle.encrypt_schema.specs.Commands.Targets.{rows_in}
 use Rattle.encrypt_schema.specs.Language.Collection.{Collection, collection_of}
@@ -53,6 +53,7 @@ marking_starts db infos command first second next whole begun found marks =
       λ accepted. asks_told accepted db infos command whole begun.1 begun.2
           ∙ (into_contents accepted info command.tree real
           ∙ ap (λ (a : Asks). contents_with accepted (rows_in a.info) command.tree) (sym goes)),
+      sym (ap rows_in (ap (λ (a : Asks). a.info) goes ∙ found_info db infos command begun.1 begun.2)),
     )
 
 -- its fields aren't refused, but its collection is a view

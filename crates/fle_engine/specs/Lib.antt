@@ -6,3 +6,4 @@ pub mod Sealing
 pub mod Opening
 pub mod Loading
 pub mod Engines
+pub mod Checking

@@ -3,7 +3,7 @@ use Rattle.std.specs.Prelude.{◌≡◌, ℕ, true, List, Result, Ok, Err}
 use Rattle.bson_codec.specs.Borrowed.{At}
 use Rattle.bson_tree.specs.Tree.{Items}
 use Rattle.command_marker.specs.Commands.{passes}
-use Rattle.encrypt_schema.specs.Commands.Targets.{rows_in}
+use Rattle.encrypt_schema.specs.Commands.Targets.{rows_in, rows_of}
 use Rattle.encrypt_schema.specs.Language.Collection.{Collection}
 use Rattle.encrypt_schema.specs.Language.Row.{Row}
 use Rattle.encrypt_schema.specs.declared.command.marks.MarkFault.{MarkFault}
@@ -19,5 +19,6 @@ StartsAs infos db command (Ok (starts.Marking state)) =
     (state.command ≡ command)
     × ((accepted : List Row → Items → Ruling) → ruling_with accepted infos db command.tree
     ≡ contents_with accepted (rows_in state.info) command.tree)
+    × (rows_of infos command.tree ≡ rows_in state.info)
 StartsAs infos db command (Err fault) =
     (accepted : List Row → Items → Ruling) → Tells fault (ruling_with accepted infos db command.tree)

@@ -11,6 +11,7 @@
 #![tactic(auto)]
 
 mod answer;
+mod checking;
 mod engine;
 mod loading;
 mod marker;
@@ -22,6 +23,7 @@ mod sealing;
 mod starting;
 
 pub use answer::{Answer, Refused};
+pub use checking::{Declined, Untaken};
 pub use engine::Engine;
 pub use loading::EngineFault;
 pub use marker::Marker;

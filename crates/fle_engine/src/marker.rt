@@ -1,15 +1,17 @@
 //! The marking service of a database.
 
-ghost use Rattle.std.specs.Prelude.{◌≡◌, List, ℕ, IfOk};
+ghost use Rattle.std.specs.Prelude.{◌≡◌, List, ℕ, IfOk, None};
 ghost use Rattle.command_marker.specs.Reply.{RepliesAs};
 ghost use Rattle.fle_engine.specs.Answers.{AnswerIs};
+ghost use Rattle.fle_engine.specs.Checking.{AcceptsAs, TakesAs, wrong_to};
 ghost use Rattle.fle_engine.specs.Replies.{mark_ruling, replies, sized};
 ghost use Rattle.fle_engine.specs.Rulings.{contents_with};
-ghost use Rattle.encrypt_schema.specs.Commands.Targets.{rows_in};
+ghost use Rattle.encrypt_schema.specs.Commands.Targets.{rows_in, verdict};
 ghost use Rattle.fle_outside.specs.Seen.{EntropySeen};
 ghost use Rattle.bson_tree.specs.Tree.{Items};
 
 use crate::answer::Answer;
+use crate::checking::{Declined, Untaken, accept_command, take_reply};
 use crate::refusing::{refuse_fault, refuse_reply};
 use crate::starting::{Started, start};
 use bson_codec::RawDoc;
@@ -46,6 +48,32 @@ impl Marker {
             → AnswerIs (mark_ruling self.now.infos self.now.db.items command.now.tree) command.now.tree e e result }
     {
         reply_to_command(alloc, self, command)
+    }
+
+    /// Whether a command is accepted by itself, as `mark` does: it isn't refused for its fields, its collection or its
+    /// contents. It draws no block.
+    pub fn accept(&self, alloc: Global, command: &RawDoc<'_>) -> Result<(), Declined>
+        requires whole { command.now.start ≡ 0 }
+        ensures accepts { AcceptsAs (verdict self.now.db.items self.now.infos 0 command.now.tree) command.now.tree
+            result }
+    {
+        accept_command(alloc, self, command)
+    }
+
+    /// Whether a reply that came from elsewhere is the right one to an accepted command, so that it may be sealed as
+    /// this service marks it. It draws no block.
+    pub fn take(
+        &self,
+        alloc: Global,
+        command: &RawDoc<'_>,
+        reply: &RawDoc<'_>,
+    ) -> Result<(), Untaken>
+        requires whole { command.now.start ≡ 0 }
+        requires front { reply.now.start ≡ 0 }
+        requires accepted { verdict self.now.db.items self.now.infos 0 command.now.tree ≡ None }
+        ensures takes { TakesAs (wrong_to self.now.infos command.now.tree reply.now.tree) reply.now.tree result }
+    {
+        take_reply(alloc, self, command, reply)
     }
 }
 
