@@ -6,9 +6,10 @@ use Rattle.encrypt_schema.specs.Language.Collection.{Collection}
 use Rattle.fle_engine.specs.declared.engine.Engine.{Engine}
 use Rattle.fle_engine.specs.declared.marker.Marker.{Marker}
 use Rattle.fle_engine.specs.declared.opener.Opener.{Opener}
-use Rattle.fle_stream.specs.Task.{each}
+use Rattle.fle_stream.specs.Task.{each, pairs}
 use Rattle.fle_runner.specs.Decrypt.{decrypt_verdict}
 use Rattle.fle_runner.specs.Encrypt.{encrypt_verdict}
+use Rattle.fle_runner.specs.EncryptWith.{encrypt_pairing}
 use Rattle.fle_runner.specs.Mark.{mark_verdict}
 use Rattle.fle_runner.specs.declared.decrypt.OpeningFiles.{OpeningFiles}
 use Rattle.fle_runner.specs.declared.encrypt.SealingFiles.{SealingFiles}
@@ -32,4 +33,15 @@ seals_as held db e rules secrets =
     ap₂ (λ (ks : List KeyDoc) (m : List ℕ). each (encrypt_verdict (ring ks m) held.infos db)) (sym secrets.0)
     (sym secrets.1)
     ∙ ap₂ (λ (is : List Collection) (name : List ℕ). each (encrypt_verdict (ring e.opener.keys e.opener.cache.master)
+    is name)) (sym rules.1) (sym rules.0)
+
+pub answers_as : (held : SealingFiles) (db : List ℕ) (e : Engine)
+    → (e.marker.db.items ≡ db) × (e.marker.infos ≡ held.infos)
+    → (e.opener.keys ≡ held.keys) × (e.opener.cache.master ≡ held.master)
+    → pairs (encrypt_pairing (ring held.keys held.master) held.infos db)
+    ≡ pairs (encrypt_pairing (ring e.opener.keys e.opener.cache.master) e.marker.infos e.marker.db.items)
+answers_as held db e rules secrets =
+    ap₂ (λ (ks : List KeyDoc) (m : List ℕ). pairs (encrypt_pairing (ring ks m) held.infos db)) (sym secrets.0)
+    (sym secrets.1)
+    ∙ ap₂ (λ (is : List Collection) (name : List ℕ). pairs (encrypt_pairing (ring e.opener.keys e.opener.cache.master)
     is name)) (sym rules.1) (sym rules.0)

@@ -41,23 +41,23 @@ use Rattle.fle_runner.proofs.HeadlineFronts.{seals_first}
 use Rattle.fle_runner.proofs.HeadlineKeys.{vault_uuids}
 
 -- a file that is there and within its limit leads on
-leads : (number limit : ℕ) (all : Files) (name bytes : List ℕ) (next : List ℕ → Task) → HoldsBytes all name limit bytes
-    → with_file number limit (file_of all name) next ≡ next bytes
+pub leads : (number limit : ℕ) (all : Files) (name bytes : List ℕ) (next : List ℕ → Task)
+    → HoldsBytes all name limit bytes → with_file number limit (file_of all name) next ≡ next bytes
 leads number limit all name bytes next held =
     let within = held.within in
     let short : nat_lt limit (length bytes) ≡ false = grind (arith, nat_tests) in
     ap (λ (file : Option (List ℕ)). with_file number limit file next) held.there ∙ rw short refl
 
--- what each command of the run comes to
-pub files_lead : (all : Files) (keys schemas master : List ℕ) (x : Setup) → HoldSetup all keys schemas master x
+-- a task by what the files hold
+pub files_lead_to : (all : Files) (keys schemas master : List ℕ) (x : Setup) (to : Keyring → List Collection → Task)
+    → HoldSetup all keys schemas master x
     → with_vault 1 (file_of all keys) (λ held. with_infos 2 (file_of all schemas) (λ infos.
-    with_master 3 (file_of all master) (λ key. each (encrypt_verdict (ring held key) infos x.db))))
-    ≡ each (verdict_of x)
-files_lead all keys schemas master x h =
+    with_master 3 (file_of all master) (λ key. to (ring held key) infos)))
+    ≡ to x.keys x.infos
+files_lead_to all keys schemas master x to h =
     let k = h.held in
     let third : List KeyDoc → List Collection → List ℕ → Task =
-    λ (held : List KeyDoc) (infos : List Collection) (key : List ℕ). each (encrypt_verdict
-    (ring held key) infos x.db) in
+    λ (held : List KeyDoc) (infos : List Collection) (key : List ℕ). to (ring held key) infos in
     let second : List KeyDoc → List Collection → Task =
     λ (held : List KeyDoc) (infos : List Collection). with_master 3 (file_of all master) (third held infos) in
     let first : List KeyDoc → Task =
@@ -71,7 +71,16 @@ files_lead all keys schemas master x h =
     (master_in bytes))
     k.master_file
     ∙ ap (master_or 3 (third k.vault_keys x.infos)) k.master_says
-    ∙ ap (λ (ks : Keyring). each (encrypt_verdict ks x.infos x.db)) (sym k.opens)
+    ∙ ap (λ (ks : Keyring). to ks x.infos) (sym k.opens)
+
+-- what each command of the run comes to
+pub files_lead : (all : Files) (keys schemas master : List ℕ) (x : Setup) → HoldSetup all keys schemas master x
+    → with_vault 1 (file_of all keys) (λ held. with_infos 2 (file_of all schemas) (λ infos.
+    with_master 3 (file_of all master) (λ key. each (encrypt_verdict (ring held key) infos x.db))))
+    ≡ each (verdict_of x)
+files_lead all keys schemas master x h =
+    files_lead_to all keys schemas master x
+    (λ (ks : Keyring) (infos : List Collection). each (encrypt_verdict ks infos x.db)) h
 
 -- the data keys are had by UUIDs
 pub held_uuids : (all : Files) (keys master : List ℕ) (opened : Keyring) → HoldKeys all keys master opened

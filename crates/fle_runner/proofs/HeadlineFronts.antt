@@ -115,7 +115,7 @@ module _ (x : Setup) (uuids : AreByUuid x.keys) where
       (λ os others bs bs_are same long. fronts (number + 1) (taken + n) docs os others bs read.1 bs_are same long) are
       is count
 
-front_blocks : (first more : List Block) → AreBlocks (first ++ more) → AreBlocks first
+pub front_blocks : (first more : List Block) → AreBlocks (first ++ more) → AreBlocks first
 front_blocks first more are =
     subst AreBlocks (take-append_seam first more) (All-take IsBlock (length first) (first ++ more) are)
 

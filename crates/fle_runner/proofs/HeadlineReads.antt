@@ -12,6 +12,7 @@ use Rattle.bson_codec.specs.Layout.{IsDoc}
 use Rattle.bson_codec.specs.Reading.{document}
 use Rattle.bson_codec.specs.declared.fault.BsonFault.{BsonFault}
 use Rattle.bson_codec.proofs.Documents.{document_takes}
+use Rattle.fle_stream.specs.Pairs.{answer_limit}
 use Rattle.fle_stream.specs.Streams.{Docs, Standing, doc, document_limit, documents, documents_within, ends, first_by}
 use Rattle.fle_stream.specs.Streams.{rounds, spelled, standing, stated, stops, whole}
 use Rattle.fle_stream.proofs.Streams.{standing_whole}
@@ -73,3 +74,9 @@ rounds_read limit other (suc n) bytes all =
 pub documents_read : (bytes : List ℕ) → All (λ b. b < 256) bytes → AreRead (documents bytes)
 unfolding documents_within
 documents_read bytes all = rounds_read document_limit document_limit (length bytes + 1) bytes all
+
+-- and those of a stream of pairs
+pub pairs_read : (bytes : List ℕ) → All (λ b. b < 256) bytes
+    → AreRead (documents_within document_limit answer_limit bytes)
+unfolding documents_within
+pairs_read bytes all = rounds_read document_limit answer_limit (length bytes + 1) bytes all

@@ -14,6 +14,10 @@ pub mod HeadlineBack
 pub mod HeadlineKeys
 pub mod HeadlineFronts
 pub mod HeadlineFiles
+pub mod Rewraps
 pub mod HeadlineWorlds
 pub mod TwoStreams
 pub mod Unseals
+pub mod Pairings
+pub mod HeadlinePairs
+pub mod RightPairs

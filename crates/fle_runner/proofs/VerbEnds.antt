@@ -11,8 +11,9 @@ use Rattle.fle_stream.specs.declared.why.Why.{Why}
 use Rattle.fle_stream.specs.declared.why.Why.TheVariants as whys
 use Rattle.fle_runner.specs.Keys.{IsOfKeys, IsOfText}
 use Rattle.fle_runner.specs.Keygen.{IsOfKeygen}
+use Rattle.fle_runner.specs.Rewrap.{IsOfRewrap}
 use Rattle.fle_runner.specs.Statuses.{IsStatusOfDemo, IsStatusOfEncrypt, IsStatusOfKeygen, IsStatusOfKeys}
-use Rattle.fle_runner.specs.Statuses.{IsStatusOfShow, IsStatusOfUndrawn}
+use Rattle.fle_runner.specs.Statuses.{IsStatusOfRewrap, IsStatusOfShow, IsStatusOfUndrawn}
 
 -- an end of a stream is none of words or files
 pub stream_reads : (why : Why) → IsOfStream why → IsUnread (status_of why) → ⊥
@@ -22,6 +23,7 @@ stream_reads (whys.Finished (finishes.Malformed fault)) kind none = none
 stream_reads (whys.Finished (finishes.Limit bound)) kind none = none
 stream_reads (whys.Finished finishes.Words) kind none = kind
 stream_reads (whys.Finished (finishes.Setup file fault document)) kind none = kind
+stream_reads (whys.Finished (finishes.Key reason document)) kind none = none
 stream_reads (whys.Cut cuts.Folder) kind none = none
 stream_reads (whys.Cut cuts.Input) kind none = none
 stream_reads (whys.Cut cuts.Output) kind none = none
@@ -36,6 +38,7 @@ text_reads (whys.Finished (finishes.Malformed fault)) kind none = kind
 text_reads (whys.Finished (finishes.Limit bound)) kind none = kind
 text_reads (whys.Finished finishes.Words) kind none = kind
 text_reads (whys.Finished (finishes.Setup file fault document)) kind none = kind
+text_reads (whys.Finished (finishes.Key reason document)) kind none = kind
 text_reads (whys.Cut cuts.Folder) kind none = none
 text_reads (whys.Cut cuts.Input) kind none = none
 text_reads (whys.Cut cuts.Output) kind none = none
@@ -49,6 +52,7 @@ text_status (whys.Finished (finishes.Malformed fault)) kind = kind
 text_status (whys.Finished (finishes.Limit bound)) kind = kind
 text_status (whys.Finished finishes.Words) kind = kind
 text_status (whys.Finished (finishes.Setup file fault document)) kind = kind
+text_status (whys.Finished (finishes.Key reason document)) kind = kind
 text_status (whys.Cut cuts.Folder) kind = kind
 text_status (whys.Cut cuts.Input) kind = kind
 text_status (whys.Cut cuts.Output) kind = tt
@@ -62,6 +66,7 @@ keys_status (whys.Finished (finishes.Malformed fault)) kind = kind
 keys_status (whys.Finished (finishes.Limit bound)) kind = kind
 keys_status (whys.Finished finishes.Words) kind = kind
 keys_status (whys.Finished (finishes.Setup file fault document)) kind = tt
+keys_status (whys.Finished (finishes.Key reason document)) kind = kind
 keys_status (whys.Cut cuts.Folder) kind = tt
 keys_status (whys.Cut cuts.Input) kind = tt
 keys_status (whys.Cut cuts.Output) kind = tt
@@ -75,11 +80,26 @@ keygen_status (whys.Finished (finishes.Malformed fault)) kind = kind
 keygen_status (whys.Finished (finishes.Limit bound)) kind = kind
 keygen_status (whys.Finished finishes.Words) kind = kind
 keygen_status (whys.Finished (finishes.Setup file fault document)) kind = tt
+keygen_status (whys.Finished (finishes.Key reason document)) kind = kind
 keygen_status (whys.Cut cuts.Folder) kind = tt
 keygen_status (whys.Cut cuts.Input) kind = tt
 keygen_status (whys.Cut cuts.Output) kind = tt
 keygen_status (whys.Cut cuts.Entropy) kind = tt
 keygen_status (whys.Cut cuts.Memory) kind = tt
+
+pub rewrap_status : (why : Why) → IsOfRewrap why → IsStatusOfRewrap (status_of why)
+rewrap_status (whys.Finished finishes.Done) kind = tt
+rewrap_status (whys.Finished (finishes.Refused reason place)) kind = tt
+rewrap_status (whys.Finished (finishes.Malformed fault)) kind = kind
+rewrap_status (whys.Finished (finishes.Limit bound)) kind = kind
+rewrap_status (whys.Finished finishes.Words) kind = kind
+rewrap_status (whys.Finished (finishes.Setup file fault document)) kind = tt
+rewrap_status (whys.Finished (finishes.Key reason document)) kind = tt
+rewrap_status (whys.Cut cuts.Folder) kind = tt
+rewrap_status (whys.Cut cuts.Input) kind = tt
+rewrap_status (whys.Cut cuts.Output) kind = tt
+rewrap_status (whys.Cut cuts.Entropy) kind = tt
+rewrap_status (whys.Cut cuts.Memory) kind = tt
 
 -- a stream that reads no file and draws no block
 pub show_status : (why : Why) → IsOfStream why → (why ≡ whys.Cut cuts.Entropy → ⊥) → IsStatusOfShow (status_of why)
@@ -89,6 +109,7 @@ show_status (whys.Finished (finishes.Malformed fault)) kind undrawn = tt
 show_status (whys.Finished (finishes.Limit bound)) kind undrawn = tt
 show_status (whys.Finished finishes.Words) kind undrawn = kind
 show_status (whys.Finished (finishes.Setup file fault document)) kind undrawn = kind
+show_status (whys.Finished (finishes.Key reason document)) kind undrawn = tt
 show_status (whys.Cut cuts.Folder) kind undrawn = tt
 show_status (whys.Cut cuts.Input) kind undrawn = tt
 show_status (whys.Cut cuts.Output) kind undrawn = tt
@@ -104,6 +125,7 @@ undrawn_status (whys.Finished (finishes.Malformed fault)) formed undrawn = tt
 undrawn_status (whys.Finished (finishes.Limit bound)) formed undrawn = tt
 undrawn_status (whys.Finished finishes.Words) formed undrawn = formed refl
 undrawn_status (whys.Finished (finishes.Setup file fault document)) formed undrawn = tt
+undrawn_status (whys.Finished (finishes.Key reason document)) formed undrawn = tt
 undrawn_status (whys.Cut cuts.Folder) formed undrawn = tt
 undrawn_status (whys.Cut cuts.Input) formed undrawn = tt
 undrawn_status (whys.Cut cuts.Output) formed undrawn = tt
@@ -118,6 +140,7 @@ encrypt_status (whys.Finished (finishes.Malformed fault)) formed = tt
 encrypt_status (whys.Finished (finishes.Limit bound)) formed = tt
 encrypt_status (whys.Finished finishes.Words) formed = formed refl
 encrypt_status (whys.Finished (finishes.Setup file fault document)) formed = tt
+encrypt_status (whys.Finished (finishes.Key reason document)) formed = tt
 encrypt_status (whys.Cut cuts.Folder) formed = tt
 encrypt_status (whys.Cut cuts.Input) formed = tt
 encrypt_status (whys.Cut cuts.Output) formed = tt

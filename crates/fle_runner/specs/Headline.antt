@@ -72,23 +72,28 @@ AreSealedUnder x (c ∷ cs) blocks (d ∷ ds) =
     × IsSealedUnder x c own d
     × AreSealedUnder x cs rest ds
 
--- the run sealed each command that it accepted, with the blocks that it drew; it wrote the bytes of the sealed
--- commands, one after another, and nothing else
-pub record SealsStream (x : Setup) (told : List ℕ) (entropy entropy_after : EntropySeen)
+-- the run sealed each of these commands, with the blocks that it drew; it wrote the bytes of the sealed commands, one
+-- after another, and nothing else
+pub record SealsAllOf (x : Setup) (commands : List Items) (entropy entropy_after : EntropySeen)
     (out out_after : SinkSeen) : Type 0 where
   pub sealed : List Items
   pub blocks : List Block
-  pub each : AreSealedUnder x (accepted (verdict_of x) 0 (documents told)) blocks sealed
+  pub each : AreSealedUnder x commands blocks sealed
   pub draws : Draws entropy entropy_after blocks
   pub gains : Gains out.told out_after.told (flat_map doc_bytes sealed)
 
--- whatever cut the run short, it sealed the first of the commands that it accepted, with the first blocks that it drew,
--- and wrote their bytes, one after another, and a part of the next output
-pub record SealsFirst (x : Setup) (told : List ℕ) (entropy entropy_after : EntropySeen)
+-- the same of the commands that it accepted
+abbrev pub SealsStream : Setup → List ℕ → EntropySeen → EntropySeen → SinkSeen → SinkSeen → Type 0
+SealsStream x told entropy entropy_after out out_after =
+    SealsAllOf x (accepted (verdict_of x) 0 (documents told)) entropy entropy_after out out_after
+
+-- whatever cut the run short, it sealed the first of these commands, with the first blocks that it drew, and wrote
+-- their bytes, one after another, and a part of the next output
+pub record SealsFirstOf (x : Setup) (commands : List Items) (entropy entropy_after : EntropySeen)
     (out out_after : SinkSeen) : Type 0 where
   pub whole : List Items
   pub others : List Items
-  pub split : accepted (verdict_of x) 0 (documents told) ≡ whole ++ others
+  pub split : commands ≡ whole ++ others
   pub sealed : List Items
   pub blocks : List Block
   pub more : List Block
@@ -96,6 +101,11 @@ pub record SealsFirst (x : Setup) (told : List ℕ) (entropy entropy_after : Ent
   pub draws : Draws entropy entropy_after (blocks ++ more)
   pub part : List ℕ
   pub gains : Gains out.told out_after.told (flat_map doc_bytes sealed ++ part)
+
+-- the same of the commands that it accepted
+abbrev pub SealsFirst : Setup → List ℕ → EntropySeen → EntropySeen → SinkSeen → SinkSeen → Type 0
+SealsFirst x told entropy entropy_after out out_after =
+    SealsFirstOf x (accepted (verdict_of x) 0 (documents told)) entropy entropy_after out out_after
 
 -- and of commands that are opened, it wrote the first, and a part of the next output
 pub record OpensFirst (commands : List Items) (out out_after : SinkSeen) : Type 0 where

@@ -4,12 +4,16 @@ pub mod Show
 pub mod Keys
 pub mod Keygen
 pub mod Encrypt
+pub mod EncryptWith
 pub mod Decrypt
 pub mod Demo
+pub mod Rewrap
 pub mod Verbs
 pub mod Statuses
 pub mod Text
 pub mod ReadBack
 pub mod Headline
 pub mod HeadlineFiles
+pub mod HeadlinePairs
+pub mod HeadlineRewrap
 pub mod TwoStreams

@@ -3,7 +3,8 @@ use Rattle.std.specs.Prelude.{◌≡◌, ◌≤◌, ◌⊎◌, Option, Some}
 use Rattle.fle_outside.specs.Counts.{Rose}
 use Rattle.fle_outside.specs.Seen.{EntropySeen, FolderSeen, SourceSeen}
 use Rattle.fle_runner.specs.Keygen.{DrawsEight}
-use Rattle.fle_words.specs.Words.{DrawsNoBlock, Form, mark, show, keys, keygen, encrypt, decrypt, demo}
+use Rattle.fle_words.specs.Words.{DrawsNoBlock, Form, mark, show, keys, keygen, encrypt, encrypt_with, decrypt}
+use Rattle.fle_words.specs.Words.{demo, rewrap}
 use Rattle.fle_stream.specs.declared.status.Status.{Status}
 use Rattle.fle_stream.specs.declared.status.Status.TheVariants as statuses
 
@@ -12,6 +13,7 @@ abbrev pub ReadsNoInput : Option Form → Type 0
 ReadsNoInput (Some (keys vault)) = Unit {0}
 ReadsNoInput (Some (keygen master names)) = Unit {0}
 ReadsNoInput (Some (demo db n)) = Unit {0}
+ReadsNoInput (Some (rewrap from to vault)) = Unit {0}
 ReadsNoInput form = ⊥
 
 -- the words ask for a new key
@@ -29,6 +31,22 @@ abbrev pub AsksDemo : Option Form → Type 0
 AsksDemo (Some (demo db n)) = Unit {0}
 AsksDemo form = ⊥
 
+-- the words ask for a vault under another master key
+abbrev pub AsksRewrap : Option Form → Type 0
+AsksRewrap (Some (rewrap from to vault)) = Unit {0}
+AsksRewrap form = ⊥
+
+-- a status with which `rewrap` has written nothing: any but 0 and 6
+abbrev pub IsUnwritten : Status → Type 0
+IsUnwritten statuses.Done = ⊥
+IsUnwritten statuses.WriteFault = ⊥
+IsUnwritten status = Unit {0}
+
+-- a status with which it has drawn no block: any but these and 7
+abbrev pub IsUndrawn : Status → Type 0
+IsUndrawn statuses.EntropyFault = ⊥
+IsUndrawn status = IsUnwritten status
+
 -- `keys` draws no block: 0, 4, 5, 6 or 8
 abbrev pub IsStatusOfKeys : Status → Type 0
 IsStatusOfKeys statuses.Done = Unit {0}
@@ -42,6 +60,11 @@ IsStatusOfKeys status = ⊥
 abbrev pub IsStatusOfKeygen : Status → Type 0
 IsStatusOfKeygen statuses.EntropyFault = Unit {0}
 IsStatusOfKeygen status = IsStatusOfKeys status
+
+-- `rewrap`: 0, 1 or 4 to 8
+abbrev pub IsStatusOfRewrap : Status → Type 0
+IsStatusOfRewrap statuses.Refused = Unit {0}
+IsStatusOfRewrap status = IsStatusOfKeygen status
 
 -- `demo` reads no file either: 0, 6 or 8
 abbrev pub IsStatusOfDemo : Status → Type 0
@@ -63,7 +86,7 @@ IsStatusOfUndrawn statuses.Words = ⊥
 IsStatusOfUndrawn statuses.EntropyFault = ⊥
 IsStatusOfUndrawn status = Unit {0}
 
--- `encrypt`: any but 2
+-- `encrypt` and `encrypt-with`: any but 2
 abbrev pub IsStatusOfEncrypt : Status → Type 0
 IsStatusOfEncrypt statuses.Words = ⊥
 IsStatusOfEncrypt status = Unit {0}
@@ -75,22 +98,24 @@ MayEnd (Some show) status = IsStatusOfShow status
 MayEnd (Some (keys vault)) status = IsStatusOfKeys status
 MayEnd (Some (keygen master names)) status = IsStatusOfKeygen status
 MayEnd (Some (encrypt db vault schemas master)) status = IsStatusOfEncrypt status
+MayEnd (Some (encrypt_with db vault schemas master)) status = IsStatusOfEncrypt status
 MayEnd (Some (decrypt vault master)) status = IsStatusOfUndrawn status
 MayEnd (Some (demo db n)) status = IsStatusOfDemo status
+MayEnd (Some (rewrap from to vault)) status = IsStatusOfRewrap status
 MayEnd form status = Unit {0}
 
 -- a run of these words ended so, with these objects before and after it
-pub record EndsByVerb {S F N : Type 0} (form : Option Form) (status : Status) (reads : S → SourceSeen)
-    (input input_after : S) (shows : F → FolderSeen) (files files_after : F) (seen : N → EntropySeen)
-    (entropy entropy_after : N) : Type 0 where
+pub record EndsByVerb {S F O N : Type 0} (form : Option Form) (status : Status) (reads : S → SourceSeen)
+    (input input_after : S) (shows : F → FolderSeen) (files files_after : F) (out out_after : O)
+    (seen : N → EntropySeen) (entropy entropy_after : N) : Type 0 where
   -- the verbs without random blocks never end with 7
   pub undrawn : DrawsNoBlock form → status ≡ statuses.EntropyFault → ⊥
   -- and make no call on the source of blocks
   pub no_block : DrawsNoBlock form → entropy_after ≡ entropy
-  -- `keys` ends with 0, 4, 5, 6 or 8, `keygen` with these or 7, `demo` with 0, 6 or 8, `show` with none of 2, 4 and 7,
-  -- `mark` and `decrypt` with neither 2 nor 7, `encrypt` not with 2
+  -- `keys` ends with 0, 4, 5, 6 or 8, `keygen` with these or 7, `rewrap` with these, 7 or 1, `demo` with 0, 6 or 8,
+  -- `show` with none of 2, 4 and 7, `mark` and `decrypt` with neither 2 nor 7, `encrypt` and `encrypt-with` not with 2
   pub allowed : MayEnd form status
-  -- `keys`, `keygen` and `demo` make no call on the input
+  -- `keys`, `keygen`, `rewrap` and `demo` make no call on the input
   pub no_input : ReadsNoInput form → input_after ≡ input
   -- so with 5 a named file failed
   pub by_folder : ReadsNoInput form → status ≡ statuses.ReadFault → Rose (shows files).faults (shows files_after).faults
@@ -101,5 +126,9 @@ pub record EndsByVerb {S F N : Type 0} (form : Option Form) (status : Status) (r
   -- where `keygen` wants memory, it has drawn no block or the eight of a key
   pub none_or_eight : AsksKey form → status ≡ statuses.Memory
       → (entropy_after ≡ entropy) ⊎ DrawsEight (seen entropy) (seen entropy_after)
+  -- `rewrap` makes no call on the output but with 0 and 6
+  pub rewrap_unwritten : AsksRewrap form → IsUnwritten status → out_after ≡ out
+  -- and none on the source of blocks but with 0, 6 and 7
+  pub rewrap_undrawn : AsksRewrap form → IsUndrawn status → entropy_after ≡ entropy
   -- `demo` makes no call on the files or on the source of blocks
   pub alone : AsksDemo form → (files_after ≡ files) × (entropy_after ≡ entropy)

@@ -3,16 +3,19 @@ use Rattle.std.specs.Prelude.{ℕ, Option, Some, None, List}
 use Rattle.fle_outside.specs.Files.{Files, file_of}
 use Rattle.fle_outside.specs.Seen.{FolderSeen}
 use Rattle.fle_stream.specs.Acted.{AreAny, AreTold}
-use Rattle.fle_stream.specs.Task.{Task, fails, one_document}
+use Rattle.fle_stream.specs.Task.{Task, fails, one_document, two_documents}
 use Rattle.fle_stream.specs.Turn.{Pace}
-use Rattle.fle_words.specs.Words.{Form, mark, show, keys, keygen, encrypt, decrypt, demo, form_of}
+use Rattle.fle_words.specs.Words.{Form, mark, show, keys, keygen, encrypt, encrypt_with, decrypt, demo, rewrap}
+use Rattle.fle_words.specs.Words.{form_of}
 use Rattle.fle_runner.specs.Mark.{mark_task}
 use Rattle.fle_runner.specs.Show.{show_task}
 use Rattle.fle_runner.specs.Keys.{keys_task}
 use Rattle.fle_runner.specs.Keygen.{keygen_task}
 use Rattle.fle_runner.specs.Encrypt.{encrypt_task}
+use Rattle.fle_runner.specs.EncryptWith.{encrypt_with_task}
 use Rattle.fle_runner.specs.Decrypt.{decrypt_task}
 use Rattle.fle_runner.specs.Demo.{demo_task}
+use Rattle.fle_runner.specs.Rewrap.{rewrap_task}
 use Rattle.fle_stream.specs.declared.why.Finish.TheVariants as finishes
 
 abbrev pub task_for : ℕ → Form → Files → Task
@@ -22,8 +25,12 @@ task_for now (keys vault) files = keys_task (file_of files vault)
 task_for now (keygen master names) files = keygen_task names now (file_of files master)
 task_for now (encrypt db vault schemas master) files =
     encrypt_task db (file_of files vault) (file_of files schemas) (file_of files master)
+task_for now (encrypt_with db vault schemas master) files =
+    encrypt_with_task db (file_of files vault) (file_of files schemas) (file_of files master)
 task_for now (decrypt vault master) files = decrypt_task (file_of files vault) (file_of files master)
 task_for now (demo db n) files = demo_task db n
+task_for now (rewrap from to vault) files =
+    rewrap_task now (file_of files from) (file_of files to) (file_of files vault)
 
 -- what the words ask for: a task, or the end of a run whose words have no form
 abbrev pub task_of : ℕ → Option Form → Files → Task
@@ -38,8 +45,9 @@ AreShown (Some show) files all = AreAny files all
 AreShown (Some (demo db n)) files all = AreAny files all
 AreShown (Some form) files all = AreTold files all
 
--- how they read the input: one document a step, whatever the verb
+-- how they read the input: one document a step, or the two of a pair
 abbrev pub pace_for : Option Form → Pace
+pace_for (Some (encrypt_with db vault schemas master)) = two_documents
 pace_for form = one_document
 
 -- what the words and the files ask for at this time, in milliseconds since 1970 as 64 bits

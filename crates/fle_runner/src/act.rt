@@ -11,9 +11,11 @@ ghost use Rattle.fle_stream.specs.Ended.{IsUnread};
 use crate::decrypt::decrypt;
 use crate::demo::demo;
 use crate::encrypt::{EncryptWords, encrypt};
+use crate::encrypt_with::encrypt_with;
 use crate::keygen::{KeygenWords, keygen};
 use crate::keys::keys;
 use crate::mark::mark;
+use crate::rewrap::{RewrapWords, rewrap};
 use crate::show::show;
 use crypto_hooks::Block256;
 use fle_outside::{Entropy, Folder, Sink, Source};
@@ -56,7 +58,7 @@ pub fn act<S: Source, F: Folder, O: Sink, N: Entropy, B: Block256>(
     // What each verb may end with, and what it then did with the input, the files and the blocks.
     ensures verb { EndsByVerb (form_of (map string_bytes request.entry.words.now))
         (status_of result.why) S.seen input.old
-        input.new F.seen files.old files.new N.seen entropy.old entropy.new }
+        input.new F.seen files.old files.new out.old out.new N.seen entropy.old entropy.new }
 {
     match read_words(request.words) {
         Asked::Nothing => End::unread(Why::Finished(Finish::Words)),
@@ -85,7 +87,30 @@ pub fn act<S: Source, F: Folder, O: Sink, N: Entropy, B: Block256>(
             };
             encrypt(alloc, words, input, files, out, entropy, hooks)
         }
+        Asked::EncryptWith {
+            db,
+            keys,
+            schemas,
+            master,
+        } => {
+            let words = EncryptWords {
+                db,
+                keys,
+                schemas,
+                master,
+            };
+            encrypt_with(alloc, words, input, files, out, entropy, hooks)
+        }
         Asked::Decrypt { keys, master } => decrypt(alloc, keys, master, input, files, out, hooks),
         Asked::Demo { db, n } => demo(alloc, db, n, out, hooks),
+        Asked::Rewrap { from, to, vault } => {
+            let words = RewrapWords {
+                from,
+                to,
+                vault,
+                time: request.time,
+            };
+            rewrap(alloc, words, files, out, entropy, hooks)
+        }
     }
 }

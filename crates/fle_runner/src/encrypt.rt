@@ -81,7 +81,7 @@ pub fn encrypt<S: Source, F: Folder, O: Sink, N: Entropy, B: Block256>(
 }
 
 /// Loads the files of the words, in order.
-fn load_sealing<F: Folder>(
+pub fn load_sealing<F: Folder>(
     alloc: Global,
     files: &mut F,
     keys: &str,

@@ -17,17 +17,18 @@ usage, in the order in which you meet them:
   fle keys KEYS                        write a line for each data key of KEYS
   fle mark DB SCHEMAS                  read commands; write what is to be sealed
   fle encrypt DB KEYS SCHEMAS MASTER   read commands; write them sealed
+  fle encrypt-with DB KEYS SCHEMAS MASTER  the same, with mark's replies
   fle decrypt KEYS MASTER              read documents; write them opened
   fle show                             read documents; write a line for each
+  fle rewrap OLD NEW KEYS              write KEYS under another master key
   fle demo DB N                        make N commands, seal and open them
   fle --help | --version
 
-MASTER is a file with the master key, KEYS one with data keys sealed under it,
-SCHEMAS one with collection infos, in JSON or BSON. DB is the database of the
-commands, a NAME an alternate name of the new key. Documents are BSON, one after
-another, from standard input; keygen, keys and demo read none. What mark writes
-has values in clear. What show writes is text after MongoDB Extended JSON, with
-doubles and decimals by their bits.
+The files MASTER, OLD and NEW hold a master key, KEYS data keys sealed under it,
+SCHEMAS collection infos in JSON or BSON. DB is the commands' database, a NAME a
+new key's other name. Documents are BSON, one after another, from standard
+input; keygen, keys, rewrap and demo read none. What mark writes has values in
+clear; show writes Extended JSON, with doubles and decimals by their bits.
 
 Where the status isn't 0, standard error has one line, `fle: S D R P`: the
 status, the number of the document or file, the reason, the place. Status 0 is

@@ -14,8 +14,10 @@ ghost use Rattle.fle_outside.specs.Seen.{EntropySeen, SinkSeen};
 ghost use Rattle.fle_runner.specs.Decrypt.{decrypt_verdict};
 ghost use Rattle.fle_runner.specs.Encrypt.{encrypt_task, encrypt_verdict};
 ghost use Rattle.fle_runner.specs.Headline.{AreByUuid, AreOpenable, AreReadable, AreSealedUnder, SealsStream, Setup};
+ghost use Rattle.fle_runner.specs.Headline.{SealsAllOf};
 ghost use Rattle.fle_runner.specs.Headline.{accepted, verdict_of};
 ghost use Rattle.fle_runner.specs.HeadlineFiles.{IsEncrypt, IsMark};
+ghost use Rattle.fle_runner.specs.HeadlinePairs.{AreRightPairs, IsEncryptWith, commands_in, pairing_of};
 ghost use Rattle.fle_files.specs.Infos.{infos_read, is_json};
 ghost use Rattle.fle_runner.specs.Mark.{mark_task, mark_verdict};
 ghost use Rattle.fle_runner.specs.ReadBack.{ComesTo, read_whole, stream};
@@ -24,9 +26,10 @@ ghost use Rattle.fle_runner.specs.TwoStreams.{EndAlike, HaveEqualSkeletons};
 ghost use Rattle.fle_runner.specs.Verbs.{task};
 ghost use Rattle.fle_stream.specs.Ended.{Whole};
 ghost use Rattle.fle_stream.specs.Outcome.{finished};
+ghost use Rattle.fle_stream.specs.Pairs.{HaveOnePlan, answer_limit, docs_size};
 ghost use Rattle.fle_stream.specs.Plan.{Verdict, written};
-ghost use Rattle.fle_stream.specs.Streams.{documents};
-ghost use Rattle.fle_stream.specs.Task.{each, outcome_of};
+ghost use Rattle.fle_stream.specs.Streams.{document_limit, documents, documents_within};
+ghost use Rattle.fle_stream.specs.Task.{each, outcome_of, pairs};
 ghost use Rattle.key_vault.specs.Loading.{vault};
 
 use fle_files::InfosFault;
@@ -120,6 +123,32 @@ pub fn encrypt_seals_the_input()
         → IsEncrypt words all x → All (λ b. b < 256) told
         → Whole (outcome_of (task now words all) told) entropy entropy_after out out_after
         → SealsStream x told entropy entropy_after out out_after }
+{}
+
+/// Words and files that ask for `encrypt-with` ask that pairs be judged, and a run that nothing cut short sealed every
+/// command that it accepted with its reply, and wrote nothing else.
+pub fn encrypt_with_seals_the_input()
+    ensures task { (now : ℕ) (words : List (List ℕ)) (all : Files) (x : Setup) → IsEncryptWith words all x
+        → task now words all ≡ pairs (pairing_of x) }
+    ensures sealed { (now : ℕ) (words : List (List ℕ)) (all : Files) (told : List ℕ) (x : Setup)
+        (entropy entropy_after : EntropySeen) (out out_after : SinkSeen)
+        → IsEncryptWith words all x → All (λ b. b < 256) told
+        → Whole (outcome_of (task now words all) told) entropy entropy_after out out_after
+        → SealsAllOf x (commands_in x told) entropy entropy_after out out_after }
+{}
+
+/// Right replies change nothing: over pairs whose commands aren't refused by themselves and whose replies are right,
+/// `encrypt-with` comes to the outputs of `encrypt` over the commands alone, one by one, and to the same end.
+pub fn right_replies_change_nothing()
+    ensures outputs { (x : Setup) (told other : List ℕ)
+        → AreRightPairs x (documents_within document_limit answer_limit told) (documents other)
+        → docs_size (documents_within document_limit answer_limit told) < 2 ^ 40 → docs_size (documents other) < 2 ^ 40
+        → HaveOnePlan (outcome_of (pairs (pairing_of x)) told).outputs
+        (outcome_of (each (verdict_of x)) other).outputs }
+    ensures end { (x : Setup) (told other : List ℕ)
+        → AreRightPairs x (documents_within document_limit answer_limit told) (documents other)
+        → docs_size (documents_within document_limit answer_limit told) < 2 ^ 40 → docs_size (documents other) < 2 ^ 40
+        → (outcome_of (pairs (pairing_of x)) told).finish ≡ (outcome_of (each (verdict_of x)) other).finish }
 {}
 
 /// The data keys of a vault are had by UUIDs alone, whatever the master key.

@@ -12,6 +12,7 @@ mod act;
 mod decrypt;
 mod demo;
 mod encrypt;
+mod encrypt_with;
 mod help;
 mod judging;
 mod keygen;
@@ -19,6 +20,7 @@ mod keys;
 pub mod laws;
 mod mark;
 mod program;
+mod rewrap;
 mod show;
 
 pub use fle_engine::place_at;

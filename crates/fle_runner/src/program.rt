@@ -5,6 +5,8 @@ ghost use Rattle.std.specs.Int.{cast_unsigned, w64};
 ghost use Rattle.std.specs.List.{All};
 ghost use Rattle.fle_outside.specs.Files.{Files};
 ghost use Rattle.fle_runner.specs.HeadlineFiles.{OpensAll, SealsAll};
+ghost use Rattle.fle_runner.specs.HeadlinePairs.{SealsPairs};
+ghost use Rattle.fle_runner.specs.HeadlineRewrap.{RewrapsVault};
 ghost use Rattle.fle_runner.specs.Statuses.{EndsByVerb};
 ghost use Rattle.fle_runner.specs.Verbs.{AreShown, pace_for, task};
 ghost use Rattle.fle_words.specs.Words.{form_of, DrawsNoBlock};
@@ -56,8 +58,16 @@ pub fn fle<S: Source, F: Folder, O: Sink, G: Sink, N: Entropy, B: Block256>(
     ensures encrypts { SealsAll (map string_bytes words.now)
         (world (S.seen input.old) (F.seen files.old) (O.seen out.old) (G.seen diag.old) (N.seen entropy.old))
         (world (S.seen input.new) (F.seen files.new) (O.seen out.new) (G.seen diag.new) (N.seen entropy.new)) result }
+    // `fle encrypt-with`: every accepted command whose reply is right was sealed, and nothing else changed.
+    ensures encrypts_with { SealsPairs (map string_bytes words.now)
+        (world (S.seen input.old) (F.seen files.old) (O.seen out.old) (G.seen diag.old) (N.seen entropy.old))
+        (world (S.seen input.new) (F.seen files.new) (O.seen out.new) (G.seen diag.new) (N.seen entropy.new)) result }
     // `fle decrypt` of what was so sealed: the commands were written, byte for byte.
     ensures decrypts { OpensAll (map string_bytes words.now)
+        (world (S.seen input.old) (F.seen files.old) (O.seen out.old) (G.seen diag.old) (N.seen entropy.old))
+        (world (S.seen input.new) (F.seen files.new) (O.seen out.new) (G.seen diag.new) (N.seen entropy.new)) result }
+    // `fle rewrap`: with status 0 the vault was written under the new master key, and loads as the same keys.
+    ensures rewraps { RewrapsVault (cast_unsigned w64 now_ms) (map string_bytes words.now)
         (world (S.seen input.old) (F.seen files.old) (O.seen out.old) (G.seen diag.old) (N.seen entropy.old))
         (world (S.seen input.new) (F.seen files.new) (O.seen out.new) (G.seen diag.new) (N.seen entropy.new)) result }
     ensures read_sure { (S.seen input.old).assured ≡ true → (F.seen files.old).assured ≡ true
@@ -68,7 +78,7 @@ pub fn fle<S: Source, F: Folder, O: Sink, G: Sink, N: Entropy, B: Block256>(
         (world (S.seen input.old) (F.seen files.old) (O.seen out.old) (G.seen diag.old) (N.seen entropy.old)) result }
     // What each verb may end with, and what it then did with the input, the files and the blocks.
     ensures verb { EndsByVerb (form_of (map string_bytes words.now)) result S.seen input.old input.new F.seen
-        files.old files.new N.seen entropy.old entropy.new }
+        files.old files.new out.old out.new N.seen entropy.old entropy.new }
 {
     let request = Request {
         words,

@@ -5,8 +5,9 @@ use Rattle.fle_stream.specs.Turn.{IsOfStream}
 use Rattle.fle_stream.specs.declared.why.Finish.TheVariants as finishes
 use Rattle.fle_runner.specs.Keygen.{IsOfKeygen}
 use Rattle.fle_runner.specs.Keys.{IsOfKeys, IsOfText}
-use Rattle.fle_runner.proofs.Asked.{acts_asked, by_decrypt, by_demo, by_encrypt, by_keygen, by_keys, by_mark, by_none}
-use Rattle.fle_runner.proofs.Asked.{by_show, ends_asked}
+use Rattle.fle_runner.specs.Rewrap.{IsOfRewrap}
+use Rattle.fle_runner.proofs.Asked.{acts_asked, by_decrypt, by_demo, by_encrypt, by_encrypt_with, by_keygen, by_keys}
+use Rattle.fle_runner.proofs.Asked.{by_mark, by_none, by_rewrap, by_show, ends_asked}
 use Rattle.fle_runner.proofs.VerbEnds.{stream_reads, text_reads, unasked}
 use Rattle.fle_runner.proofs.act.act.Goals as goal
 
@@ -90,6 +91,19 @@ returns-in-Encrypt g c =
       verb = ends_asked asked (by_encrypt _ ends.formed);
     }
 
+pub returns-in-EncryptWith : goal.returns-in-EncryptWith
+returns-in-EncryptWith g c =
+    let asked = sym c.in-EncryptWith.ensures.asked in
+    let ends = c.encrypt_with.ensures in
+    record {
+      run = acts_asked c.args.request.time asked (ends.run);
+      unformed = λ none. absurd (unasked asked none);
+      formed = λ at. absurd (ends.formed at);
+      unread = λ at. absurd (ends.formed at);
+      untouched = ends.untouched;
+      verb = ends_asked asked (by_encrypt_with _ ends.formed);
+    }
+
 pub returns-in-Decrypt : goal.returns-in-Decrypt
 returns-in-Decrypt g c =
     let asked = sym c.in-Decrypt.ensures.asked in
@@ -114,4 +128,18 @@ returns-in-Demo g c =
       unread = λ at. absurd (subst IsOfText at ends.kind);
       untouched = λ none. absurd (text_reads _ ends.kind none);
       verb = ends_asked asked (by_demo _ refl refl refl ends.kind);
+    }
+
+pub returns-in-Rewrap : goal.returns-in-Rewrap
+returns-in-Rewrap g c =
+    let asked = sym c.in-Rewrap.ensures.asked in
+    let ends = c.rewrap.ensures in
+    let run = ends.run (g.S.Source.seen c.args.input.now) in
+    record {
+      run = acts_asked c.args.request.time asked run;
+      unformed = λ none. absurd (unasked asked none);
+      formed = λ at. absurd (subst IsOfRewrap at ends.kind);
+      unread = λ at. absurd (subst IsOfRewrap at ends.kind);
+      untouched = λ none. (refl, (ends.untouched none).0, (ends.untouched none).1);
+      verb = ends_asked asked (by_rewrap _ refl ends.kind run.folder_cause ends.unwritten ends.undrawn);
     }

@@ -1,5 +1,5 @@
 -- The verb's end is the program's.
-use Rattle.std.proofs.Common.{◌≡◌, ◌∙◌, ap, map, subst, sym}
+use Rattle.std.proofs.Common.{◌≡◌, ◌∙◌, [], ap, map, subst, sym}
 use Rattle.std.proofs.lemmas.Int.{to_z-of_z}
 use Rattle.std.specs.Int.{cast_unsigned, w64}
 use Rattle.std.specs.Prelude.{string_bytes}
@@ -12,6 +12,8 @@ use Rattle.fle_words.specs.Words.{form_of}
 use Rattle.fle_runner.specs.ReadBack.{stream}
 use Rattle.fle_runner.proofs.HeadlineFiles.{decrypts, encrypts, encrypts_first, opened_gains}
 use Rattle.fle_runner.proofs.HeadlineFronts.{opens_first}
+use Rattle.fle_runner.proofs.HeadlinePairs.{encrypts_pairs, encrypts_pairs_first}
+use Rattle.fle_runner.proofs.Rewraps.{rewrap_unread, rewrites}
 use Rattle.fle_runner.proofs.Asked.{of_entropy, of_read, of_write, told_shown}
 use Rattle.fle_runner.proofs.program.fle.Goals as goal
 
@@ -57,6 +59,16 @@ returns-clause-encrypts g c = λ all told x has is asks bytes.
           (whole_of ran (subst (λ (s : Status). IsSettled s) c.report.ensures.status settled)),
     )
 
+pub returns-clause-encrypts_with : goal.returns-clause-encrypts_with
+returns-clause-encrypts_with g c = λ all told x has is asks bytes.
+    let run = c.act-end.ensures.run in
+    let shown = told_shown (form_of (map string_bytes c.args.words.now)) (g.F.Folder.seen c.args.files.now) in
+    let ran = (run.did all told (shown all has) is).ran in (
+      encrypts_pairs_first c.cast_unsigned.result _ all told x asks bytes (run.did all told (shown all has) is),
+      λ settled. encrypts_pairs c.cast_unsigned.result _ all told x _ _ _ _ asks bytes
+          (whole_of ran (subst (λ (s : Status). IsSettled s) c.report.ensures.status settled)),
+    )
+
 pub returns-clause-decrypts : goal.returns-clause-decrypts
 returns-clause-decrypts g c = λ all x commands blocks sealed has is asks each readable few.
     let run = c.act-end.ensures.run in
@@ -71,6 +83,17 @@ returns-clause-decrypts g c = λ all x commands blocks sealed has is asks each r
             opened_gains x commands blocks sealed _ _ _ _ _ each readable back (whole_of ran ended),
           ),
     )
+
+pub returns-clause-rewraps : goal.returns-clause-rewraps
+returns-clause-rewraps g c =
+    let same : c.cast_unsigned.result ≡ cast_unsigned w64 c.args.now_ms =
+    c.cast_unsigned.ensures ∙ ap (cast_unsigned w64) (to_z-of_z w64 c.args.now_ms c.ranges.now_ms) in
+    let now = c.cast_unsigned.result in
+    let run = c.act-end.ensures.run in
+    let shown = told_shown (form_of (map string_bytes c.args.words.now)) (g.F.Folder.seen c.args.files.now) in
+    rw (sym same) (λ all x has asks bytes done.
+    rewrites now _ all x asks bytes (run.unread all [] (shown all has) (rewrap_unread now _ all x asks))
+    (sym c.report.ensures.status ∙ done))
 
 pub returns-clause-read_sure : goal.returns-clause-read_sure
 returns-clause-read_sure g c = λ input files at.
