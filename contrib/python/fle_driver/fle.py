@@ -8,6 +8,7 @@ from typing import Optional, Type, Union
 
 from .errors import NotStarted
 from .kept import Kept
+from .library import Engine, Part, loaded
 from .process import Bytes
 
 File = Union[str, "os.PathLike[str]"]
@@ -17,18 +18,26 @@ EMPTY = b"\5\0\0\0\0"
 
 
 class Fle:
-    """Two kept processes: `fle encrypt db keys schemas master` and `fle decrypt keys master`.
+    """The library libfle, where the system finds it and no program is named; else two kept processes: `fle encrypt db
+    keys schemas master` and `fle decrypt keys master`.
 
-    Both begin here, so that a fault of a file is raised here. One that ended, by a refusal or otherwise, begins anew at
+    The library reads the files here, once. Both processes begin here, so that a fault of a file is raised here. One that ended, by a refusal or otherwise, begins anew at
     the next call, and reads its files again; one that goes on doesn't: make another `Fle` where a file has changed.
     """
 
-    def __init__(self, db: str, keys: File, schemas: File, master: File, program: File = "fle") -> None:
-        found = shutil.which(program)
-        if found is None:
-            raise NotStarted(f"there is no program {os.fspath(program)} in PATH")
-        fle, *files = (os.path.abspath(path) for path in (found, keys, schemas, master))
+    def __init__(self, db: str, keys: File, schemas: File, master: File, program: Optional[File] = None) -> None:
+        files = [os.path.abspath(path) for path in (keys, schemas, master)]
         self.db = db
+        calls = loaded() if program is None else None
+        if calls is not None:
+            engine = Engine(calls, db, files)
+            self._sealing: Union[Kept, Part] = Part(engine, True)
+            self._opening: Union[Kept, Part] = Part(engine, False)
+            return
+        found = shutil.which(program or "fle")
+        if found is None:
+            raise NotStarted(f"there is no program {os.fspath(program or 'fle')} in PATH")
+        fle = os.path.abspath(found)
         self._sealing = Kept([fle, "encrypt", db], files)
         self._opening = Kept([fle, "decrypt"], [files[0], files[2]])
         try:

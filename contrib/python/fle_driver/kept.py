@@ -12,6 +12,12 @@ from .process import Bytes, Process
 STREAM = 1 << 40  # bytes that one process takes; behind them another is begun
 
 
+def want_whole(document: Bytes) -> None:
+    """Raises where the bytes aren't one document, by the length that they state."""
+    if len(document) < 5 or int.from_bytes(document[:4], "little") != len(document):
+        raise ValueError(f"{len(document)} bytes are not one BSON document, which states its length first")
+
+
 class Kept:
     """One process at a time, with these words and files: begun at the first call, and anew after it ended.
 
@@ -28,8 +34,7 @@ class Kept:
 
     def ask(self, document: Bytes) -> bytes:
         """The answer to one document of BSON."""
-        if len(document) < 5 or int.from_bytes(document[:4], "little") != len(document):
-            raise ValueError(f"{len(document)} bytes are not one BSON document, which states its length first")
+        want_whole(document)
         with self._lock:
             if self._closed:
                 raise Closed("fle was closed")

@@ -1,7 +1,7 @@
 """A walk over the elements of a BSON document, as far as names and places need it."""
 from __future__ import annotations
 
-from typing import Iterator, NamedTuple, Sequence
+from typing import Iterator, List, NamedTuple, Sequence, Tuple
 
 DOCUMENT, ARRAY, REGEX = 3, 4, 11
 # The lengths of the values of each type (bsonspec.org): the same for all, or what stands beside a stated length.
@@ -45,3 +45,20 @@ def field_names(document: bytes, place: Sequence[int]) -> str:
         names.append(child.name)
         document = child.value
     return ".".join(names)
+
+
+def place_at(document: bytes, offset: int) -> Tuple[int, ...]:
+    """The place of the value that begins at an offset of a document; the document's own where none does."""
+    place: List[int] = []
+    at, number = 4, 0
+    while at < len(document) and document[at]:
+        tag, start = document[at], document.index(0, at + 1) + 1
+        behind = start + width(tag, document, start)
+        if start == offset:
+            return (*place, number)
+        if start < offset < behind and tag in (DOCUMENT, ARRAY):
+            place.append(number)
+            at, number = start + 4, 0
+        else:
+            at, number = behind, number + 1
+    return ()

@@ -5,11 +5,12 @@ import unittest
 from fle_driver import (Ended, FaultyFile, FileFault, InputFault, KeyFault, Limit, MasterFault, Reason, Refused,
                         SchemaFault, Status)
 from fle_driver.errors import ended
+from fle_driver.library import Call
 
 from .samples import TOP, insert, spelled, string
 
 TABLES = {"status": Status, "reason": Reason, "input": InputFault, "limit": Limit, "file": FileFault,
-          "master": MasterFault, "key": KeyFault, "schema": SchemaFault}
+          "master": MasterFault, "key": KeyFault, "schema": SchemaFault, "call": Call}
 COMMAND = insert(spelled(string("name", "x"), string("ssn", "y")))
 
 

@@ -20,6 +20,13 @@ REFUSED = insert(spelled(element(10, "ssn", b"")))
 LARGE = 16_000_000
 
 
+def setUpModule():
+    """Processes, also where the system finds the library."""
+    found = mock.patch("fle_driver.fle.loaded", return_value=None)
+    found.start()
+    unittest.addModuleCleanup(found.stop)
+
+
 def child_of(kept):
     """The process that is kept."""
     return kept._process._child

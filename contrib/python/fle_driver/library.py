@@ -1,0 +1,175 @@
+"""Sealing and opening by the library libfle, in this process: a refusal answers its call, and no pipe can fill."""
+from __future__ import annotations
+
+import ctypes
+import enum
+import os
+import threading
+from typing import Any, List, Optional, Sequence
+
+from .errors import Closed, Ended, ended
+from .faults import Status
+from .kept import want_whole
+from .process import Bytes
+from .walk import place_at
+
+FOUND = "libfle.so"
+FEW = 256  # random bytes that a call is handed at first: enough for 16 values
+
+
+class Call(enum.IntEnum):
+    """The statuses that only a call of the library has."""
+
+    NoRoom = 10
+    NotOpen = 11
+
+
+class Slot(ctypes.Structure):
+    """A place for an engine; zeros are none."""
+
+    _fields_ = [("engine", ctypes.c_void_p), ("full", ctypes.c_bool)]
+
+
+class Answer(ctypes.Structure):
+    """What a call answers, as contrib/c/fle.h has it."""
+
+    _fields_ = [("status", ctypes.c_uint32), ("reason", ctypes.c_uint32), ("file", ctypes.c_uint32),
+                ("place", ctypes.c_size_t), ("length", ctypes.c_size_t)]
+
+
+class Need(ctypes.Structure):
+    """What a command may want at most."""
+
+    _fields_ = [("room", ctypes.c_size_t), ("random", ctypes.c_size_t)]
+
+
+def loaded() -> Optional[ctypes.CDLL]:
+    """The library, where the system finds it."""
+    try:
+        calls = ctypes.CDLL(FOUND)
+    except OSError:
+        return None
+    calls.fle_open.restype = calls.fle_seal.restype = calls.fle_unseal.restype = Answer
+    calls.fle_needed.restype = Need
+    calls.fle_close.restype = None
+    return calls
+
+
+def read_all(files: Sequence[str]) -> List[bytes]:
+    """What the files hold; raises what `fle` ends with where one can't be read."""
+    contents = []
+    for number, path in enumerate(files, 1):
+        try:
+            with open(path, "rb") as file:
+                contents.append(file.read())
+        except FileNotFoundError as missing:
+            raise ended(4, f"fle: 4 {number} 1 0\n", b"", 0, files) from missing
+        except OSError as failed:
+            raise ended(5, "fle: 5 0 0 -\n", b"", 0, files) from failed
+    return contents
+
+
+class Opened:
+    """A slot with its engine, of one thread; freed where the thread ends, or the last that names it."""
+
+    def __init__(self, calls: ctypes.CDLL, arguments: Sequence[bytes]) -> None:
+        self.calls, self.slot = calls, Slot()
+        self.answer = self.call(calls.fle_open, arguments)
+
+    def call(self, call: Any, arguments: Sequence[bytes], out: Any = None) -> Answer:
+        """What a call answers at this slot."""
+        words: List[object] = [ctypes.byref(self.slot)]
+        for argument in arguments:
+            words += [argument, ctypes.c_size_t(len(argument))]
+        if out is not None:
+            words += [out, ctypes.c_size_t(len(out))]
+        answer: Answer = call(*words)
+        return answer
+
+    def __del__(self) -> None:
+        self.calls.fle_close(ctypes.byref(self.slot))
+
+
+class Engine:
+    """Engines of one database and one set of files: one in each thread that calls, since a slot stays on its thread."""
+
+    def __init__(self, calls: ctypes.CDLL, db: str, files: Sequence[str]) -> None:
+        self._calls, self._files, self._own = calls, list(files), threading.local()
+        self._arguments, self._closed = [db.encode(), *read_all(files)], False
+        self._opened()
+
+    def _opened(self) -> Opened:
+        """The engine of this thread."""
+        if self._closed:
+            self._own.__dict__.clear()
+            raise Closed("fle was closed")
+        opened: Optional[Opened] = self._own.__dict__.get("opened")
+        if opened is None:
+            opened = Opened(self._calls, self._arguments)
+            if opened.answer.status:
+                raise self._end(opened.answer, b"")
+            self._own.opened = opened
+        return opened
+
+    def seal(self, command: Bytes) -> bytes:
+        """A command, sealed with random bytes of the system; with more of them where it draws more than a few."""
+        whole = bytes(command)
+        need = self._calls.fle_needed(ctypes.c_size_t(len(whole)))
+        answer = self._answer(self._calls.fle_seal, [whole, os.urandom(min(FEW, need.random))], whole)
+        if answer is None:
+            answer = self._answer(self._calls.fle_seal, [whole, os.urandom(need.random)], whole, True)
+        assert answer is not None
+        return answer
+
+    def unseal(self, document: Bytes) -> bytes:
+        """A document, opened."""
+        whole = bytes(document)
+        answer = self._answer(self._calls.fle_unseal, [whole], whole, True)
+        assert answer is not None
+        return answer
+
+    def _answer(self, call: Any, arguments: Sequence[bytes], document: bytes, enough: bool = False) -> Optional[bytes]:
+        """What a call writes; None where it draws more blocks than these. With too little room nothing is written, and
+        the same call is made again."""
+        room = 2 * len(document) + 4096
+        while True:
+            out = ctypes.create_string_buffer(room)
+            answer = self._opened().call(call, arguments, out)
+            if answer.status == 0:
+                return out.raw[:answer.length]
+            if answer.status == Status.EntropyFault and not enough:
+                return None
+            if answer.status != Call.NoRoom:
+                raise self._end(answer, document)
+            room = answer.length
+
+    def _end(self, answer: Answer, document: bytes) -> Ended:
+        """What a call raises: the same as a process that says so in its line."""
+        place = str(answer.place) if answer.status in (Status.Malformed, Status.Setup) else "-"
+        if answer.status == Status.Refused:
+            place = ".".join(map(str, place_at(document, answer.place))) or "-"
+        number = answer.file if answer.status == Status.Setup else 1
+        end: Ended = ended(answer.status, f"fle: {answer.status} {number} {answer.reason} {place}\n", document, 0,
+                           self._files)
+        return end
+
+    def close(self) -> None:
+        """Frees the engine of this thread; those of others are freed where their threads end, or call again."""
+        self._closed, self._arguments = True, []
+        self._own.__dict__.clear()
+
+
+class Part:
+    """One of both directions of an engine, as a process of it would be kept."""
+
+    def __init__(self, engine: Engine, seals: bool) -> None:
+        self._engine, self._seals = engine, seals
+
+    def ask(self, document: Bytes) -> bytes:
+        """The answer to one document of BSON."""
+        want_whole(document)
+        return self._engine.seal(document) if self._seals else self._engine.unseal(document)
+
+    def close(self) -> None:
+        """Frees the engine of both."""
+        self._engine.close()

@@ -1,0 +1,119 @@
+"""The library in place of processes: the same answers, and the same exceptions."""
+import os
+import shutil
+import tempfile
+import unittest
+from concurrent.futures import ThreadPoolExecutor
+from pathlib import Path
+
+from fle_driver import Closed, FaultyFile, FileFault, Fle, InputFault, Limit, Reason, Refused
+from fle_driver.library import Part, loaded
+from fle_driver.walk import place_at
+
+from .samples import FILES, KEYS, MASTER, PERSON, SCHEMAS, binary, element, insert, integer, spelled, string
+
+COMMAND, OTHER = insert(PERSON), insert(spelled(string("ssn", "987-65-4321")))
+REFUSED = insert(spelled(element(10, "ssn", b"")))
+LARGE = 16_000_000
+
+
+@unittest.skipUnless(loaded() and shutil.which("fle"), "no libfle.so that the system finds, or no fle in PATH")
+class WithBoth(unittest.TestCase):
+    def setUp(self):
+        self.library, self.program = Fle(*FILES), Fle(*FILES, program="fle")
+        self.addCleanup(self.library.close)
+        self.addCleanup(self.program.close)
+        self.assertIsInstance(self.library._sealing, Part)
+        self.assertNotIsInstance(self.program._sealing, Part)
+
+    def told(self, fle, document, opens=False):
+        with self.assertRaises(Refused) as refused:
+            (fle.decrypt if opens else fle.encrypt)(document)
+        error = refused.exception
+        return error.status, error.document, error.reason, error.place, error.fields, str(error)
+
+    def same_refusal(self, document, opens=False):
+        told = self.told(self.library, document, opens)
+        self.assertEqual(told, self.told(self.program, document, opens))
+        return told
+
+    def test_answers(self):
+        for command in (COMMAND, OTHER, COMMAND):
+            sealed = self.library.encrypt(command)
+            self.assertEqual(sealed, self.program.encrypt(command))
+            self.assertEqual(self.library.decrypt(sealed), command)
+
+    def test_random_values_open_again(self):
+        many = [insert(*(spelled(string("salary", str(number))) for number in range(count))) for count in (1, 16, 17, 300)]
+        for command in many:
+            sealed = self.library.encrypt(command)
+            self.assertNotEqual(sealed, self.library.encrypt(command))
+            self.assertEqual(self.program.decrypt(sealed), command)
+            self.assertEqual(self.library.decrypt(sealed), command)
+
+    def test_refusals(self):
+        self.assertEqual(self.same_refusal(REFUSED)[2:5], (Reason.TypeNotAllowed, (1, 0, 0), "documents.0.ssn"))
+        self.assertEqual(self.same_refusal(spelled())[2:5], (Reason.NotACommand, (), ""))
+        self.assertEqual(self.same_refusal(b"\6\0\0\0\0\0")[2:4], (InputFault.Extra, (5,)))
+        self.assertEqual(self.same_refusal(spelled(element(1, "x", b"\0")))[2], InputFault.Short)
+        spoiled = bytearray(self.library.encrypt(OTHER))
+        spoiled[-4] ^= 1
+        self.assertEqual(self.same_refusal(bytes(spoiled), True)[2], Reason.TagMismatch)
+        self.assertEqual(self.library.encrypt(OTHER), self.program.encrypt(OTHER))
+
+    def test_large_documents(self):
+        command = insert(spelled(string("salary", "x" * LARGE)))
+        self.assertEqual(self.library.decrypt(self.library.encrypt(command)), command)
+        over = insert(spelled(binary("unprotected", 0, bytes(1 << 24))))
+        self.assertEqual(self.same_refusal(over)[2], Limit.Document)
+
+    def test_threads(self):
+        commands = [insert(spelled(string("ssn", str(number)))) for number in range(64)]
+        with ThreadPoolExecutor(8) as threads:
+            for command, sealed in zip(commands, threads.map(self.library.encrypt, commands)):
+                self.assertEqual(self.library.decrypt(sealed), command)
+
+    def test_a_fork(self):
+        sealed = self.library.encrypt(OTHER)
+        child = os.fork()
+        if child == 0:
+            os._exit(0 if self.library.encrypt(OTHER) == sealed else 1)
+        self.assertEqual(os.waitpid(child, 0)[1], 0)
+        self.assertEqual(self.library.encrypt(OTHER), sealed)
+
+    def test_what_is_no_document(self):
+        for document in (b"", b"\5\0\0", COMMAND[:-1], COMMAND + b"\0"):
+            with self.assertRaises(ValueError):
+                self.library.encrypt(document)
+
+    def test_closed(self):
+        self.library.close()
+        for call in (self.library.encrypt, self.library.decrypt):
+            with self.assertRaises(Closed):
+                call(COMMAND)
+
+
+@unittest.skipUnless(loaded(), "no libfle.so that the system finds")
+class Files(unittest.TestCase):
+    def told(self, keys=KEYS, schemas=SCHEMAS, master=MASTER):
+        with self.assertRaises(FaultyFile) as faulty:
+            Fle("hr", keys, schemas, master)
+        return faulty.exception.file, faulty.exception.reason, faulty.exception.place
+
+    def test_files_at_fault(self):
+        with tempfile.TemporaryDirectory() as folder:
+            missing, none = Path(folder) / "missing", Path(folder) / "none"
+            none.write_bytes(b"")
+            self.assertEqual(self.told(schemas=missing), (str(missing), FileFault.Missing, (0,)))
+            self.assertEqual(self.told(keys=MASTER)[0], str(MASTER))
+            self.assertEqual(self.told(master=none)[0], str(none))
+
+
+class Places(unittest.TestCase):
+    def test_a_value_by_its_offset(self):
+        document = spelled(integer("a", 1), element(3, "b", spelled(element(10, "", b""), integer("c", 2))))
+        self.assertEqual(place_at(document, 7), (0,))
+        self.assertEqual(place_at(document, 14), (1,))
+        self.assertEqual(place_at(document, 20), (1, 0))
+        self.assertEqual(place_at(document, 23), (1, 1))
+        self.assertEqual(place_at(document, 0), ())

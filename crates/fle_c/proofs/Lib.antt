@@ -1,0 +1,4 @@
+pub mod Boxed
+pub mod Handed
+pub mod Judged
+pub mod Wants

@@ -1,0 +1,4 @@
+pub mod Holding
+pub mod Blocks
+pub mod Telling
+pub mod Calls
