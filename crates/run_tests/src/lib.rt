@@ -26,7 +26,13 @@ mod opening_tests;
 #[cfg(test)]
 mod other_names_tests;
 #[cfg(test)]
+mod pair_tests;
+#[cfg(test)]
 mod placing_tests;
+#[cfg(test)]
+mod rewrap_samples;
+#[cfg(test)]
+mod rewrap_tests;
 #[cfg(test)]
 mod runs;
 #[cfg(test)]

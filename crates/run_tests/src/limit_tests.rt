@@ -1,8 +1,13 @@
-//! Whole runs over documents at the limits of size.
+//! Whole runs over documents and a vault at the limits of size.
 
+use crate::keys_tests::VAULT;
+use crate::rewrap_samples::{FOREIGN, RENEWED};
+use crate::rewrap_tests::{ONE, rewrapping};
 use crate::runs::{Run, joined, sealing, stops, writes};
 use crate::size_tests::insert_of;
 use fle_stream::Status;
+use std::alloc::Global;
+use std::process::Abort;
 
 /// The front of `{insert: "notes", documents: [{p: a binary of 16,777,149 bytes}], $db: "hr"}`, 16,777,216 bytes.
 const FRONT: &[u8] =
@@ -41,4 +46,41 @@ fn a_sealed_command_has_at_most_48_million_bytes(rt: HostRuntime) {
         ..sealing(&command)
     };
     stops(&rt, alloc, run, Status::Limit, "fle: 9 1 2 -\n");
+}
+
+/// A vault of 65,536 keys, the most that it may have: this one stands behind 65,535 of another provider, each of which
+/// has its number in its id.
+fn full_vault(rt: &impl Abort, alloc: Global, last: &[u8]) -> Vec<u8> {
+    let (front, behind) = FOREIGN.as_slice().split_at(14);
+    let (_, back) = behind.split_at(4);
+    let mut vault = Vec::new(alloc);
+    for number in 0..65_535_u32 {
+        vault.extend_from_slice(front).expect(rt, "memory");
+        vault
+            .extend_from_slice(&number.to_le_bytes())
+            .expect(rt, "memory");
+        vault.extend_from_slice(back).expect(rt, "memory");
+    }
+    vault.extend_from_slice(last).expect(rt, "memory");
+    vault
+}
+
+#[test]
+fn the_last_key_of_a_full_vault_is_rewrapped(rt: HostRuntime) {
+    let alloc = rt.alloc();
+    let keys = full_vault(&rt, alloc, VAULT);
+    let run = Run {
+        room: 7_000_000,
+        ..rewrapping(&keys, &ONE)
+    };
+    writes(&rt, alloc, run, &full_vault(&rt, alloc, RENEWED));
+}
+
+#[test]
+fn a_vault_has_at_most_65536_keys(rt: HostRuntime) {
+    let alloc = rt.alloc();
+    let full = full_vault(&rt, alloc, VAULT);
+    let keys = joined(&rt, alloc, &[&full, FOREIGN]);
+    let run = rewrapping(&keys, &ONE);
+    stops(&rt, alloc, run, Status::Setup, "fle: 4 3 27 65537\n");
 }

@@ -5,7 +5,7 @@ use crate::other_names_tests::{DIARY, LEDGER, SCORES};
 use crate::schema_tests::{NOTES, STAFF, VIEW};
 use crate::update_tests::PAIR;
 use crypto_hooks::{Block256, Tables};
-use fle_outside::{MemEntropy, MemFolder, MemSink, MemSource};
+use fle_outside::{Entropy, MemEntropy, MemFolder, MemSink, MemSource};
 use fle_runner::fle;
 use fle_stream::Status;
 use sample_documents::PEOPLE;
@@ -33,15 +33,17 @@ const NONE: [u64; 0] = [];
 /// No block is to come.
 const NO_BLOCK: [[u8; 16]; 0] = [];
 
-/// A run: its words; the files `keys`, `infos` (in pieces) and `master`; its input, and how many bytes of it one read
-/// gives; how many bytes the output and the line have room for; the blocks to come; and the numbers of the calls that
-/// fail.
+/// A run: its words; the files `keys`, `infos` (in pieces), `master` and `other`, a second master key; the time; its
+/// input, and how many bytes of it one read gives; how many bytes the output and the line have room for; the blocks to
+/// come; and the numbers of the calls that fail.
 #[derive(Clone, Copy)]
 pub(crate) struct Run<'a> {
     pub(crate) words: &'a [&'a str],
     pub(crate) keys: &'a [u8],
     pub(crate) infos: &'a [&'a [u8]],
     pub(crate) master: &'a [u8],
+    pub(crate) other: &'a [u8],
+    pub(crate) time: i64,
     pub(crate) input: &'a [u8],
     pub(crate) step: usize,
     pub(crate) room: usize,
@@ -54,12 +56,13 @@ pub(crate) struct Run<'a> {
     pub(crate) draws: &'a [u64],
 }
 
-/// What a run left: its status, its output and its line.
+/// What a run left: its status, its output, its line, and the blocks that are still to come.
 #[derive(Drop)]
 struct Seen {
     status: Status,
     out: MemSink,
     diag: MemSink,
+    entropy: MemEntropy,
 }
 
 /// A run of `mark` over this input, in which nothing fails.
@@ -69,6 +72,8 @@ pub(crate) fn marking(input: &[u8]) -> Run<'_> {
         keys: VAULT,
         infos: &INFOS,
         master: MASTER,
+        other: b"",
+        time: 1_700_000_000_000,
         input,
         step: 1000,
         room: 20_000,
@@ -139,7 +144,11 @@ fn folder_of(rt: &impl Abort, alloc: Global, run: Run<'_>) -> MemFolder {
         String::from_str(alloc, "master").expect(rt, "memory"),
         Vec::from_slice(alloc, run.master).expect(rt, "memory"),
     );
-    let files = vec![in alloc; keys, infos, master].expect(rt, "memory");
+    let other = (
+        String::from_str(alloc, "other").expect(rt, "memory"),
+        Vec::from_slice(alloc, run.other).expect(rt, "memory"),
+    );
+    let files = vec![in alloc; keys, infos, master, other].expect(rt, "memory");
     let failing = Vec::from_slice(alloc, run.folder).expect(rt, "memory");
     MemFolder::new(files, failing)
 }
@@ -164,7 +173,7 @@ fn entropy_of(rt: &impl Abort, alloc: Global, run: Run<'_>) -> MemEntropy {
     MemEntropy::new(blocks, failing)
 }
 
-/// Runs the program over this block cipher, at the time 1,700,000,000,000.
+/// Runs the program over this block cipher.
 fn look<B: Block256>(rt: &impl Abort, alloc: Global, run: Run<'_>, hooks: &B) -> Seen
     requires hooks { B.answers hooks.now }
 {
@@ -177,7 +186,7 @@ fn look<B: Block256>(rt: &impl Abort, alloc: Global, run: Run<'_>, hooks: &B) ->
     let status = fle(
         alloc,
         &words,
-        1_700_000_000_000,
+        run.time,
         &mut input,
         &mut files,
         &mut out,
@@ -185,13 +194,24 @@ fn look<B: Block256>(rt: &impl Abort, alloc: Global, run: Run<'_>, hooks: &B) ->
         &mut entropy,
         hooks,
     );
-    Seen { status, out, diag }
+    Seen {
+        status,
+        out,
+        diag,
+        entropy,
+    }
 }
 
 /// What a run writes.
 pub(crate) fn output(rt: &impl Abort, alloc: Global, run: Run<'_>) -> Vec<u8> {
     let seen = look(rt, alloc, run, &Tables);
     Vec::from_slice(alloc, seen.out.written()).expect(rt, "memory")
+}
+
+/// The block that is the next one to come after a run.
+pub(crate) fn next_block(rt: &impl Abort, alloc: Global, run: Run<'_>) -> Option<[u8; 16]> {
+    let mut seen = look(rt, alloc, run, &Tables);
+    seen.entropy.block().ok()
 }
 
 /// The run must leave this status, this output and this line.
