@@ -2,7 +2,7 @@
 array. A place is a tuple of child numbers."""
 import struct
 
-STRING, DOCUMENT, ARRAY, BINARY, REGEX, INT = 2, 3, 4, 5, 11, 16
+STRING, DOCUMENT, ARRAY, BINARY, DATE, REGEX, INT = 2, 3, 4, 5, 9, 11, 16
 
 
 def spell(value):

@@ -2,7 +2,7 @@
 changed."""
 import base64
 
-from plain.bson import ARRAY, BINARY, DOCUMENT, INT, STRING, array, binary, spell, text
+from plain.bson import ARRAY, BINARY, DATE, DOCUMENT, INT, STRING, array, binary, spell, text
 from plain.chance import NAMES, RAW, TYPES, some_raw
 from plain.sealing import Vault, derived_vector, padded, sealed
 
@@ -40,10 +40,17 @@ def some_material(chance, master, damaged):
     return changed(chance, material) if way == "changed" else material
 
 
+def some_dates(chance):
+    """`updateDate` up to three times, mostly once and a date."""
+    tags = chance.choices([DATE, 18], [9, 1], k=chance.choice([0, 1, 1, 1, 2, 3]))
+    return [(tag, "updateDate", chance.randbytes(8)) for tag in tags]
+
+
 def key_document(chance, number, key_id, provider, material):
+    inner = some_dates(chance) if chance.random() < 0.1 else []
     fields = [(BINARY, "_id", binary(4, key_id)), (BINARY, "keyMaterial", binary(0, material)),
-              (9, "creationDate", chance.randbytes(8)), (INT, "status", bytes(4)),
-              (DOCUMENT, "masterKey", [(STRING, "provider", text(provider))])]
+              (DATE, "creationDate", chance.randbytes(8)), *some_dates(chance), (INT, "status", bytes(4)),
+              (DOCUMENT, "masterKey", [(STRING, "provider", text(provider)), *inner])]
     names = [text(f"key-{number}-{at}") for at in range(chance.randrange(3))]
     if names or chance.random() < 0.5:
         fields.append((ARRAY, "keyAltNames", array(STRING, names)))

@@ -6,7 +6,7 @@ import hmac
 import struct
 
 from plain.aes import cbc_opened, cbc_sealed
-from plain.bson import BINARY, binary, places_of, spell, with_values
+from plain.bson import BINARY, DATE, binary, places_of, spell, with_values
 from plain.reading import LEVELS, is_value
 from plain.rules import UNSTORABLE
 
@@ -64,6 +64,9 @@ class Vault:
         key = opened(self.master, b"", material) if len(material) == 160 else b""
         return key if isinstance(key, bytes) and len(key) == 96 else 18
 
+    def is_local(self, key_id):
+        return self.keys[key_id][0] == "local"
+
     def data_key(self, key_id):
         """The data key; or why there is none, 16 to 18."""
         if key_id not in self.known:
@@ -120,3 +123,31 @@ def unseal(elements, vault):
         if isinstance(values[place], int):
             return None, (place, values[place])
     return spell(with_values(elements, values)), None
+
+
+# ---- vaults under another master key
+
+def id_of(elements):
+    """The id of a key's document."""
+    return next(value[5:] for _, name, value in elements if name == "_id")
+
+
+def rewrapped(elements, key, master, vector, time):
+    """The document of this data key under another master key, at this time."""
+    changed = {(BINARY, "keyMaterial"): binary(0, sealed(master, b"", vector, padded(key))),
+               (DATE, "updateDate"): struct.pack("<q", time)}
+    return [(tag, name, changed.get((tag, name), value)) for tag, name, value in elements]
+
+
+def rewrap(documents, vault, master, time, blocks):
+    """A vault's file under another master key, each local key under the next of the blocks; or None, and the number of
+    the first document whose key doesn't open."""
+    file = b""
+    for number, elements in enumerate(documents, 1):
+        if vault.is_local(id_of(elements)):
+            key = vault.data_key(id_of(elements))
+            if isinstance(key, int):
+                return None, number
+            elements = rewrapped(elements, key, master, next(blocks), time)
+        file += spell(elements)
+    return file, None
