@@ -203,8 +203,9 @@ fn a_failed_read_names_its_document_and_a_failed_write_the_command(rt: HostRunti
 #[test]
 fn without_a_block_the_command_is_named(rt: HostRuntime) {
     let alloc = rt.alloc();
+    let mut input = joined(&rt, alloc, &[INSERT, REPLY, RANDOM]);
     let reply = output(&rt, alloc, marking(RANDOM));
-    let input = joined(&rt, alloc, &[INSERT, REPLY, RANDOM, &reply]);
+    input.extend_from_slice(&reply).expect(&rt, "memory");
     expect(
         &rt,
         alloc,
@@ -213,6 +214,11 @@ fn without_a_block_the_command_is_named(rt: HostRuntime) {
         SEALED_INSERT,
         "fle: 7 3 0 -\n",
     );
+}
+
+#[test]
+fn a_command_without_a_reply_is_named(rt: HostRuntime) {
+    let alloc = rt.alloc();
     stops(
         &rt,
         alloc,
