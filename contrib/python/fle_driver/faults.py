@@ -47,6 +47,9 @@ class Reason(IntEnum):
     Padding = 21
     Plain = 22
     PointerBad = 23
+    ReplyShape = 25
+    ReplyDiffers = 26
+    ReplyMissing = 27
     NotText = 28
 
 
