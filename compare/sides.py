@@ -67,6 +67,10 @@ def seals():
     return has_verb("encrypt", ["hr", "no-keys", "no-schemas", "no-master"])
 
 
+def checks_replies():
+    return has_verb("encrypt-with", ["hr", "no-keys", "no-schemas", "no-master"])
+
+
 def opens():
     return has_verb("decrypt", ["no-keys", "no-master"])
 

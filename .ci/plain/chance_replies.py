@@ -1,0 +1,213 @@
+"""Marking replies at random: the right one to a command, its elements and the fields of its markings in any order; or
+one that is spoiled in one of many ways, of which some leave it right."""
+import struct
+
+from plain.bson import ARRAY, BINARY, DOCUMENT, INT, binary, places_of, spell, with_values
+from plain.chance import NAMES, RAW, some_element, some_raw
+from plain.reading import LEVELS, document_at, documents_of
+from plain.replies import ORDER, READ
+from plain.rules import marks_of, reply, rules_of
+
+OTHERS = ["ok", "Result", "results", "resul", "hasEncryptionPlaceholder", "schemaRequiresEncryption ", ""]  # unread
+FORMS = [(2, 13, 14), (1, 9, 17, 18), (6, 10, 127, 255), (DOCUMENT, ARRAY)]  # types whose values have one form
+
+
+# ---- one element among some, at a number
+
+def put(elements, at, *others):
+    return elements[:at] + list(others) + elements[at + 1:]
+
+
+def dropped(_chance, elements, at):
+    return put(elements, at)
+
+
+def doubled(chance, elements, at):
+    there = chance.randrange(len(elements) + 1)
+    return elements[:there] + [elements[at]] + elements[there:]
+
+
+def swapped(chance, elements, at):
+    there = chance.randrange(len(elements))
+    return put(put(elements, at, elements[there]), there, elements[at])
+
+
+def renamed(chance, elements, at):
+    tag, _, value = elements[at]
+    return put(elements, at, (tag, chance.choice([*READ, *ORDER, *NAMES]), value))
+
+
+def retyped(chance, elements, at):
+    """Another type, with the same bytes where there is one of this form."""
+    tag, name, value = elements[at]
+    alike = [other for form in FORMS if tag in form for other in form if other != tag]
+    if alike and chance.random() < 0.8:
+        return put(elements, at, (chance.choice(alike), name, value))
+    other = chance.choice(RAW)
+    return put(elements, at, (other, name, some_raw(chance, other)))
+
+
+def revalued(chance, elements, at):
+    """Another value of the type, but for chance."""
+    tag, name, value = elements[at]
+    if tag == 8:
+        return put(elements, at, (tag, name, bytes([1 - value[0]])))
+    if isinstance(value, list):
+        return put(elements, at, (tag, name, value[1:]))
+    return put(elements, at, (tag, name, some_raw(chance, tag)))
+
+
+def added(chance, elements, at):
+    return elements[:at] + [some_element(chance, chance.choice(NAMES + OTHERS), 1)] + elements[at:]
+
+
+def edited(chance, elements):
+    if not elements:
+        return [some_element(chance, chance.choice(NAMES), 1)]
+    edit = chance.choice([dropped, doubled, swapped, renamed, retyped, revalued, added])
+    return edit(chance, elements, chance.randrange(len(elements)))
+
+
+def edited_within(chance, elements):
+    """An edit here, or in a document within."""
+    inner = [at for at, (_, _, value) in enumerate(elements) if isinstance(value, list)]
+    if not inner or chance.random() < 0.2:
+        return edited(chance, elements)
+    at = chance.choice(inner)
+    tag, name, value = elements[at]
+    return put(elements, at, (tag, name, edited_within(chance, value)))
+
+
+# ---- markings
+
+def marking(fields):
+    return BINARY, binary(6, b"\0" + spell(fields))
+
+
+def fields_of(value):
+    return document_at(value, 6, len(value), LEVELS)[0]
+
+
+def shuffled(chance, elements):
+    return chance.sample(elements, len(elements))
+
+
+def under_another(chance, fields, rules):
+    """A marking under the other algorithm, or under the key of another rule."""
+    if chance.random() < 0.5:
+        return [(tag, name, struct.pack("<i", 3 - value[0]) if name == "a" else value) for tag, name, value in fields]
+    _, key, _ = chance.choice(list(rules.values()))
+    return [(tag, name, binary(4, key) if name == "ki" else value) for tag, name, value in fields]
+
+
+def in_another_frame(chance, fields):
+    """The fields behind another first byte, in another binary, or with bytes behind them."""
+    subtype, first, behind = chance.choice([(0, b"\0", b""), (6, b"\1", b""), (6, b"", b""), (6, b"\0", b"\0")])
+    return BINARY, binary(subtype, first + spell(fields) + behind)
+
+
+def spoiled_marking(chance, value, rules):
+    fields = fields_of(value)
+    way = chance.randrange(4)
+    if way == 0:
+        tag, _, plain = fields[0]
+        return tag, plain
+    if way == 1:
+        return in_another_frame(chance, fields)
+    return marking(under_another(chance, fields, rules) if way == 2 else edited(chance, fields))
+
+
+# ---- replies
+
+def of_result(elements, made):
+    """A reply's elements with another result, made of the one that stands there."""
+    return [(tag, name, made(value) if name == "result" else value) for tag, name, value in elements]
+
+
+def reordered(chance, elements, marks):
+    """A right reply with its elements in any order, others among them, and so the fields of its markings."""
+    def turned(result):
+        return with_values(result, {place: marking(shuffled(chance, fields_of(value)))
+                                    for place, _, value in places_of(result) if place in marks})
+    others = [some_element(chance, chance.choice(OTHERS), 1) for _ in range(chance.randrange(3))]
+    return shuffled(chance, of_result(elements, turned) + others)
+
+
+def marked_too_much(chance, result, rules):
+    """A marking in the place of one more value."""
+    place, tag, value = chance.choice(list(places_of(result)))
+    algorithm, key, _ = chance.choice(list(rules.values()) or [("D", bytes(16), [])])
+    rest = [(INT, "a", struct.pack("<i", "DR".index(algorithm) + 1)), (BINARY, "ki", binary(4, key))]
+    return with_values(result, {place: marking([(tag, "v", value), *rest])})
+
+
+def spoiled(chance, elements, infos, command, others):
+    """A right reply that is changed once, in its own elements, in its result or in one of its markings."""
+    rules = rules_of(infos, command)
+    marks = marks_of(rules, command)
+    way = chance.choice([0, 0, 1, 2, 3, 4, 5, 5, 5])
+    if way == 0:
+        return edited(chance, elements)
+    if way == 1:
+        return of_result(elements, lambda _: command)
+    if way == 2:
+        return of_result(elements, lambda _: of_right(infos, chance.choice(others))[2][2])
+    if way == 3:
+        return of_result(elements, lambda result: marked_too_much(chance, result, rules))
+    if way == 4 or not marks:
+        return of_result(elements, lambda result: edited_within(chance, result))
+    place = chance.choice(list(marks))
+    return of_result(elements, lambda result: with_values(result, {
+        other: spoiled_marking(chance, value, rules) for other, _, value in places_of(result) if other == place}))
+
+
+def of_right(infos, command):
+    """The elements of the right reply."""
+    [(elements, _)] = documents_of(reply(infos, command))
+    return elements
+
+
+def some_right_reply(chance, infos, command):
+    """The elements of a right reply to a command that isn't refused, in the form of `fle mark` or in another one."""
+    elements = of_right(infos, command)
+    marks = marks_of(rules_of(infos, command), command)
+    return reordered(chance, elements, marks) if chance.random() < 0.5 else elements
+
+
+def some_wrong_reply(chance, infos, command, others):
+    """The elements of a reply that is spoiled once or twice; it may be the one to one of some other commands."""
+    elements = spoiled(chance, of_right(infos, command), infos, command, others)
+    elements = edited(chance, elements) if chance.random() < 0.2 else elements
+    elements = shuffled(chance, elements) if chance.random() < 0.5 else elements
+    return elements if is_document(elements) else of_right(infos, command)
+
+
+def is_document(elements):
+    """Whether the elements spell a document."""
+    try:
+        return len(documents_of(spell(elements))) == 1
+    except ValueError:
+        return False
+
+
+# ---- pairs
+
+def some_pairs(chance, infos, accepted, refused):
+    """Some of the accepted commands, each before a reply, as elements, and the bytes of a cut document behind them. Of
+    ten rows six have a wrong reply; else a reply may be missing, or the last command be the one that is refused."""
+    documents = []
+    for command in chance.sample(accepted, min(len(accepted), chance.randrange(1, 6))):
+        documents += [command, some_right_reply(chance, infos, command)]
+    way = chance.choices(["wrong", "missing", "cut", "refused", "right"], [6, 1, 1, 1, 1])[0]
+    if way == "wrong" and documents:
+        at = chance.randrange(0, len(documents), 2)
+        documents[at + 1] = some_wrong_reply(chance, infos, documents[at], accepted)
+    elif way == "missing":
+        del documents[-1:]
+    elif way == "refused":
+        documents += refused
+    elif way == "cut" and documents:
+        at = len(documents) - chance.choice([1, 2])
+        front = spell(documents[at])
+        return documents[:at], front[:chance.randrange(1, len(front))]
+    return documents, b""
