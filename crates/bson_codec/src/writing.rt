@@ -30,10 +30,20 @@ pub fn append(out: &mut Vec<u8>, bytes: &[u8]) -> Result<(), Memory>
 pub fn put_name(out: &mut Vec<u8>, tag: u8, name: &[u8]) -> Result<(), Memory>
     ensures named { OnOk result (out.new.items ≡ out.old.items ++ (tag ∷ (name.now ++ 0 ∷ []))) }
 {
-    append(out, &[tag])?;
+    push(out, tag)?;
     append(out, name)?;
-    append(out, &[0])?;
+    push(out, 0)?;
     Ok(())
+}
+
+/// Appends a byte. `Memory` where there is none for it.
+fn push(out: &mut Vec<u8>, byte: u8) -> Result<(), Memory>
+    ensures pushed { OnOk result (out.new.items ≡ out.old.items ++ byte ∷ []) }
+{
+    match out.push(byte) {
+        Ok(()) => Ok(()),
+        Err(_) => Err(Memory),
+    }
 }
 
 /// Begins a document at the end of `out`: four bytes, for the length that `close` puts in.
