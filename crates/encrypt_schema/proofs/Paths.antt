@@ -12,7 +12,6 @@ pub mod Growth
 pub mod Grids
 pub mod Steps
 pub mod Opened
-pub mod Splits
 pub mod Walks
 pub mod WorkedClasses
 pub mod Roots

@@ -29,6 +29,7 @@ schema_code schemas.TypeName = 8
 schema_code schemas.DeterministicType = 9
 schema_code schemas.Name = 10
 schema_code schemas.TooMany = 11
+schema_code schemas.DeterministicPointer = 14
 schema_code schemas.Memory = 12
 
 -- the number of a fault of a document of collection infos

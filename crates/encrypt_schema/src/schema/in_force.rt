@@ -1,11 +1,13 @@
 //! What is in force inside a schema: the algorithm and the key.
 
-ghost use Rattle.std.specs.Prelude.{◌≡◌, codes};
+ghost use Rattle.std.specs.Prelude.{◌≡◌, codes, option_map};
 ghost use Rattle.encrypt_schema.specs.Language.Names.{named};
 ghost use Rattle.encrypt_schema.specs.Language.Rules.{algorithm_inside, algorithm_named, key_inside};
+ghost use Rattle.encrypt_schema.specs.Views.Stated.{key_stated};
 
 use crate::schema::faults::SchemaFault;
 use crate::schema::names::is_named;
+use crate::schema::pointers::StatedKey;
 use crate::schema::policy::Algorithm;
 use crate::schema::shape::key_of;
 use crate::schema::stated::Stated;
@@ -62,8 +64,11 @@ fn is_random(text: &[u8]) -> bool
 
 /// The key in force inside: the one stated, else the one around.
 #[tactic(auto, unfolding(crate::specs::Language::Rules::key_inside))]
-pub(crate) fn key_inside(around: Option<[u8; 16]>, schema: &Stated<'_>) -> Option<[u8; 16]>
-    ensures { result ≡ key_inside around schema.now.tree }
+pub(crate) fn key_inside<'a>(
+    around: Option<StatedKey<'a>>,
+    schema: &Stated<'a>,
+) -> Option<StatedKey<'a>>
+    ensures { option_map key_stated result ≡ key_inside (option_map key_stated around.entry) schema.now.tree }
 {
     match schema.key() {
         None => around,

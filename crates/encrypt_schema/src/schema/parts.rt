@@ -12,14 +12,14 @@ use crate::schema::values::is_document;
 use bson_codec::{RawDoc, RawItem};
 
 /// What a keyword's value is to its schema.
-fn part_by(
-    context: Context,
+fn part_by<'a>(
+    context: Context<'a>,
     schema: &RawDoc<'_>,
     keyword: Option<(usize, Form)>,
     item: &RawItem<'_>,
-) -> Part
+) -> Part<'a>
     ensures { (path : List (List ℕ)) → part_at path schema.now.tree result
-        ≡ part_by (context_at path context) schema.now.tree (tag_of item.now.tree) keyword }
+        ≡ part_by (context_at path context.entry) schema.now.tree (tag_of item.now.tree) keyword }
 {
     match keyword {
         Some((_, Form::Properties)) => Part::Properties(context.below_root()),
@@ -36,9 +36,9 @@ fn part_by(
 
 /// What the value of `additionalProperties` is to its schema.
 #[tactic(auto, unfolding(crate::specs::Language::Schemas::last_part))]
-fn last_part(context: Context, schema: &RawDoc<'_>) -> Part
+fn last_part<'a>(context: Context<'a>, schema: &RawDoc<'_>) -> Part<'a>
     ensures { (path : List (List ℕ)) → part_at path schema.now.tree result
-        ≡ last_part (context_at path context) schema.now.tree }
+        ≡ last_part (context_at path context.entry) schema.now.tree }
 {
     if context.position.has_last(states_patterns(schema)) {
         Part::Last(context.in_last())
@@ -48,9 +48,10 @@ fn last_part(context: Context, schema: &RawDoc<'_>) -> Part
 }
 
 /// What the value of `items` is to its schema.
-fn items_part(context: Context, item: &RawItem<'_>) -> Part
+fn items_part<'a>(context: Context<'a>, item: &RawItem<'_>) -> Part<'a>
     ensures { (path : List (List ℕ)) (is : Items) → part_at path is result
-        ≡ (if tag_of item.now.tree == 3 then schema (context_at path context) else schemas (context_at path context)) }
+        ≡ (if tag_of item.now.tree == 3 then schema (context_at path context.entry)
+        else schemas (context_at path context.entry)) }
 {
     if is_document(item) {
         Part::Schema(context)
@@ -60,10 +61,10 @@ fn items_part(context: Context, item: &RawItem<'_>) -> Part
 }
 
 /// What an element of a document is to the part of a schema that this is.
-pub(crate) fn part_of(part: Part, document: &RawDoc<'_>, item: &RawItem<'_>) -> Part
+pub(crate) fn part_of<'a>(part: Part<'a>, document: &RawDoc<'_>, item: &RawItem<'_>) -> Part<'a>
     ensures { (path : List (List ℕ)) (is : Items) →
-        part_at (path_below part item.now.name path) document.now.tree result
-        ≡ part_of (part_at path is part) document.now.tree item.now.name (tag_of item.now.tree) }
+        part_at (path_below part.entry item.now.name path) document.now.tree result
+        ≡ part_of (part_at path is part.entry) document.now.tree item.now.name (tag_of item.now.tree) }
 {
     match part {
         Part::Nothing => Part::Nothing,
