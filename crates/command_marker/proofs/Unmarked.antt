@@ -5,6 +5,7 @@ use Rattle.std.proofs.lemmas.Bool.{false≢true}
 use Rattle.bson_tree.specs.Tree.{Tree, leaf, node, Items, no_items, item}
 use Rattle.bson_tree.specs.Filled.{fill_tree, fill_items}
 use Rattle.bson_tree.specs.Spelling.{value_bytes}
+use Rattle.bson_codec.specs.Borrowed.{At}
 use Rattle.encrypt_schema.specs.declared.command.marks.Mark.{Mark}
 use Rattle.encrypt_schema.specs.Language.Collection.{Collection}
 use Rattle.encrypt_schema.specs.Language.Row.{Row}
@@ -32,15 +33,16 @@ mutual
       ap (λ (u : Tree). item name u (fill_items f behind is)) (same_tree f h (at + (2 + length name)) t)
       ∙ ap (λ (js : Items). item name t js) (same_items f h behind is)
 
-no_marking : (rows : List Row) (at : ℕ) (t : Tree) → marking_at rows [] at t ≡ None
-no_marking rows at t = refl
+no_marking : (rows : List Row) (d : At) (at : ℕ) (t : Tree) → marking_at rows d [] at t ≡ None
+no_marking rows d at t = refl
 
 -- a command without marks is marked as it is
 marked_none : (rows : List Row) (c : Items) → roles rows 0 c ≡ [] → marked rows c ≡ c
 unfolding marked
 marked_none rows c h =
-    ap (λ (ms : List Mark). fill_items (marking_at rows ms) 4 c) h
-    ∙ same_items (marking_at rows []) (no_marking rows) 4 c
+    let d : At = record { tree = c; start = 0 } in
+    ap (λ (ms : List Mark). fill_items (marking_at rows d ms) 4 c) h
+    ∙ same_items (marking_at rows d []) (no_marking rows d) 4 c
 
 -- without rules the reply has both flags false and the command as it is
 pub reply_without_rules : (c : Items) → reply_to [] c ≡ reply_clear_to c

@@ -2,9 +2,10 @@
 //! `encrypt_schema`). The functions do nothing; their clauses are the laws.
 
 ghost use Rattle.std.specs.Prelude.{◌≡◌, ◌+◌, ◌∷◌, [], ℕ, List, Bool, Option, None, true, false, Some, length, map};
-ghost use Rattle.std.specs.Prelude.{flat_map, option_map};
+ghost use Rattle.std.specs.Prelude.{flat_map, is_some, option_map};
 ghost use Rattle.std.specs.List.{list_all};
 ghost use Rattle.std.specs.Option.{is_none, option_map_or};
+ghost use Rattle.bson_codec.specs.Borrowed.{At};
 ghost use Rattle.bson_tree.specs.Filled.{filled};
 ghost use Rattle.bson_tree.specs.Places.{place_of, places, places_from};
 ghost use Rattle.bson_tree.specs.Spelling.{doc_bytes};
@@ -24,6 +25,7 @@ ghost use Rattle.command_marker.specs.Commands.{passes};
 ghost use Rattle.command_marker.specs.Marked.{marked};
 ghost use Rattle.command_marker.specs.MarkedPlaces.{marking_of};
 ghost use Rattle.command_marker.specs.Reply.{reply_clear_to, reply_to};
+ghost use Rattle.payload6.specs.Needs.{need_of};
 ghost use Rattle.command_marker.specs.ToldPlaces.{first_refused, told};
 
 /// The values with a role of a command that begins at `at` come in reading order and apart: none twice, none inside
@@ -75,7 +77,8 @@ pub fn equal_blanks()
 
 /// The `name` of each mark is where the command has the text that names the mark's key, by its rule's pointer; there
 /// is none where the rule has no pointer. Commands with equal skeletons have equal such texts, and so have commands
-/// that are equal but for blanks at their protected values, wherever they begin.
+/// that are equal but for blanks at their protected values, wherever they begin. In a command whose contents aren't
+/// refused each mark has what names its key, an id or such a text.
 pub fn key_names()
     ensures texts { (rows : List Row) (at : ℕ) (c : Items)
         → map (λ m. option_map (text_in at (doc_bytes c)) m.name) (roles rows at c)
@@ -84,6 +87,8 @@ pub fn key_names()
         → texts rows (command_visits rows at c) ≡ texts rows (command_visits rows at d) }
     ensures blanks { (rows : List Row) (at from : ℕ) (c d : Items) → blank rows c ≡ blank rows d
         → texts rows (command_visits rows at c) ≡ texts rows (command_visits rows from d) }
+    ensures accepted { (rows : List Row) (d : At) → content_verdict rows d.start d.tree ≡ None
+        → list_all (λ m. is_some (need_of rows d m)) (roles rows d.start d.tree) ≡ true }
 {}
 
 /// A command that passes unchanged has no value with a role and isn't refused; whatever rules there are, its reply has

@@ -81,7 +81,7 @@ fn write_marked(
         ruled: rows.len() > 0,
     };
     let mut out = begin(alloc, size, flags)?;
-    put_document(&mut out, rows, marks, 0, command)?;
+    put_document(&mut out, rows, marks, command, 0, command)?;
     end(&mut out)?;
     Ok(out)
 }

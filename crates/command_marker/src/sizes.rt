@@ -6,7 +6,7 @@ ghost use Rattle.command_marker.specs.Reply.{reply_limit};
 ghost use Rattle.command_marker.specs.Splices.{added};
 ghost use Rattle.command_marker.specs.Written.{AreRuled, SizesAs, growth_by};
 
-use crate::splicing::{growth_of, next_mark, policy_of};
+use crate::splicing::{growth_of, key_of, next_mark};
 use crate::stop::ReplyFault;
 use bson_codec::RawDoc;
 use encrypt_schema::{Marks, Rows};
@@ -18,28 +18,30 @@ const REPLY_LIMIT: usize = 48_000_000;
 const AROUND_COMMAND: usize = 80;
 
 /// How many bytes the marking of this number adds to a command; none behind the last one.
-fn growth_at(rows: &Rows, marks: &Marks, i: usize) -> usize
+fn growth_at(rows: &Rows, marks: &Marks, command: &RawDoc<'_>, i: usize) -> usize
     requires ruled { AreRuled rows.now marks.now }
-    ensures growth { added (growth_by rows.now) (drop i marks.now)
-        ≡ result + added (growth_by rows.now) (drop (i + 1) marks.now) }
-    ensures most { result ≤ 46 }
+    requires short { length (doc_bytes command.now.tree) ≤ reply_limit }
+    ensures growth { added (growth_by rows.now command.now) (drop i marks.now)
+        ≡ result + added (growth_by rows.now command.now) (drop (i + 1) marks.now) }
+    ensures most { result ≤ 48000046 }
 {
     match next_mark(rows, marks, i) {
-        Some(mark) => growth_of(policy_of(rows, &mark)),
+        Some(mark) => growth_of(key_of(rows, command, &mark)),
         None => 0,
     }
 }
 
 /// How many bytes the markings add to a command.
-fn growth(rows: &Rows, marks: &Marks) -> usize
+fn growth(rows: &Rows, marks: &Marks, command: &RawDoc<'_>) -> usize
     requires ruled { AreRuled rows.now marks.now }
     requires few { length marks.now < 2 ^ 32 }
-    ensures growth { result ≡ added (growth_by rows.now) marks.now }
-    ensures most { result ≤ 46 * length marks.now }
+    requires short { length (doc_bytes command.now.tree) ≤ reply_limit }
+    ensures growth { result ≡ added (growth_by rows.now command.now) marks.now }
+    ensures most { result ≤ 48000046 * length marks.now }
 {
     let mut sum = 0;
     for i in 0..marks.len() {
-        sum += growth_at(rows, marks, i);
+        sum += growth_at(rows, marks, command, i);
     }
     sum
 }
@@ -75,11 +77,12 @@ pub(crate) fn marked_size(
 ) -> Result<u32, ReplyFault>
     requires ruled { AreRuled rows.now marks.now }
     requires few { length marks.now ≤ length (doc_bytes command.now.tree) }
-    ensures size { SizesAs (length (doc_bytes command.now.tree) + added (growth_by rows.now) marks.now + 80) result }
+    ensures size { SizesAs (length (doc_bytes command.now.tree) + added (growth_by rows.now command.now) marks.now + 80)
+        result }
 {
     let bytes = command.bytes().len();
     if bytes > REPLY_LIMIT {
         return Err(ReplyFault::TooLong);
     }
-    size_around(bytes + growth(rows, marks))
+    size_around(bytes + growth(rows, marks, command))
 }

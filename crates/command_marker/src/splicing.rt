@@ -3,23 +3,24 @@
 
 ghost use Rattle.std.specs.Prelude.{◌≡◌, ◌+◌, ◌<◌, ◌≤◌, ◌^◌, ◌++◌, [], ◌∷◌, length, drop, IfOk, IfSome, MatchOption};
 ghost use Rattle.std.specs.Prelude.{OnOk};
+ghost use Rattle.bson_codec.specs.Borrowed.{At};
 ghost use Rattle.bson_tree.specs.Spelling.{doc_bytes, items_bytes};
 ghost use Rattle.bson_tree.specs.Tree.{item as element, no_items};
 ghost use Rattle.encrypt_schema.specs.Language.Policies.{policy_at};
-ghost use Rattle.payload6.specs.Marking.{key_id};
-ghost use Rattle.command_marker.specs.Marking.{marked_value};
+ghost use Rattle.payload6.specs.Needs.{alternate_name, need_seen};
+ghost use Rattle.command_marker.specs.Marked.{marked_by, need_marked};
 ghost use Rattle.command_marker.specs.Splices.{left, left_in, spliced, spliced_in};
 ghost use Rattle.command_marker.specs.Steps.{StepsAs};
-ghost use Rattle.command_marker.specs.Written.{AreRuled, growth, marked_by};
+ghost use Rattle.command_marker.specs.Written.{AreRuled, growth};
 
 use bson_codec::writing::{append, close, open, put_name};
 use bson_codec::{RawDoc, RawItem};
 use bson_tree::{subtypes, types};
-use encrypt_schema::{KeyRef, Mark, Marks, Policy, Rows};
+use encrypt_schema::{Mark, Marks, Policy, Rows};
 use fle_outside::Memory;
-use payload6::put_marking;
+use payload6::{Need, length_bytes, need_of, put_marking};
 
-/// How many bytes a marking, as it stands in a command, has more than its value and its key's id.
+/// How many bytes a marking, as it stands in a command, has more than its value and its key's id or name.
 const AROUND_MARKING: usize = 30;
 
 /// How many bytes stand in a binary before its contents.
@@ -57,29 +58,33 @@ pub(crate) fn policy_of<'a>(rows: &'a Rows, mark: &Mark) -> &'a Policy
     }
 }
 
-/// The bytes of a key's id.
-fn key_id_of(policy: &Policy) -> [u8; 16]
-    ensures id { result ≡ key_id policy.now.key }
+/// What the marking of a mark's value names as its key.
+pub(crate) fn key_of<'a>(rows: &Rows, command: &RawDoc<'a>, mark: &Mark) -> Need<'a>
+    requires ruled { mark.now.policy < length rows.now }
+    ensures need { need_seen result ≡ need_marked rows.now command.now mark.now }
+    ensures inside { length (alternate_name (need_seen result)) ≤ length (doc_bytes command.now.tree) }
 {
-    match &policy.key {
-        KeyRef::Id(id) => *id,
-        KeyRef::Pointer(_) => [0; 16],
+    match need_of(policy_of(rows, mark), command, mark) {
+        Some(need) => need,
+        None => Need::Name(&[]),
     }
 }
 
-/// How many bytes a marking, as it stands in a command, has more than its value.
-pub(crate) fn growth_of(policy: &Policy) -> usize
-    ensures growth { result ≡ growth policy.now }
-    ensures most { result ≤ 46 }
+/// How many bytes a marking that names this key, as it stands in a command, has more than its value.
+pub(crate) fn growth_of(need: Need<'_>) -> usize
+    ensures growth { result ≡ growth (need_seen need.entry) }
+    ensures most { result ≤ 46 + length (alternate_name (need_seen need.entry)) }
 {
-    let id = key_id_of(policy);
-    AROUND_MARKING + id.len()
+    match need {
+        Need::Id(id) => AROUND_MARKING + id.len(),
+        Need::Name(name) => AROUND_MARKING + name.len(),
+    }
 }
 
 /// What becomes of an element, where the mark of this number is the next one.
 fn step_of<'a>(rows: &Rows, marks: &Marks, next: usize, item: &RawItem<'a>) -> Step<'a>
     requires ruled { AreRuled rows.now marks.now }
-    ensures step { StepsAs rows.now marks.now next item.now result }
+    ensures step { (command : At) → StepsAs rows.now command marks.now next item.now result }
 {
     let mark = match next_mark(rows, marks, next) {
         Some(mark) => mark,
@@ -110,35 +115,47 @@ fn put_raw(out: &mut Vec<u8>, item: &RawItem<'_>) -> Result<(), Memory>
     Ok(())
 }
 
-/// Appends an element with the marking under this policy in the place of its value.
-fn put_marked(out: &mut Vec<u8>, policy: &Policy, item: &RawItem<'_>) -> Result<(), Memory>
-    ensures element { OnOk result (out.new.items ≡ out.old.items
-        ++ items_bytes (element item.now.name (marked_value policy.now item.now.tree) no_items)) }
+/// Appends an element with the marking by this mark of the command in the place of its value.
+fn put_marked(
+    out: &mut Vec<u8>,
+    rows: &Rows,
+    command: &RawDoc<'_>,
+    mark: &Mark,
+    item: &RawItem<'_>,
+) -> Result<(), Memory>
+    requires ruled { mark.now.policy < length rows.now }
+    ensures element { OnOk result (out.new.items ≡ out.old.items ++ items_bytes
+        (element item.now.name (marked_by rows.now command.now mark.now item.now.tree) no_items)) }
 {
-    let size = item.value().len() + growth_of(policy) - BINARY_HEAD;
+    let algorithm = policy_of(rows, mark).algorithm;
+    let _ = command.bytes();
+    let need = key_of(rows, command, mark);
+    let size = item.value().len() + growth_of(need) - BINARY_HEAD;
     put_name(out, types::BINARY, item.name())?;
-    append(out, &(size as u32).to_le_bytes())?;
+    append(out, &length_bytes(size))?;
     append(out, &[subtypes::ENCRYPTED])?;
-    put_marking(out, item, policy)?;
+    put_marking(out, item, algorithm, need)?;
     Ok(())
 }
 
-/// Appends an element, marked from the mark of this number on. It gives the number of the first mark behind it.
+/// Appends an element of a command, marked from the mark of this number on. It gives the number of the first mark
+/// behind it.
 #[cycle(splice)]
-fn put_item(
+fn put_item<'a>(
     out: &mut Vec<u8>,
     rows: &Rows,
     marks: &Marks,
+    command: &RawDoc<'a>,
     next: usize,
-    item: &RawItem<'_>,
+    item: &RawItem<'a>,
 ) -> Result<usize, Memory>
     requires ruled { AreRuled rows.now marks.now }
     requires few { length marks.now < 2 ^ 31 }
     requires room { length out.old.items + length
-        (items_bytes (element item.now.name (spliced_in (marked_by rows.now) item.now.start
+        (items_bytes (element item.now.name (spliced_in (marked_by rows.now command.now) item.now.start
         (drop next marks.now) item.now.tree) no_items)) < 2 ^ 31 }
     ensures element { OnOk result (out.new.items ≡ out.old.items
-        ++ items_bytes (element item.now.name (spliced_in (marked_by rows.now) item.now.start
+        ++ items_bytes (element item.now.name (spliced_in (marked_by rows.now command.now) item.now.start
         (drop next marks.now) item.now.tree) no_items)) }
     ensures left { IfOk result (λ n. drop n marks.now ≡ left_in item.now.start (drop next marks.now) item.now.tree) }
 {
@@ -148,68 +165,71 @@ fn put_item(
             Ok(next)
         }
         Step::Put(mark) => {
-            put_marked(out, policy_of(rows, &mark), item)?;
+            put_marked(out, rows, command, &mark, item)?;
             Ok(next + 1)
         }
         Step::Open(document) => {
             put_name(out, item.tag(), item.name())?;
-            let behind = put_document(out, rows, marks, next, &document)?;
+            let behind = put_document(out, rows, marks, command, next, &document)?;
             Ok(behind)
         }
     }
 }
 
-/// Appends a document, marked from the mark of this number on. It gives the number of the first mark behind it.
+/// Appends a document of a command, or the command, marked from the mark of this number on. It gives the number of the
+/// first mark behind it.
 #[cycle(splice)]
-pub(crate) fn put_document(
+pub(crate) fn put_document<'a>(
     out: &mut Vec<u8>,
     rows: &Rows,
     marks: &Marks,
+    command: &RawDoc<'a>,
     next: usize,
-    document: &RawDoc<'_>,
+    document: &RawDoc<'a>,
 ) -> Result<usize, Memory>
     requires ruled { AreRuled rows.now marks.now }
     requires few { length marks.now < 2 ^ 31 }
     requires room { length out.old.items + length
-        (doc_bytes (spliced (marked_by rows.now) (document.now.start + 4) (drop next marks.now) document.now.tree))
-        < 2 ^ 31 }
+        (doc_bytes (spliced (marked_by rows.now command.now) (document.now.start + 4) (drop next marks.now)
+        document.now.tree)) < 2 ^ 31 }
     ensures document { OnOk result (out.new.items
-        ≡ out.old.items ++ doc_bytes (spliced (marked_by rows.now) (document.now.start + 4)
+        ≡ out.old.items ++ doc_bytes (spliced (marked_by rows.now command.now) (document.now.start + 4)
         (drop next marks.now) document.now.tree)) }
     ensures left { IfOk result (λ n. drop n marks.now
         ≡ left (document.now.start + 4) (drop next marks.now) document.now.tree) }
 {
     let at = out.len();
     open(out)?;
-    let behind = put_items(out, rows, marks, next, document)?;
+    let behind = put_items(out, rows, marks, command, next, document)?;
     close(out, at)?;
     Ok(behind)
 }
 
-/// Appends the elements of a document, marked from the mark of this number on. It gives the number of the first
-/// mark behind them.
+/// Appends the elements of a document of a command, marked from the mark of this number on. It gives the number of the
+/// first mark behind them.
 #[cycle(splice)]
-fn put_items(
+fn put_items<'a>(
     out: &mut Vec<u8>,
     rows: &Rows,
     marks: &Marks,
+    command: &RawDoc<'a>,
     next: usize,
-    document: &RawDoc<'_>,
+    document: &RawDoc<'a>,
 ) -> Result<usize, Memory>
     requires ruled { AreRuled rows.now marks.now }
     requires few { length marks.now < 2 ^ 31 }
     requires room { length out.old.items + length
-        (items_bytes (spliced (marked_by rows.now) (document.now.start + 4) (drop next marks.now) document.now.tree))
-        < 2 ^ 31 }
+        (items_bytes (spliced (marked_by rows.now command.now) (document.now.start + 4) (drop next marks.now)
+        document.now.tree)) < 2 ^ 31 }
     ensures elements { OnOk result (out.new.items
-        ≡ out.old.items ++ items_bytes (spliced (marked_by rows.now) (document.now.start + 4)
+        ≡ out.old.items ++ items_bytes (spliced (marked_by rows.now command.now) (document.now.start + 4)
         (drop next marks.now) document.now.tree)) }
     ensures left { IfOk result (λ n. drop n marks.now
         ≡ left (document.now.start + 4) (drop next marks.now) document.now.tree) }
 {
     let mut behind = next;
     for item in document.items() {
-        behind = put_item(out, rows, marks, behind, &item)?;
+        behind = put_item(out, rows, marks, command, behind, &item)?;
     }
     Ok(behind)
 }

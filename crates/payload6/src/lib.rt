@@ -3,8 +3,9 @@
 //!
 //! [`seal_payload_into`] writes the payload of a value, [`parts`] takes one apart and
 //! [`open_payload_into`] gives the value back. [`det_iv`] is the initialization vector of a
-//! deterministic payload. [`marking`] is what a command holds in the place of a value to be sealed, and [`put_marking`]
-//! appends it.
+//! deterministic payload. [`marking`] is what a command holds in the place of a value to be
+//! sealed, where its key has an id, and [`marking_named`] where it has an alternate name;
+//! [`put_marking`] appends either. [`need_of`] tells the key of a command's mark.
 //!
 //! ```rust
 //! let iv = det_iv(&key, key_id, tag, plain);
@@ -16,13 +17,15 @@
 //! It holds no keys, draws no vector, and doesn't ask how the vector of a payload was made.
 #![tactic(auto)]
 
-pub use markings::{marking, put_marking};
+pub use markings::{length_bytes, marking, marking_named, put_marking};
+pub use needs::{Need, need_of};
 pub use opening::{PayloadFault, open_payload_into};
 pub use payload::{DETERMINISTIC, PartsFault, Payload, RANDOM, parts};
 pub use sealing::{det_iv, payload_len, seal_payload_into};
 
 pub mod laws;
 mod markings;
+mod needs;
 mod opening;
 mod payload;
 mod sealing;

@@ -1,6 +1,6 @@
 -- The elements of a reply that are left to be read.
-use Rattle.std.proofs.Common.{◌≡◌, ◌∙◌, ℕ, ◌+◌, Bool, true, false, cond, List}
-use Rattle.std.proofs.Common.{◌∷◌, [], ◌++◌, length, Option, Some, None}
+use Rattle.std.proofs.Common.{◌≡◌, ◌∙◌, ℕ, ◌+◌, cond, List}
+use Rattle.std.proofs.Common.{◌∷◌, [], ◌++◌, length, Some}
 use Rattle.std.proofs.Common.{sym, ap}
 use Rattle.bson_codec.specs.Borrowed.{At, Elem}
 use Rattle.bson_codec.specs.Elements.{TakesElement}

@@ -1,5 +1,5 @@
 -- A command of which nothing is marked and that no rule concerns: the right reply is the clear one.
-use Rattle.std.proofs.Common.{◌≡◌, ◌∙◌, ℕ, ◌+◌, Bool, true, false, not, ◌&&◌, List, [], length, nat_lt, Option, Some}
+use Rattle.std.proofs.Common.{◌≡◌, ◌∙◌, ◌+◌, Bool, true, false, not, ◌&&◌, List, [], length, nat_lt, Option, Some}
 use Rattle.std.proofs.Common.{None}
 use Rattle.std.proofs.Common.{refl, sym, ap, ap₂}
 use Rattle.std.specs.Prelude.{codes}
@@ -24,8 +24,11 @@ use Rattle.reply_check.proofs.Marks.{shut, tested}
 -- where nothing is marked, a result is the marked command where it is the command
 unmarked_same : (rows : List Row) (c d : Items) → roles rows 0 c ≡ []
     → is_same (ordered rows c d) (marked rows c) ≡ is_same d c
-unmarked_same rows c d none = sym (tested rows 0 c d)
-    ∙ ap (λ (ms : List Mark). matches (test_by rows) 4 ms c d) none ∙ shut (test_by rows) 4 c d [] tt
+unmarked_same rows c d none =
+    let command : At = record { tree = c; start = 0 } in
+    sym (tested rows command d)
+    ∙ ap (λ (ms : List Mark). matches (test_by rows command) 4 ms c d) none
+    ∙ shut (test_by rows command) 4 c d [] tt
 
 -- ---- what is wrong, by two tests of a result that say the same
 

@@ -1,22 +1,23 @@
 -- Pieces of bytes taken off the front, one after the other.
 use Rattle.std.proofs.Common.{◌≡◌, ◌∙◌, ℕ, ◌+◌, Bool, true, false, ◌||◌, List}
 use Rattle.std.proofs.Common.{[], ◌∷◌, ◌++◌, length, Option, Some, None}
-use Rattle.std.proofs.Common.{Bor, MatchOption, refl, sym, ap, subst, arith, append_assoc, append-nil, length-append}
+use Rattle.std.proofs.Common.{Bor, MatchOption, refl, sym, ap, arith, append_assoc, append-nil, length-append}
 use Rattle.std.proofs.lemmas.List.{append_cancel_left}
 use Rattle.std.proofs.lemmas.Slice.Eq.{bytes_eq-Decides}
 use Rattle.std.specs.Prelude.{bytes_eq, codes}
 use Rattle.std.specs.Int.{to_le_bytes, w32}
 use Rattle.std.specs.List.{list_any}
-use Rattle.bson_tree.specs.Tree.{Tree, Items, leaf, no_items, item}
+use Rattle.bson_tree.specs.Tree.{Tree, leaf, no_items, item}
 use Rattle.bson_tree.specs.Spelling.{value_bytes, items_bytes, doc_bytes}
 use Rattle.bson_tree.proofs.Sizes.{element_size}
-use Rattle.encrypt_schema.specs.declared.schema.policy.Policy.{Policy}
+use Rattle.encrypt_schema.specs.declared.schema.policy.Algorithm.{Algorithm}
 use Rattle.payload6.specs.Payload.{algorithm_number}
-use Rattle.payload6.specs.Marking.{binary, key_id, marking_fields}
+use Rattle.payload6.specs.Marking.{key_name, key_value, marking_fields}
+use Rattle.payload6.specs.Needs.{Need, Id, Name, need_bytes}
 use Rattle.command_marker.proofs.Frames.{one_item}
 use Rattle.reply_check.specs.declared.markings.Field.{Field}
 use Rattle.reply_check.specs.declared.markings.Field.TheVariants as fields
-use Rattle.reply_check.specs.Fields.{field_bytes}
+use Rattle.reply_check.specs.Fields.{field_bytes, key_field}
 use Rattle.reply_check.specs.Orders.{orders}
 use Rattle.reply_check.proofs.Trees.{one_test}
 
@@ -33,33 +34,44 @@ pub joined : (xs a b mid : List ℕ) (r : Option (Bor (List ℕ))) → xs ≡ a 
 joined xs a b mid None e h = λ rest f. h rest (append_cancel_left a mid (b ++ rest) (sym e ∙ f))
 joined xs a b mid (Some x) e h = e ∙ ap (λ (ys : List ℕ). a ++ ys) h
 
-pub not_first : (xs a b : List ℕ) → ((rest : List ℕ) → xs ≡ a ++ rest → ⊥) → (rest : List ℕ) → xs ≡ a ++ (b ++ rest)
-    → ⊥
-not_first xs a b h rest e = h (b ++ rest) e
-
--- two pieces are one
-pub as_one : (xs a b f : List ℕ) (r : Option (Bor (List ℕ))) → ((rest : List ℕ) → a ++ (b ++ rest) ≡ f ++ rest)
-    → BehindBoth xs a b r → Behind xs f r
-as_one xs a b f None same h = λ rest e. h rest (e ∙ sym (same rest))
-as_one xs a b f (Some x) same h = h ∙ same x.now
-
--- the fields
-pub value_piece : (policy : Policy) (t : Tree) (tag : ℕ) (value : List ℕ) → (tag ∷ 118 ∷ 0 ∷ []) ++ value
-    ≡ (tag ∷ 118 ∷ 0 ∷ []) ++ value
-value_piece policy t tag value = refl
-
-pub nil_behind : (xs rest : List ℕ) → xs ++ rest ≡ (xs ++ []) ++ rest
+-- the field that names the key
+nil_behind : (xs rest : List ℕ) → xs ++ rest ≡ (xs ++ []) ++ rest
 nil_behind xs rest = ap (λ (ys : List ℕ). ys ++ rest) (sym (append-nil xs))
 
-pub key_piece : (policy : Policy) (t : Tree) (id : List ℕ) → id ≡ key_id policy.key → length id ≡ 16
-    → (rest : List ℕ)
-    → (5 ∷ 107 ∷ 105 ∷ 0 ∷ 16 ∷ 0 ∷ 0 ∷ 0 ∷ 4 ∷ []) ++ (id ++ rest) ≡ field_bytes policy t fields.Key ++ rest
-key_piece policy t id is long rest =
-    let sixteen : length (key_id policy.key) ≡ 16 = sym (ap length is) ∙ long in
-    ap (λ (xs : List ℕ). (5 ∷ 107 ∷ 105 ∷ 0 ∷ 16 ∷ 0 ∷ 0 ∷ 0 ∷ 4 ∷ []) ++ (xs ++ rest)) is
-    ∙ ap (λ (xs : List ℕ). 5 ∷ 107 ∷ 105 ∷ 0 ∷ 16 ∷ 0 ∷ 0 ∷ 0 ∷ 4 ∷ xs) (nil_behind (key_id policy.key) rest)
-    ∙ ap (λ (n : ℕ). (5 ∷ 107 ∷ 105 ∷ 0 ∷ ((to_le_bytes w32 n ++ (4 ∷ key_id policy.key)) ++ [])) ++ rest)
-    (sym sixteen)
+text_behind : (size name rest : List ℕ)
+    → size ++ (name ++ ((0 ∷ []) ++ rest)) ≡ ((size ++ (name ++ 0 ∷ [])) ++ []) ++ rest
+text_behind size name rest =
+    ap (λ (xs : List ℕ). size ++ xs) (sym (append_assoc name (0 ∷ []) rest))
+    ∙ sym (append_assoc size (name ++ 0 ∷ []) rest)
+    ∙ nil_behind (size ++ (name ++ 0 ∷ [])) rest
+
+pub name_piece : (size name rest : List ℕ) → size ≡ to_le_bytes w32 (length name + 1)
+    → (2 ∷ 107 ∷ 97 ∷ 0 ∷ []) ++ (size ++ (name ++ ((0 ∷ []) ++ rest))) ≡ key_field (Name name) ++ rest
+name_piece size name rest is =
+    ap (λ (xs : List ℕ). 2 ∷ 107 ∷ 97 ∷ 0 ∷ xs) (text_behind size name rest)
+    ∙ ap (λ (xs : List ℕ). (2 ∷ 107 ∷ 97 ∷ 0 ∷ ((xs ++ (name ++ 0 ∷ [])) ++ [])) ++ rest) is
+
+-- what stands behind the length of a name
+pub name_none : (xs size name : List ℕ) → size ≡ to_le_bytes w32 (length name + 1)
+    → ((rest : List ℕ) → xs ≡ (2 ∷ 107 ∷ 97 ∷ 0 ∷ []) ++ (size ++ rest) → ⊥)
+    → (rest : List ℕ) → xs ≡ key_field (Name name) ++ rest → ⊥
+name_none xs size name is h rest e = h (name ++ ((0 ∷ []) ++ rest)) (e ∙ sym (name_piece size name rest is))
+
+pub name_behind : (xs size name text : List ℕ) (r : Option (Bor (List ℕ)))
+    → size ≡ to_le_bytes w32 (length name + 1)
+    → xs ≡ (2 ∷ 107 ∷ 97 ∷ 0 ∷ []) ++ (size ++ text)
+    → BehindBoth text name (0 ∷ []) r → Behind xs (key_field (Name name)) r
+name_behind xs size name text None is e h =
+    λ rest f. h rest (append_cancel_left (2 ∷ 107 ∷ 97 ∷ 0 ∷ size) text (name ++ ((0 ∷ []) ++ rest))
+    (sym e ∙ f ∙ sym (name_piece size name rest is)))
+name_behind xs size name text (Some x) is e h =
+    e ∙ ap (λ (ys : List ℕ). (2 ∷ 107 ∷ 97 ∷ 0 ∷ []) ++ (size ++ ys)) h ∙ name_piece size name x.now is
+
+-- the name and the value of the field that names the key have seven bytes more than the id or the name
+key_parts : (need : Need)
+    → length (key_name need) + length (value_bytes (key_value need)) ≡ length (need_bytes need) + 7
+key_parts (Id id) = omega arith
+key_parts (Name name) = omega (arith, length-append name (0 ∷ []))
 
 -- ---- tests of whole bytes
 
@@ -168,51 +180,55 @@ pub last_of_six : (a b c d e f r : Bool) → a ≡ false → b ≡ false → c �
 unfolding any_six
 last_of_six a b c d e f r p q s t u v = rw (p, q, s, t, u) (v ∙ or_none f)
 
-module _ (policy : Policy) (t : Tree) (contents bytes : List ℕ)
-    (is : contents ≡ (0 ∷ []) ++ (to_le_bytes w32 (length (value_bytes t) + 40) ++ bytes))
-    (long : length (key_id policy.key) ≡ 16) where
+module _ (algorithm : Algorithm) (need : Need) (t : Tree) (contents bytes : List ℕ)
+    (is : contents
+    ≡ (0 ∷ []) ++ (to_le_bytes w32 (length (value_bytes t) + length (need_bytes need) + 24) ++ bytes)) where
   -- the fields in this order stand in the contents
   abbrev pub stands : Field → Field → Field → Bool
   stands a b c =
-      bytes_eq bytes (field_bytes policy t a ++ (field_bytes policy t b ++ (field_bytes policy t c ++ 0 ∷ [])))
+      bytes_eq bytes (field_bytes algorithm need t a
+      ++ (field_bytes algorithm need t b ++ (field_bytes algorithm need t c ++ 0 ∷ [])))
 
   pub somehow :
       any_six (stands fields.Value fields.Algorithm fields.Key) (stands fields.Algorithm fields.Value fields.Key)
       (stands fields.Algorithm fields.Key fields.Value) (stands fields.Value fields.Key fields.Algorithm)
       (stands fields.Key fields.Value fields.Algorithm) (stands fields.Key fields.Algorithm fields.Value)
-      ≡ list_any (λ js. bytes_eq contents (0 ∷ doc_bytes js)) (orders (marking_fields policy t))
+      ≡ list_any (λ js. bytes_eq contents (0 ∷ doc_bytes js)) (orders (marking_fields algorithm need t))
   unfolding marking_fields any_six
   somehow =
       let v = codes "v" in
       let a = codes "a" in
-      let k = codes "ki" in
-      let y = leaf 16 (algorithm_number policy.algorithm ∷ 0 ∷ 0 ∷ 0 ∷ []) in
-      let z = binary 4 (key_id policy.key) in
-      let n = length (value_bytes t) + 40 in
-      let p1 = one_order contents bytes n v a k t y z is (omega (arith, long)) in
-      let p2 = one_order contents bytes n a v k y t z is (omega (arith, long)) in
-      let p3 = one_order contents bytes n a k v y z t is (omega (arith, long)) in
-      let p4 = one_order contents bytes n v k a t z y is (omega (arith, long)) in
-      let p5 = one_order contents bytes n k v a z t y is (omega (arith, long)) in
-      let p6 = one_order contents bytes n k a v z y t is (omega (arith, long)) in
+      let k = key_name need in
+      let y = leaf 16 (algorithm_number algorithm ∷ 0 ∷ 0 ∷ 0 ∷ []) in
+      let z = key_value need in
+      let n = length (value_bytes t) + length (need_bytes need) + 24 in
+      let parts = key_parts need in
+      let p1 = one_order contents bytes n v a k t y z is (omega (arith, parts)) in
+      let p2 = one_order contents bytes n a v k y t z is (omega (arith, parts)) in
+      let p3 = one_order contents bytes n a k v y z t is (omega (arith, parts)) in
+      let p4 = one_order contents bytes n v k a t z y is (omega (arith, parts)) in
+      let p5 = one_order contents bytes n k v a z t y is (omega (arith, parts)) in
+      let p6 = one_order contents bytes n k a v z y t is (omega (arith, parts)) in
       rw (p1, p2, p3, p4, p5, p6) refl
 
 -- nor in any order
-pub nowhere : (policy : Policy) (t : Tree) (contents : List ℕ) → length (key_id policy.key) ≡ 16
-    → ((rest : List ℕ) → contents ≡ (0 ∷ []) ++ (to_le_bytes w32 (length (value_bytes t) + 40) ++ rest) → ⊥)
-    → false ≡ list_any (λ js. bytes_eq contents (0 ∷ doc_bytes js)) (orders (marking_fields policy t))
+pub nowhere : (algorithm : Algorithm) (need : Need) (t : Tree) (contents : List ℕ)
+    → ((rest : List ℕ) → contents
+    ≡ (0 ∷ []) ++ (to_le_bytes w32 (length (value_bytes t) + length (need_bytes need) + 24) ++ rest) → ⊥)
+    → false ≡ list_any (λ js. bytes_eq contents (0 ∷ doc_bytes js)) (orders (marking_fields algorithm need t))
 unfolding marking_fields
-nowhere policy t contents long none =
+nowhere algorithm need t contents none =
     let v = codes "v" in
     let a = codes "a" in
-    let k = codes "ki" in
-    let y = leaf 16 (algorithm_number policy.algorithm ∷ 0 ∷ 0 ∷ 0 ∷ []) in
-    let z = binary 4 (key_id policy.key) in
-    let n = length (value_bytes t) + 40 in
-    let p1 = one_none contents n v a k t y z none (omega (arith, long)) in
-    let p2 = one_none contents n a v k y t z none (omega (arith, long)) in
-    let p3 = one_none contents n a k v y z t none (omega (arith, long)) in
-    let p4 = one_none contents n v k a t z y none (omega (arith, long)) in
-    let p5 = one_none contents n k v a z t y none (omega (arith, long)) in
-    let p6 = one_none contents n k a v z y t none (omega (arith, long)) in
+    let k = key_name need in
+    let y = leaf 16 (algorithm_number algorithm ∷ 0 ∷ 0 ∷ 0 ∷ []) in
+    let z = key_value need in
+    let n = length (value_bytes t) + length (need_bytes need) + 24 in
+    let parts = key_parts need in
+    let p1 = one_none contents n v a k t y z none (omega (arith, parts)) in
+    let p2 = one_none contents n a v k y t z none (omega (arith, parts)) in
+    let p3 = one_none contents n a k v y z t none (omega (arith, parts)) in
+    let p4 = one_none contents n v k a t z y none (omega (arith, parts)) in
+    let p5 = one_none contents n k v a z t y none (omega (arith, parts)) in
+    let p6 = one_none contents n k a v z y t none (omega (arith, parts)) in
     rw (p1, p2, p3, p4, p5, p6) refl

@@ -4,18 +4,14 @@ use Rattle.std.proofs.Common.{length, Option, Some, None, refl, sym, ap, ap₂, 
 use Rattle.std.proofs.lemmas.Bool.Decides.{Decides-eqb}
 use Rattle.std.proofs.lemmas.Slice.Eq.{bytes_eq-Decides}
 use Rattle.std.specs.Prelude.{◌==◌, bytes_eq, codes}
-use Rattle.bson_codec.specs.Borrowed.{At, Elem}
+use Rattle.bson_codec.specs.Borrowed.{Elem}
 use Rattle.bson_tree.specs.Spelling.{value_bytes}
-use Rattle.bson_tree.specs.Tree.{Tree, Items, leaf, node, no_items, item, tag_of, kids_of}
+use Rattle.bson_tree.specs.Tree.{Tree, Items, no_items, item, tag_of}
 use Rattle.encrypt_schema.specs.Language.Names.{named, is_among}
-use Rattle.command_marker.specs.Reply.{flag}
-use Rattle.reply_check.specs.declared.wrong.WrongReply.{WrongReply}
-use Rattle.reply_check.specs.declared.wrong.WrongReply.TheVariants as wrongs
 use Rattle.reply_check.specs.Right.{values_of}
-use Rattle.reply_check.specs.Same.{is_same_tree}
-use Rattle.reply_check.specs.Wrong.{differing, field, first_misshapen, is_misshapen, missing_or, or_wrong, shape_or}
-use Rattle.reply_check.specs.Wrong.{type_read, unless, with_field, wrong_by}
-use Rattle.reply_check.proofs.Trees.{one_test, own_tree, same_tree}
+use Rattle.reply_check.specs.Wrong.{field, first_misshapen, is_misshapen}
+use Rattle.reply_check.specs.Wrong.{type_read}
+use Rattle.reply_check.proofs.Trees.{one_test}
 
 -- ---- names
 

@@ -1,7 +1,7 @@
 -- What is asked of the value in the place of an element's, by the next mark.
 use Rattle.std.proofs.Common.{◌≡◌, ◌∙◌, ℕ, ◌+◌, ◌<◌, ◌≤◌, Bool, true, false}
 use Rattle.std.proofs.Common.{◌&&◌, List, [], ◌∷◌, length, Option, Some, ◌-◌}
-use Rattle.std.proofs.Common.{None, refl, sym, ap, ap₂, subst, arith}
+use Rattle.std.proofs.Common.{None, refl, sym, ap, ap₂, subst}
 use Rattle.std.proofs.lemmas.Bool.{eq-eqb, ne_eqb, lt-ltb, le-ltb}
 use Rattle.std.specs.Prelude.{◌==◌, nat_lt, bytes_eq}
 use Rattle.bson_codec.specs.Borrowed.{At, Elem, value_tree}
@@ -9,13 +9,14 @@ use Rattle.bson_codec.specs.Elements.{TakesElement}
 use Rattle.bson_codec.specs.Layout.{IsDoc, IsItems, IsValue, level_limit}
 use Rattle.bson_codec.proofs.Fronts.{value_tree_is}
 use Rattle.bson_codec.proofs.Grammar.{same_tree as same_doc}
-use Rattle.bson_tree.specs.Tree.{Tree, leaf, node, Items, no_items, item, tag_of}
+use Rattle.bson_tree.specs.Tree.{Tree, leaf, node, Items, tag_of}
 use Rattle.bson_tree.specs.Spelling.{framed, value_bytes, items_bytes, doc_bytes}
 use Rattle.encrypt_schema.specs.declared.command.marks.Mark.{Mark}
 use Rattle.encrypt_schema.specs.Language.Names.{named}
 use Rattle.command_marker.specs.Splices.{left_in, left}
 use Rattle.reply_check.specs.Matches.{matches, matches_in, matches_inside}
 use Rattle.reply_check.specs.Same.{is_same, is_same_tree}
+use Rattle.reply_check.specs.Steps.{Walks}
 use Rattle.reply_check.proofs.Trees.{all, both, items_are, one_test, same_items, same_tree, tree_is}
 use Rattle.std.proofs.lemmas.Slice.Eq.{bytes_eq-Decides}
 use Rattle.std.proofs.lemmas.Bool.Decides.{Decides-eqb}
@@ -69,6 +70,27 @@ module _ (test : Mark → Tree → Tree → Bool) (at : ℕ) where
       let on : nat_lt m.start (at + length (framed (items_bytes kids))) ≡ true =
       lt-ltb m.start (at + length (framed (items_bytes kids))) low in
       rw (is, e, off, on) (λ u. refl, refl)
+
+-- what stands in the place of a document or an array in which the next mark stands: one of its type, one of another
+-- type, and a raw value
+module _ (test : Mark → Tree → Tree → Bool) (at : ℕ) (ms : List Mark) (tag : ℕ) (is : Items) where
+  pub inside_node : (kind : ℕ) (js : Items) (u : Tree) → u ≡ node kind js → kind ≡ tag
+      → matches_inside test at ms tag is u ≡ matches test at ms is js
+  inside_node kind js u e s = let on : (kind == tag) ≡ true = eq-eqb kind tag s in rw (e, on) refl
+
+  pub inside_other : (kind : ℕ) (js : Items) (u : Tree) → u ≡ node kind js → (kind ≡ tag → ⊥)
+      → matches_inside test at ms tag is u ≡ false
+  inside_other kind js u e s = let off : (kind == tag) ≡ false = ne_eqb kind tag s in rw (e, off) refl
+
+  pub inside_raw : (kind : ℕ) (bytes : List ℕ) (u : Tree) → u ≡ leaf kind bytes
+      → matches_inside test at ms tag is u ≡ false
+  inside_raw kind bytes u e = rw e refl
+
+-- a walk's answer, for a test and for marks that are the same
+pub walks_by : (ms : List Mark) (a b : Bool) (xs ys : List Mark) (r : Option ℕ) → a ≡ b → xs ≡ ys → Walks ms b ys r
+    → Walks ms a xs r
+walks_by ms a b xs ys None p q w = p ∙ w
+walks_by ms a b xs ys (Some n) p q w = (p ∙ w.0, w.1 ∙ sym q)
 
 -- ---- what is left
 

@@ -10,7 +10,8 @@ use Rattle.encrypt_schema.specs.Commands.Chains.{station_at}
 use Rattle.encrypt_schema.specs.Language.Policies.{policy_at}
 use Rattle.encrypt_schema.specs.Language.Row.{Row}
 use Rattle.payload6.specs.Marking.{binary, marking_fields}
-use Rattle.command_marker.specs.MarkedPlaces.{rule_of}
+use Rattle.command_marker.specs.MarkedPlaces.{need_at, rule_of}
+use Rattle.command_marker.specs.Marking.{or_nameless}
 use Rattle.reply_check.specs.Orders.{orders}
 use Rattle.reply_check.specs.Same.{is_same_tree}
 
@@ -31,7 +32,8 @@ in_order fields u = if is_marking fields u then marking_with fields else u
 abbrev pub fields_of : List Row → Items → List ℕ → Option Items
 fields_of rows c place =
     option_and_then
-    (λ i. option_map (marking_fields (policy_at i rows)) (value_at place c))
+    (λ i. option_map (marking_fields (policy_at i rows).algorithm (or_nameless (need_at rows c place i)))
+    (value_at place c))
     (option_and_then rule_of (station_at rows c place))
 
 -- what is read at a protected place of a command in its result

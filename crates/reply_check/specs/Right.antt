@@ -1,5 +1,5 @@
 -- MongoDB Client Side Encryption, marking replies: which replies are right
-use Rattle.std.specs.Prelude.{◌≡◌, ℕ, Bool, true, false, nat_lt, List, [], ◌∷◌, codes, length, if◌then◌else◌}
+use Rattle.std.specs.Prelude.{◌≡◌, ℕ, Bool, false, nat_lt, List, [], ◌∷◌, codes, length, if◌then◌else◌}
 use Rattle.bson_tree.specs.Tree.{Tree, Items, node, no_items, item}
 use Rattle.encrypt_schema.specs.Language.Names.{named}
 use Rattle.encrypt_schema.specs.Language.Row.{Row}

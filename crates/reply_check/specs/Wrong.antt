@@ -1,8 +1,8 @@
 -- MongoDB Client Side Encryption, marking replies: what is wrong with a reply, and where
-use Rattle.std.specs.Prelude.{◌≡◌, ℕ, ◌+◌, ◌==◌, Bool, true, false, not, ◌||◌, nat_lt, List, [], ◌∷◌, ◌++◌, codes}
+use Rattle.std.specs.Prelude.{◌≡◌, ℕ, ◌+◌, ◌==◌, Bool, false, not, ◌||◌, nat_lt, List, [], ◌∷◌, ◌++◌, codes}
 use Rattle.std.specs.Prelude.{length, Option, Some, None, Result, Ok, Err, if◌then◌else◌}
 use Rattle.std.specs.Option.{option_map_or}
-use Rattle.bson_tree.specs.Tree.{Tree, Items, leaf, node, no_items, item, tag_of, kids_of}
+use Rattle.bson_tree.specs.Tree.{Tree, Items, no_items, item, tag_of, kids_of}
 use Rattle.bson_tree.specs.Spelling.{value_bytes}
 use Rattle.bson_codec.specs.Borrowed.{At, Elem}
 use Rattle.encrypt_schema.specs.Language.Names.{named, is_among}

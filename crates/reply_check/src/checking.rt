@@ -109,5 +109,5 @@ fn is_marked(marked: &Marked<'_>, answer: &RawDoc<'_>) -> bool
 {
     let command = marked.command();
     let _ = command.bytes();
-    walk_items(marked.rows(), marked.marks(), 0, &command, answer).is_some()
+    walk_items(marked.rows(), marked.marks(), &command, 0, &command, answer).is_some()
 }

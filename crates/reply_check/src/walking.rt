@@ -3,8 +3,11 @@
 ghost use Rattle.std.specs.Prelude.{◌≡◌, ◌+◌, ◌<◌, ◌==◌, ◌&&◌, ◌^◌, [], ◌∷◌, length, drop, IfSome, MatchOption};
 ghost use Rattle.bson_tree.specs.Tree.{tag_of};
 ghost use Rattle.encrypt_schema.specs.Language.Policies.{policy_at};
+ghost use Rattle.bson_codec.specs.Borrowed.{At};
 ghost use Rattle.command_marker.specs.Splices.{left, left_in};
+ghost use Rattle.command_marker.specs.Marked.{need_marked};
 ghost use Rattle.command_marker.specs.Written.{AreRuled};
+ghost use Rattle.payload6.specs.Needs.{need_seen};
 ghost use Rattle.reply_check.specs.Matches.{matches, matches_in, matches_inside, test_by};
 ghost use Rattle.reply_check.specs.Same.{is_same, is_same_tree};
 ghost use Rattle.reply_check.specs.Steps.{StepsAs, Walks};
@@ -12,6 +15,7 @@ ghost use Rattle.reply_check.specs.Steps.{StepsAs, Walks};
 use crate::markings::is_marking;
 use bson_codec::{RawDoc, RawItem};
 use encrypt_schema::{Mark, Marks, Policy, Rows, is_named};
+use payload6::{Need, need_of};
 
 /// What is asked of the value that stands in the place of an element's.
 enum Step<'a> {
@@ -48,7 +52,7 @@ fn policy_of<'a>(rows: &'a Rows, mark: &Mark) -> &'a Policy
 /// What is asked in the place of an element, where the mark of this number is the next one.
 fn step_of<'a>(rows: &Rows, marks: &Marks, next: usize, item: &RawItem<'a>) -> Step<'a>
     requires ruled { AreRuled rows.now marks.now }
-    ensures step { StepsAs rows.now marks.now next item.now result }
+    ensures step { (command : At) → StepsAs rows.now command marks.now next item.now result }
 {
     let mark = match next_mark(rows, marks, next) {
         Some(mark) => mark,
@@ -69,6 +73,32 @@ fn step_of<'a>(rows: &Rows, marks: &Marks, next: usize, item: &RawItem<'a>) -> S
     }
 }
 
+/// What the marking of a mark's value names as its key.
+fn key_of<'a>(rows: &Rows, command: &RawDoc<'a>, mark: &Mark) -> Need<'a>
+    requires ruled { mark.now.policy < length rows.now }
+    ensures need { need_seen result ≡ need_marked rows.now command.now mark.now }
+{
+    match need_of(policy_of(rows, mark), command, mark) {
+        Some(need) => need,
+        None => Need::Name(&[]),
+    }
+}
+
+/// Whether a value of a reply is the marking of an element's value by this mark of the command.
+fn is_marked_by(
+    rows: &Rows,
+    command: &RawDoc<'_>,
+    mark: &Mark,
+    item: &RawItem<'_>,
+    other: &RawItem<'_>,
+) -> bool
+    requires ruled { mark.now.policy < length rows.now }
+    ensures marking { result ≡ test_by rows.now command.now mark.now item.now.tree other.now.tree }
+{
+    let algorithm = policy_of(rows, mark).algorithm;
+    is_marking(other, item, algorithm, key_of(rows, command, mark))
+}
+
 /// Whether two values are equal: by their types and bytes.
 fn is_same(other: &RawItem<'_>, item: &RawItem<'_>) -> bool
     ensures same { result ≡ is_same_tree other.now.tree item.now.tree }
@@ -79,19 +109,20 @@ fn is_same(other: &RawItem<'_>, item: &RawItem<'_>) -> bool
     other.value() == item.value()
 }
 
-/// Walks an element and what stands in its place, from the mark of this number on: the number of the first mark behind
-/// it, where they match.
+/// Walks an element of a command and what stands in its place, from the mark of this number on: the number of the first
+/// mark behind it, where they match.
 #[cycle(walk)]
-fn walk_item(
+fn walk_item<'a>(
     rows: &Rows,
     marks: &Marks,
+    command: &RawDoc<'a>,
     next: usize,
-    item: &RawItem<'_>,
+    item: &RawItem<'a>,
     other: &RawItem<'_>,
 ) -> Option<usize>
     requires ruled { AreRuled rows.now marks.now }
     requires few { length marks.now < 2 ^ 31 }
-    ensures walked { Walks marks.now (matches_in (test_by rows.now) item.now.start (drop next marks.now)
+    ensures walked { Walks marks.now (matches_in (test_by rows.now command.now) item.now.start (drop next marks.now)
         item.now.tree other.now.tree) (left_in item.now.start (drop next marks.now) item.now.tree) result }
 {
     match step_of(rows, marks, next, item) {
@@ -100,14 +131,14 @@ fn walk_item(
         } else {
             None
         },
-        Step::Test(mark) => if is_marking(other, item, policy_of(rows, &mark)) {
+        Step::Test(mark) => if is_marked_by(rows, command, &mark, item, other) {
             Some(next + 1)
         } else {
             None
         },
         Step::Open(document) => match other.child() {
             Some(answer) => if other.tag() == item.tag() {
-                walk_items(rows, marks, next, &document, &answer)
+                walk_items(rows, marks, command, next, &document, &answer)
             } else {
                 None
             },
@@ -116,21 +147,22 @@ fn walk_item(
     }
 }
 
-/// Walks the elements of two documents, from the mark of this number on: the number of the first mark behind them,
-/// where they match.
+/// Walks the elements of a document of a command and of what stands in its place, from the mark of this number on: the
+/// number of the first mark behind them, where they match.
 #[cycle(walk)]
-pub(crate) fn walk_items(
+pub(crate) fn walk_items<'a>(
     rows: &Rows,
     marks: &Marks,
+    command: &RawDoc<'a>,
     next: usize,
-    document: &RawDoc<'_>,
+    document: &RawDoc<'a>,
     answer: &RawDoc<'_>,
 ) -> Option<usize>
     requires ruled { AreRuled rows.now marks.now }
     requires few { length marks.now < 2 ^ 31 }
-    ensures walked { Walks marks.now (matches (test_by rows.now) (document.now.start + 4) (drop next marks.now)
-        document.now.tree answer.now.tree) (left (document.now.start + 4) (drop next marks.now) document.now.tree)
-        result }
+    ensures walked { Walks marks.now (matches (test_by rows.now command.now) (document.now.start + 4)
+        (drop next marks.now) document.now.tree answer.now.tree)
+        (left (document.now.start + 4) (drop next marks.now) document.now.tree) result }
 {
     let mut behind = next;
     let mut others = answer.items();
@@ -141,7 +173,7 @@ pub(crate) fn walk_items(
         if !is_named(other.name(), item.name()) {
             return None;
         }
-        match walk_item(rows, marks, behind, &item, &other) {
+        match walk_item(rows, marks, command, behind, &item, &other) {
             Some(number) => behind = number,
             None => return None,
         }

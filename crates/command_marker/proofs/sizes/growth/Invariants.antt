@@ -5,6 +5,6 @@ use Rattle.command_marker.proofs.sizes.growth.Given as goal
 
 abbrev pub invariant-loop-i : goal.invariant-loop-i
 invariant-loop-i l = record {
-  most : l.sum ≤ 46 * l.i;
-  whole : l.sum + added (growth_by l.rows) (drop l.i l.marks) ≡ added (growth_by l.rows) l.marks;
+  most : l.sum ≤ 48000046 * l.i;
+  whole : l.sum + added (growth_by l.rows l.command) (drop l.i l.marks) ≡ added (growth_by l.rows l.command) l.marks;
 }

@@ -2,14 +2,14 @@ use Rattle.std.proofs.Common.{◌+◌, ◌*◌, ◌<◌, ◌^◌, length, drop, 
 use Rattle.bson_tree.specs.Spelling.{items_bytes}
 use Rattle.bson_tree.specs.Tree.{items_size, tree_size, item, no_items}
 use Rattle.command_marker.specs.Splices.{spliced_in}
-use Rattle.command_marker.specs.Written.{marked_by}
+use Rattle.command_marker.specs.Marked.{marked_by}
 use Rattle.command_marker.proofs.Elements.{room_next}
 use Rattle.command_marker.proofs.splicing.+splice.Goals as goal
 
 pub put_items-put_item-requires : goal.put_items-put_item-requires
 put_items-put_item-requires t c =
     let taken = c.in-Some.ensures.steps in
-    let put = marked_by c.args.rows.now in
+    let put = marked_by c.args.rows.now c.args.command.now in
     let ms = drop c.loop-item.behind c.args.marks.now in
     let smaller : 3 * tree_size c.in-Some.item.tree < 3 * items_size c.args.document.now.tree =
     omega (arith, ap items_size taken.0, c.loop-item.invariant.size) in

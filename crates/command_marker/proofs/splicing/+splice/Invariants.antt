@@ -2,7 +2,7 @@ use Rattle.std.proofs.Common.{◌≡◌, ◌+◌, ◌*◌, ◌≤◌, ◌++◌, 
 use Rattle.bson_tree.specs.Spelling.{items_bytes}
 use Rattle.bson_tree.specs.Tree.{items_size, tree_size}
 use Rattle.command_marker.specs.Splices.{left, spliced}
-use Rattle.command_marker.specs.Written.{marked_by}
+use Rattle.command_marker.specs.Marked.{marked_by}
 use Rattle.command_marker.proofs.splicing.+splice.Given as goal
 
 abbrev pub decreases-put_document : goal.decreases-put_document
@@ -17,9 +17,9 @@ decreases-put_items l = 3 * items_size l.document.now.tree
 abbrev pub invariant-put_items-loop-item : goal.invariant-put_items-loop-item
 invariant-put_items-loop-item l = record {
   size : items_size l.item-iterator.tree ≤ items_size l.document.tree;
-  made : l.out.items ++ items_bytes (spliced (marked_by l.rows) l.item-iterator.start
+  made : l.out.items ++ items_bytes (spliced (marked_by l.rows l.command) l.item-iterator.start
       (drop l.behind l.marks) l.item-iterator.tree)
-      ≡ l.fn.out.items ++ items_bytes (spliced (marked_by l.rows) (l.document.start + 4)
+      ≡ l.fn.out.items ++ items_bytes (spliced (marked_by l.rows l.command) (l.document.start + 4)
       (drop l.next l.marks) l.document.tree);
   rests : left l.item-iterator.start (drop l.behind l.marks) l.item-iterator.tree
       ≡ left (l.document.start + 4) (drop l.next l.marks) l.document.tree;

@@ -1,4 +1,4 @@
-use Rattle.std.proofs.Common.{◌≡◌, ◌∙◌, Bool, false, List, ℕ, [], ◌∷◌, sym, ap}
+use Rattle.std.proofs.Common.{◌≡◌, ◌∙◌, Bool, false, ℕ, [], ◌∷◌, sym, ap}
 use Rattle.bson_tree.specs.Tree.{Items, Tree, node}
 use Rattle.reply_check.specs.Same.{is_same}
 use Rattle.reply_check.specs.Wrong.{unless}

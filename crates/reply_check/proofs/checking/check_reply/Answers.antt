@@ -1,4 +1,4 @@
-use Rattle.std.proofs.Common.{◌≡◌, ◌∙◌, Bool, List, ℕ, [], ◌∷◌, Ok, Err, Some, length, sym, ap}
+use Rattle.std.proofs.Common.{◌≡◌, ◌∙◌, Bool, ℕ, [], ◌∷◌, Ok, Err, Some, length, sym, ap}
 use Rattle.std.specs.Prelude.{nat_lt}
 use Rattle.bson_tree.specs.Tree.{Items, Tree, node}
 use Rattle.encrypt_schema.specs.Commands.Visits.{roles}

@@ -1,4 +1,4 @@
-use Rattle.std.proofs.Common.{◌≡◌, ◌∙◌, sym}
+use Rattle.std.proofs.Common.{◌∙◌, sym}
 use Rattle.reply_check.proofs.Readings.{all_read, first_differs, misshapen, no_first, no_result, no_second}
 use Rattle.reply_check.proofs.Readings.{second_differs, values_first, values_result, values_second}
 use Rattle.reply_check.proofs.checking.read_reply.Goals as goal
