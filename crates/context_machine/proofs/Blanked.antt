@@ -3,7 +3,7 @@ use Rattle.std.proofs.Common.{◌≡◌, ℕ, zero, suc, ◌+◌, List, [], ◌�
 use Rattle.std.proofs.Common.{refl, sym, ap, ap₂, ◌∙◌, arith}
 use Rattle.bson_tree.specs.Tree.{Tree, leaf, node, Items, no_items, item}
 use Rattle.bson_tree.specs.Filled.{filled_in, filled_from}
-use Rattle.encrypt_schema.specs.Commands.Chains.{link, chain_in, chain_from}
+use Rattle.encrypt_schema.specs.Commands.Chains.{link, chain_in, chain_from, targets_at}
 use Rattle.encrypt_schema.specs.Commands.Skeletons.{Skeleton, hole, plain, branch, Skeletons, no_more, more}
 use Rattle.encrypt_schema.specs.Commands.Skeletons.{blank, blank_in, blanks}
 use Rattle.encrypt_schema.specs.Commands.Stations.{Station, Outside, Store, Compare, station}
@@ -11,7 +11,7 @@ use Rattle.encrypt_schema.specs.Commands.Visits.{entry, command_entry}
 use Rattle.encrypt_schema.specs.Language.Row.{Row}
 use Rattle.doc_rewrite.specs.Keys.{Lookup}
 use Rattle.doc_rewrite.specs.SealedCommand.{IsFilledCommand, IsSealedCommand, SealsAt, rule_at}
-use Rattle.doc_rewrite.specs.SealedTrees.{rule_of}
+use Rattle.doc_rewrite.specs.SealedTrees.{Use, rule_of, use_of}
 use Rattle.doc_rewrite.proofs.FromPlaces.{along_onward, command_rule, rule_along}
 use Rattle.context_machine.specs.Blanked.{blank_at, blank_value, blanked}
 
@@ -56,16 +56,18 @@ mutual
       (over_in (λ place. f (i ∷ place)) (λ place. g (i ∷ place)) t (λ place. under (i ∷ place)))
       (over_from f g (i + 1) is under)
 
-module _ (S : ℕ → Tree → Tree → Type 0) where
-  under_at : (rule : Option ℕ) (t u : Option Tree) → SealsAt S rule t u
+module _ (S : Use → Tree → Tree → Type 0) where
+  under_at : (use_by : ℕ → Use) (rule : Option ℕ) (t u : Option Tree) → SealsAt S (option_map use_by rule) t u
       → IsUnder u (option_map (λ i. blank_value) rule)
-  under_at None t u seals = seals
-  under_at (Some i) t u seals = tt
+  under_at use_by None t u seals = seals
+  under_at use_by (Some i) t u seals = tt
 
   sealed_away : (rows : List Row) (c d : Items) → IsFilledCommand S rows c d → blanked rows c d ≡ blanked rows c c
   sealed_away rows c d h =
       ap (filled_from (blank_at rows c) 0) h.made
-      ∙ over_from h.f (blank_at rows c) 0 c (λ place. under_at (rule_at rows c place) _ (h.f place) (h.exactly place))
+      ∙ over_from h.f (blank_at rows c) 0 c
+      (λ place. under_at (use_of rows (targets_at rows 0 c place)) (rule_at rows c place) _ (h.f place)
+      (h.exactly place))
 
 -- ---- what a blank tells
 
@@ -83,8 +85,8 @@ abbrev blank_of : Option ℕ → Option Tree
 blank_of rule = option_map (λ i. blank_value) rule
 
 module _ (rows : List Row) where
-  abbrev Any : ℕ → Tree → Tree → Type 0
-  Any i t u = Unit {0}
+  abbrev Any : Use → Tree → Tree → Type 0
+  Any usage t u = Unit {0}
 
   leaf_told : (s : Station) (tag : ℕ) (bytes : List ℕ) (u : Option Tree) → u ≡ blank_of (rule_of s)
       → unwrap_or u (leaf tag bytes) ≡ told_in (blank_in rows s (leaf tag bytes))

@@ -1,26 +1,37 @@
--- The slots of the ids that are needed: one more, and a number in one.
+-- The slots of needs: one more, and a number in those that a key meets.
 use Rattle.std.proofs.Common.{◌≡◌, ◌∙◌, ◌≤◌, ◌<◌, ℕ, ◌+◌, Bool, true, false, not, ◌&&◌, ◌||◌, cond, List, []}
 use Rattle.std.proofs.Common.{◌∷◌, ◌++◌, length, Option, Some, None, Result, Ok, Err, OnOk, refl, sym, ap, subst, arith}
 use Rattle.std.specs.Prelude.{bytes_eq, is_some}
 use Rattle.std.specs.BTreeMap.{BTreeMap, UpdatesBy}
-use Rattle.std.specs.Cmp.Lexicographic.{bytes_decides, slice_cmp}
+use Rattle.std.specs.Cmp.Lexicographic.{bytes_decides, nat_list_eq_equiv, slice_cmp}
 use Rattle.std.specs.Ordering.{nat_cmp}
+use Rattle.std.proofs.lemmas.Bool.{false≢true}
 use Rattle.std.proofs.lemmas.List.{length_push}
-use Rattle.std.proofs.lemmas.Map.Text.{is_eq-slice_cmp}
+use Rattle.std.proofs.lemmas.Map.Text.{btree_map_updates_str, is_eq-slice_cmp}
+use denote.Ref.{Bor}
 use Rattle.data_key.specs.declared.key_doc.KeyDoc.{KeyDoc}
-use Rattle.key_vault.specs.Keys.{first_key, has_id, place_from}
-use Rattle.context_machine.specs.declared.need.Need.{Need}
-use Rattle.context_machine.specs.Kept.{fed, is_kept, lacking}
-use Rattle.context_machine.specs.Needs.{is_needed}
-use Rattle.context_machine.specs.Slots.{AreManySlots, AreSlots, is_free, number_in, slot_of}
-use Rattle.context_machine.proofs.Kept.{lacks_less, needed_behind}
+use Rattle.key_vault.specs.Keys.{first_key, is_among, place_from}
+use Rattle.payload6.specs.Needs.{Need, Id, Name}
+use Rattle.context_machine.specs.declared.slots.Slots.{Slots}
+use Rattle.context_machine.specs.Kept.{fed, is_met, is_wanted, meets}
+use Rattle.context_machine.specs.Needs.{NeedAt, is_needed, is_same}
+use Rattle.context_machine.specs.Slots.{AreManySlots, AreSlots, has_free, id_slot, is_free, is_one_free, name_slot}
+use Rattle.context_machine.specs.Slots.{number_in, slot_of}
+use Rattle.context_machine.proofs.Kept.{needed_behind, or_either, or_left, or_right}
+use Rattle.context_machine.proofs.Kept.{unwanted, wanted_new}
 
--- the slot of one id is put, and others stay
-pub put_one : (id : List ℕ) (m n : BTreeMap (List ℕ) (Option ℕ)) (w : Option (Option ℕ))
+-- ---- one slot is put, and others stay
+
+pub put_id : (id : List ℕ) (m n : BTreeMap (List ℕ) (Option ℕ)) (w : Option (Option ℕ))
     → UpdatesBy (slice_cmp nat_cmp) (slice_cmp nat_cmp id) m n w
-    → (other : List ℕ) → slot_of n other ≡ cond (bytes_eq id other) w (slot_of m other)
-put_one id m n w updates other =
-    updates.0 other ∙ ap (λ (b : Bool). cond b w (slot_of m other)) (is_eq-slice_cmp id other)
+    → (other : List ℕ) → id_slot n other ≡ cond (bytes_eq id other) w (id_slot m other)
+put_id id m n w updates other =
+    updates.0 other ∙ ap (λ (b : Bool). cond b w (id_slot m other)) (is_eq-slice_cmp id other)
+
+pub put_name : (name : List ℕ) (m n : BTreeMap (Bor (List ℕ)) (Option ℕ)) (w : Option (Option ℕ))
+    → UpdatesBy (λ x y. slice_cmp nat_cmp x.now y.now) (λ k. slice_cmp nat_cmp name k.now) m n w
+    → (other : List ℕ) → name_slot n other ≡ cond (bytes_eq name other) w (name_slot m other)
+put_name name m n w updates other = btree_map_updates_str name m n w updates other
 
 -- a free slot is there
 pub is_there : (o : Option (Option ℕ)) → is_free o ≡ true → is_some o ≡ true
@@ -28,10 +39,32 @@ is_there None e = absurd cc
 is_there (Some o) e = refl
 
 -- a number is put into a slot that is free
-pub fill_one : (id : List ℕ) (m n : BTreeMap (List ℕ) (Option ℕ)) (w : Option (Option ℕ))
-    → is_free (slot_of m id) ≡ true → UpdatesBy (slice_cmp nat_cmp) (slice_cmp nat_cmp id) m n w
-    → (other : List ℕ) → slot_of n other ≡ cond (is_free (slot_of m id) && bytes_eq id other) w (slot_of m other)
-fill_one id m n w free updates other = rw free (put_one id m n w updates other)
+pub fill_one_id : (id : List ℕ) (m n : BTreeMap (List ℕ) (Option ℕ)) (w : Option (Option ℕ))
+    → is_free (id_slot m id) ≡ true → UpdatesBy (slice_cmp nat_cmp) (slice_cmp nat_cmp id) m n w
+    → (other : List ℕ) → id_slot n other ≡ cond (is_free (id_slot m id) && bytes_eq id other) w (id_slot m other)
+fill_one_id id m n w free updates other = rw free (put_id id m n w updates other)
+
+pub fill_one_name : (name : List ℕ) (m n : BTreeMap (Bor (List ℕ)) (Option ℕ)) (w : Option (Option ℕ))
+    → is_free (name_slot m name) ≡ true
+    → UpdatesBy (λ x y. slice_cmp nat_cmp x.now y.now) (λ k. slice_cmp nat_cmp name k.now) m n w
+    → (other : List ℕ)
+    → name_slot n other ≡ cond (is_free (name_slot m name) && bytes_eq name other) w (name_slot m other)
+fill_one_name name m n w free updates other = rw free (put_name name m n w updates other)
+
+-- the slot of an id, or of a name, is put, and those of other needs stay
+pub put_by_id : (old new : Slots) (id : List ℕ) (w : Option (Option ℕ)) → new.names ≡ old.names
+    → ((other : List ℕ) → id_slot new.ids other ≡ cond (bytes_eq id other) w (id_slot old.ids other))
+    → (need : Need) → slot_of new need ≡ cond (is_same (Id id) need) w (slot_of old need)
+put_by_id old new id w same put (Id other) = put other
+put_by_id old new id w same put (Name other) =
+    ap (λ (names : BTreeMap (Bor (List ℕ)) (Option ℕ)). name_slot names other) same
+
+pub put_by_name : (old new : Slots) (name : List ℕ) (w : Option (Option ℕ)) → new.ids ≡ old.ids
+    → ((other : List ℕ) → name_slot new.names other ≡ cond (bytes_eq name other) w (name_slot old.names other))
+    → (need : Need) → slot_of new need ≡ cond (is_same (Name name) need) w (slot_of old need)
+put_by_name old new name w same put (Id other) =
+    ap (λ (ids : BTreeMap (List ℕ) (Option ℕ)). id_slot ids other) same
+put_by_name old new name w same put (Name other) = put other
 
 -- ---- one slot more
 
@@ -46,20 +79,32 @@ free_by : (b : Bool) (o : Option (Option ℕ)) → number_in o ≡ None → numb
 free_by true o none = refl
 free_by false o none = none
 
--- a value more, whose id has no slot yet
-pub one_more : (needs : List Need) (m n : BTreeMap (List ℕ) (Option ℕ)) (need : Need) → AreSlots needs [] m
-    → ((other : List ℕ) → slot_of n other ≡ cond (bytes_eq need.id other) (Some None) (slot_of m other))
-    → AreSlots (needs ++ need ∷ []) [] n
-one_more needs m n need are put = record {
-  there = λ id. ap is_some (put id)
-      ∙ there_by (bytes_eq need.id id) (slot_of m id) (Some None) (is_needed id needs) refl (are.there id)
-      ∙ sym (needed_behind needs need id);
-  numbered = λ id. ap number_in (put id) ∙ free_by (bytes_eq need.id id) (slot_of m id) (are.numbered id);
+-- with no key kept no slot has a number
+none_by : (o : Option (Option ℕ)) (b : Bool) → is_some o ≡ b → (b ≡ true → number_in o ≡ None) → number_in o ≡ None
+none_by None b there numbered = refl
+none_by (Some o) true there numbered = numbered refl
+none_by (Some o) false there numbered = absurd (false≢true (sym there))
+
+pub no_number : (needs : List NeedAt) (m : Slots) → AreSlots needs [] m → (need : Need) → number_in (slot_of m need)
+    ≡ None
+no_number needs m are need =
+    none_by (slot_of m need) (is_needed need needs) (are.there need) (are.numbered need)
+
+-- a value more, whose need has no slot yet
+pub one_more : (needs : List NeedAt) (m n : Slots) (a : NeedAt) → AreSlots needs [] m
+    → ((other : Need) → slot_of n other ≡ cond (is_same a.need other) (Some None) (slot_of m other))
+    → AreSlots (needs ++ a ∷ []) [] n
+one_more needs m n a are put = record {
+  there = λ need. ap is_some (put need)
+      ∙ there_by (is_same a.need need) (slot_of m need) (Some None) (is_needed need needs) refl (are.there need)
+      ∙ sym (needed_behind needs a need);
+  numbered = λ need _. ap number_in (put need)
+      ∙ free_by (is_same a.need need) (slot_of m need) (no_number needs m are need);
 }
 
 -- ---- which keys are kept
 
--- a key of this id has a number where there is one
+-- a key that passes a test has a number where there is one
 some_by : (b : Bool) (k : KeyDoc) (n : ℕ) (o : Option KeyDoc) (p : Option ℕ) → is_some p ≡ is_some o
     → is_some (cond b (Some n) p) ≡ is_some (cond b (Some k) o)
 some_by true k n o p e = refl
@@ -71,48 +116,93 @@ is_placed n test [] = refl
 is_placed n test (k ∷ ks) =
     some_by (test k) k n (first_key test ks) (place_from (n + 1) test ks) (is_placed (n + 1) test ks)
 
-free_slot : (o : Option (Option ℕ)) → is_free o ≡ (is_some o && not (is_some (number_in o)))
-free_slot None = refl
-free_slot (Some None) = refl
-free_slot (Some (Some n)) = refl
+open_by : (o : Option (Option ℕ)) (b met : Bool) → is_some o ≡ b → (b ≡ true → is_some (number_in o) ≡ met)
+    → is_free o ≡ (b && not met)
+open_by None true met there numbered = absurd (false≢true there)
+open_by None false met there numbered = refl
+open_by (Some o) false met there numbered = absurd (false≢true (sym there))
+open_by (Some None) true met there numbered = ap not (numbered refl)
+open_by (Some (Some n)) true met there numbered = ap not (numbered refl)
 
--- a slot is free where its id is needed and no key of it is kept
-pub is_open : (needs : List Need) (kept : List KeyDoc) (m : BTreeMap (List ℕ) (Option ℕ)) → AreSlots needs kept m
-    → (id : List ℕ) → is_free (slot_of m id) ≡ (is_needed id needs && not (is_kept id kept))
-is_open needs kept m are id =
-    free_slot (slot_of m id)
-    ∙ ap (λ (b : Bool). b && not (is_some (number_in (slot_of m id)))) (are.there id)
-    ∙ ap (λ (o : Option ℕ). is_needed id needs && not (is_some o)) (are.numbered id)
-    ∙ ap (λ (b : Bool). is_needed id needs && not b) (is_placed 0 (has_id id) kept)
+-- a slot is free where it is of a need that no kept key meets
+pub is_open : (needs : List NeedAt) (kept : List KeyDoc) (m : Slots) → AreSlots needs kept m → (need : Need)
+    → is_free (slot_of m need) ≡ (is_needed need needs && not (is_met need kept))
+is_open needs kept m are need =
+    open_by (slot_of m need) (is_needed need needs) (is_met need kept) (are.there need)
+    (λ h. ap is_some (are.numbered need h) ∙ is_placed 0 (meets need) kept)
 
-both : (a b : Bool) → (a && not b) ≡ true → (a ≡ true) × (b ≡ false)
-both false b e = absurd cc
-both true true e = absurd cc
-both true false e = (refl, refl)
+both : (a b : Bool) → (a && b) ≡ true → (a ≡ true) × (b ≡ true)
+both true b e = (refl, e)
+both false b e = absurd (false≢true e)
 
--- a key is new: its id is needed, and no key of it is kept
-abbrev is_new : List Need → List KeyDoc → KeyDoc → Bool
-is_new needs kept k = is_needed k.id needs && not (is_kept k.id kept)
+both_true : (a b : Bool) → a ≡ true → b ≡ true → (a && b) ≡ true
+both_true true b p q = q
+both_true false b p q = absurd (false≢true p)
 
-module _ (needs : List Need) (kept : List KeyDoc) (k : KeyDoc) where
-  pub new_key : is_new needs kept k ≡ true → (is_needed k.id needs ≡ true) × (is_kept k.id kept ≡ false)
-  new_key new = both (is_needed k.id needs) (is_kept k.id kept) new
+alike : (a b : Bool) → (a ≡ true → b ≡ true) → (b ≡ true → a ≡ true) → a ≡ b
+alike true b p q = sym (p refl)
+alike false true p q = q refl
+alike false false p q = refl
 
-  pub fed_new : is_new needs kept k ≡ true → kept ++ k ∷ [] ≡ fed needs kept k
+module _ (needs : List NeedAt) (kept : List KeyDoc) (m : Slots) (k : KeyDoc) (are : AreSlots needs kept m) where
+  -- the slot of a need that the key meets is free: the key is wanted
+  wanted_by : (need : Need) → meets need k ≡ true → is_free (slot_of m need) ≡ true → (w : Bool)
+      → is_wanted needs kept k ≡ w → w ≡ true
+  wanted_by need met free true e = refl
+  wanted_by need met free false e =
+      let open_ = both (is_needed need needs) (not (is_met need kept)) (sym (is_open needs kept m are need) ∙ free) in
+      absurd (false≢true (sym (unwanted need needs kept k open_.0 e)
+      ∙ both_true (meets need k) (not (is_met need kept)) met open_.1))
+
+  wanted_free : (need : Need) → meets need k ≡ true → is_free (slot_of m need) ≡ true → is_wanted needs kept k ≡ true
+  wanted_free need met free = wanted_by need met free (is_wanted needs kept k) refl
+
+  names_free : (names : List (List ℕ)) → is_one_free m names ≡ true
+      → ((name : List ℕ) → is_among name names ≡ true → is_free (slot_of m (Name name)) ≡ true
+      → is_wanted needs kept k ≡ true)
+      → is_wanted needs kept k ≡ true
+  names_free [] e h = absurd (false≢true e)
+  names_free (name ∷ names) e h =
+      or_either (is_free (slot_of m (Name name))) (is_one_free m names) e
+      (h name (or_left (bytes_eq name name) (is_among name names) ((bytes_decides name name).1 refl)))
+      (λ later. names_free names later
+      (λ other among free. h other (or_right (bytes_eq other name) (is_among other names) among) free))
+
+  one_free : (names : List (List ℕ)) (name : List ℕ) → is_among name names ≡ true
+      → is_free (slot_of m (Name name)) ≡ true → is_one_free m names ≡ true
+  one_free [] name among free = absurd (false≢true among)
+  one_free (other ∷ names) name among free =
+      or_either (bytes_eq name other) (is_among name names) among
+      (λ same. or_left (is_free (slot_of m (Name other))) (is_one_free m names)
+      (subst (λ (x : List ℕ). is_free (slot_of m (Name x)) ≡ true) ((bytes_decides name other).0 same) free))
+      (λ later. or_right (is_free (slot_of m (Name other))) (is_one_free m names) (one_free names name later free))
+
+  has_by : (need : Need) → meets need k ≡ true → is_free (slot_of m need) ≡ true → has_free m k ≡ true
+  has_by (Id id) met free =
+      or_left (is_free (slot_of m (Id k.id))) (is_one_free m k.names)
+      (subst (λ (x : List ℕ). is_free (slot_of m (Id x)) ≡ true) (sym ((bytes_decides k.id id).0 met)) free)
+  has_by (Name name) met free =
+      or_right (is_free (slot_of m (Id k.id))) (is_one_free m k.names) (one_free k.names name met free)
+
+  -- a key is wanted where a slot is free that it meets
+  pub wanted_slots : has_free m k ≡ is_wanted needs kept k
+  wanted_slots =
+      alike (has_free m k) (is_wanted needs kept k)
+      (λ e. or_either (is_free (slot_of m (Id k.id))) (is_one_free m k.names) e
+      (wanted_free (Id k.id) ((bytes_decides k.id k.id).1 refl))
+      (λ later. names_free k.names later (λ name. wanted_free (Name name))))
+      (λ e.
+      let one = wanted_new needs kept k e in
+      let new = both (meets one.0 k) (not (is_met one.0 kept)) one.2 in
+      has_by one.0 new.0 (is_open needs kept m are one.0
+      ∙ both_true (is_needed one.0 needs) (not (is_met one.0 kept)) one.1 new.1))
+
+module _ (needs : List NeedAt) (kept : List KeyDoc) (k : KeyDoc) where
+  pub fed_new : is_wanted needs kept k ≡ true → kept ++ k ∷ [] ≡ fed needs kept k
   fed_new new = ap (λ (b : Bool). cond b (kept ++ k ∷ []) kept) (sym new)
 
-  pub fed_old : is_new needs kept k ≡ false → kept ≡ fed needs kept k
+  pub fed_old : is_wanted needs kept k ≡ false → kept ≡ fed needs kept k
   fed_old old = ap (λ (b : Bool). cond b (kept ++ k ∷ []) kept) (sym old)
-
-  -- one need less is without a key
-  pub less_new : is_new needs kept k ≡ true → lacking (kept ++ (k ∷ [])) needs + 1 ≤ lacking kept needs
-  less_new new = lacks_less kept k needs (new_key new).0 (new_key new).1
-
-module _ (needs : List Need) (kept : List KeyDoc) (m : BTreeMap (List ℕ) (Option ℕ)) (k : KeyDoc)
-    (are : AreSlots needs kept m) where
-  -- a key is new where its slot is free
-  pub new_by : (b : Bool) → is_free (slot_of m k.id) ≡ b → is_new needs kept k ≡ b
-  new_by b free = sym (is_open needs kept m are k.id) ∙ free
 
 -- ---- a key more
 
@@ -135,62 +225,175 @@ place_behind n test (d ∷ ks) k =
     ap (λ (o : Option ℕ). cond (test d) (Some n) o) (place_behind (n + 1) test ks k)
     ∙ or_new_if (test d) n (place_from (n + 1) test ks) (test k) (n + 1 + length ks) (n + length (d ∷ ks)) e
 
-number_by : (b : Bool) (o : Option (Option ℕ)) (place : Option ℕ) (n : ℕ) → number_in o ≡ place
-    → (b ≡ true → place ≡ None) → number_in (cond b (Some (Some n)) o) ≡ or_new place b n
-number_by true o place n is free = ap (λ (p : Option ℕ). or_new p true n) (sym (free refl))
-number_by false o None n is free = is
-number_by false o (Some m) n is free = is
+same_there : (o w : Option (Option ℕ)) (m : Bool) → is_some w ≡ true → is_some (cond (is_free o && m) w o) ≡ is_some o
+same_there None w m some = refl
+same_there (Some None) w true some = some
+same_there (Some None) w false some = refl
+same_there (Some (Some n)) w m some = refl
 
-none_there : (o : Option (Option ℕ)) → is_free o ≡ true → number_in o ≡ None
-none_there None e = refl
-none_there (Some None) e = refl
-none_there (Some (Some n)) e = absurd cc
+number_by : (o : Option (Option ℕ)) (m : Bool) (place : Option ℕ) (n : ℕ) → is_some o ≡ true → number_in o ≡ place
+    → number_in (cond (is_free o && m) (Some (Some n)) o) ≡ or_new place m n
+number_by None m place n there is = absurd (false≢true there)
+number_by (Some None) true place n there is = ap (λ (p : Option ℕ). or_new p true n) is
+number_by (Some None) false place n there is = ap (λ (p : Option ℕ). or_new p false n) is
+number_by (Some (Some k)) m place n there is = ap (λ (p : Option ℕ). or_new p m n) is
 
-same_there : (b : Bool) (o w : Option (Option ℕ)) (needed : Bool) → is_some w ≡ true → is_some o ≡ needed
-    → (b ≡ true → needed ≡ true) → is_some (cond b w o) ≡ needed
-same_there true o w needed some is on = some ∙ sym (on refl)
-same_there false o w needed some is on = is
+-- what the code makes of the slots for a key of this number
+abbrev pub FillsSlots : Slots → Slots → KeyDoc → ℕ → Type 0
+FillsSlots m n k number =
+    (need : Need) → slot_of n need ≡ cond (is_free (slot_of m need) && meets need k) (Some (Some number))
+    (slot_of m need)
 
--- the number of a key stands in the slot that was free
-pub key_more : (needs : List Need) (kept : List KeyDoc) (m n : BTreeMap (List ℕ) (Option ℕ)) (k : KeyDoc) (number : ℕ)
-    → AreSlots needs kept m
-    → ((other : List ℕ) → slot_of n other
-    ≡ cond (is_free (slot_of m k.id) && bytes_eq k.id other) (Some (Some number)) (slot_of m other))
-    → is_free (slot_of m k.id) ≡ true → number ≡ length kept → AreSlots needs (kept ++ k ∷ []) n
-key_more needs kept m n k number are filled free count =
-    let put : (other : List ℕ) → slot_of n other
-    ≡ cond (bytes_eq k.id other) (Some (Some number)) (slot_of m other) =
-    λ other. filled other
-    ∙ ap (λ (b : Bool). cond (b && bytes_eq k.id other) (Some (Some number)) (slot_of m other)) free in
+-- the number of a key stands in the slots that were free
+pub key_more : (needs : List NeedAt) (kept : List KeyDoc) (m n : Slots) (k : KeyDoc) (number : ℕ)
+    → AreSlots needs kept m → FillsSlots m n k number → number ≡ length kept → AreSlots needs (kept ++ k ∷ []) n
+key_more needs kept m n k number are filled count =
     let size : number ≡ 0 + length kept = omega (arith, count) in
     record {
-      there = λ id. ap is_some (put id)
-          ∙ same_there (bytes_eq k.id id) (slot_of m id) (Some (Some number)) (is_needed id needs) refl (are.there id)
-          (λ same. subst (λ (i : List ℕ). is_needed i needs ≡ true) ((bytes_decides k.id id).0 same)
-          (sym (are.there k.id) ∙ is_there (slot_of m k.id) free));
-      numbered = λ id. ap number_in (put id)
-          ∙ number_by (bytes_eq k.id id) (slot_of m id) (place_from 0 (has_id id) kept) number (are.numbered id)
-          (λ same. subst (λ (i : List ℕ). place_from 0 (has_id i) kept ≡ None) ((bytes_decides k.id id).0 same)
-          (sym (are.numbered k.id) ∙ none_there (slot_of m k.id) free))
-          ∙ ap (or_new (place_from 0 (has_id id) kept) (bytes_eq k.id id)) size
-          ∙ sym (place_behind 0 (has_id id) kept k);
+      there = λ need. ap is_some (filled need)
+          ∙ same_there (slot_of m need) (Some (Some number)) (meets need k) refl ∙ are.there need;
+      numbered = λ need h. ap number_in (filled need)
+          ∙ number_by (slot_of m need) (meets need k) (place_from 0 (meets need) kept) number (are.there need ∙ h)
+          (are.numbered need h)
+          ∙ ap (or_new (place_from 0 (meets need) kept) (meets need k)) size
+          ∙ sym (place_behind 0 (meets need) kept k);
     }
+
+-- ---- the names of a key, one after another
+
+-- a key with this id and these of its names meets a need
+abbrev pub meets_front : Need → List ℕ → List (List ℕ) → Bool
+meets_front (Id other) id names = bytes_eq id other
+meets_front (Name name) id names = is_among name names
+
+-- what the code has made of the slots by then
+abbrev pub FillsFront : Slots → Slots → List ℕ → List (List ℕ) → ℕ → Type 0
+FillsFront m n id names number =
+    (need : Need)
+    → slot_of n need
+    ≡ cond (is_free (slot_of m need) && meets_front need id names) (Some (Some number)) (slot_of m need)
+
+meets_all : (need : Need) (k : KeyDoc) → meets_front need k.id k.names ≡ meets need k
+meets_all (Id other) k = refl
+meets_all (Name name) k = refl
+
+-- all names of the key
+pub front_fills : (m n : Slots) (k : KeyDoc) (number : ℕ) → FillsFront m n k.id k.names number → FillsSlots m n k number
+front_fills m n k number front need =
+    front need
+    ∙ ap (λ (b : Bool). cond (is_free (slot_of m need) && b) (Some (Some number)) (slot_of m need)) (meets_all need k)
+
+nothing_met : (o w : Option (Option ℕ)) → cond (is_free o && false) w o ≡ o
+nothing_met None w = refl
+nothing_met (Some None) w = refl
+nothing_met (Some (Some n)) w = refl
+
+swap : (a b : Bool) (w o : Option (Option ℕ)) → a ≡ b → cond a w o ≡ cond b w o
+swap a b w o e = ap (λ (x : Bool). cond x w o) e
+
+same_id_by : (ids : BTreeMap (List ℕ) (Option ℕ)) (id other : List ℕ) (w : Option (Option ℕ)) (b : Bool)
+    → bytes_eq id other ≡ b
+    → cond (is_free (id_slot ids id) && b) w (id_slot ids other) ≡ cond (is_free (id_slot ids other) && b) w
+    (id_slot ids other)
+same_id_by ids id other w true e =
+    ap (λ (x : List ℕ). cond (is_free (id_slot ids x) && true) w (id_slot ids other)) ((bytes_decides id other).0 e)
+same_id_by ids id other w false e =
+    nothing_by (is_free (id_slot ids id)) ∙ sym (nothing_by (is_free (id_slot ids other)))
+  where
+    nothing_by : (f : Bool) → cond (f && false) w (id_slot ids other) ≡ id_slot ids other
+    nothing_by true = refl
+    nothing_by false = refl
+
+-- the id of the key first
+pub fills_id : (m n : Slots) (id : List ℕ) (number : ℕ) → n.names ≡ m.names
+    → ((other : List ℕ) → id_slot n.ids other
+    ≡ cond (is_free (id_slot m.ids id) && bytes_eq id other) (Some (Some number)) (id_slot m.ids other))
+    → FillsFront m n id [] number
+fills_id m n id number same filled (Id other) =
+    filled other ∙ same_id_by m.ids id other (Some (Some number)) (bytes_eq id other) refl
+fills_id m n id number same filled (Name name) =
+    ap (λ (names : BTreeMap (Bor (List ℕ)) (Option ℕ)). name_slot names name) same
+    ∙ sym (nothing_met (name_slot m.names name) (Some (Some number)))
+
+among_behind : (name : List ℕ) (names : List (List ℕ)) (last : List ℕ)
+    → is_among name (names ++ last ∷ []) ≡ (is_among name names || bytes_eq name last)
+among_behind name [] last = or_none (bytes_eq name last)
+  where
+    or_none : (a : Bool) → (a || false) ≡ a
+    or_none true = refl
+    or_none false = refl
+among_behind name (other ∷ names) last =
+    ap (λ (b : Bool). bytes_eq name other || b) (among_behind name names last)
+    ∙ or_assoc (bytes_eq name other) (is_among name names) (bytes_eq name last)
+  where
+    or_assoc : (a b c : Bool) → (a || (b || c)) ≡ ((a || b) || c)
+    or_assoc true b c = refl
+    or_assoc false b c = refl
+
+filled_twice : (o : Option (Option ℕ)) (s : Bool) (n : ℕ)
+    → cond (is_free (cond (is_free o && s) (Some (Some n)) o)) (Some (Some n)) (cond (is_free o && s) (Some (Some n)) o)
+    ≡ cond (is_free o && (s || true)) (Some (Some n)) o
+filled_twice None s n = refl
+filled_twice (Some None) true n = refl
+filled_twice (Some None) false n = refl
+filled_twice (Some (Some k)) s n = refl
+
+not_filled : (f s : Bool) (o x : Option (Option ℕ)) (n : ℕ)
+    → cond (f && false) (Some (Some n)) x ≡ x
+not_filled true s o x n = refl
+not_filled false s o x n = refl
+
+no_more : (o : Option (Option ℕ)) (s : Bool) (n : ℕ)
+    → cond (is_free o && s) (Some (Some n)) o ≡ cond (is_free o && (s || false)) (Some (Some n)) o
+no_more o true n = refl
+no_more o false n = refl
+
+name_by : (o : Option (Option ℕ)) (name other : List ℕ) (now : BTreeMap (Bor (List ℕ)) (Option ℕ)) (s b : Bool) (n : ℕ)
+    → bytes_eq name other ≡ b → name_slot now other ≡ cond (is_free o && s) (Some (Some n)) o
+    → cond (is_free (name_slot now name) && b) (Some (Some n)) (name_slot now other)
+    ≡ cond (is_free o && (s || b)) (Some (Some n)) o
+name_by o name other now s true n e is =
+    ap (λ (x : List ℕ). cond (is_free (name_slot now x) && true) (Some (Some n)) (name_slot now other))
+    ((bytes_decides name other).0 e)
+    ∙ ap (λ (x : Option (Option ℕ)). cond (is_free x && true) (Some (Some n)) x) is
+    ∙ and_true (is_free (cond (is_free o && s) (Some (Some n)) o)) (cond (is_free o && s) (Some (Some n)) o)
+    ∙ filled_twice o s n
+  where
+    and_true : (f : Bool) (x : Option (Option ℕ)) → cond (f && true) (Some (Some n)) x ≡ cond f (Some (Some n)) x
+    and_true true x = refl
+    and_true false x = refl
+name_by o name other now s false n e is =
+    not_filled (is_free (name_slot now name)) s o (name_slot now other) n ∙ is ∙ no_more o s n
+
+-- one name of the key more
+pub fills_name : (m now next : Slots) (id : List ℕ) (names : List (List ℕ)) (name : List ℕ) (number : ℕ)
+    → FillsFront m now id names number → next.ids ≡ now.ids
+    → ((other : List ℕ) → name_slot next.names other
+    ≡ cond (is_free (name_slot now.names name) && bytes_eq name other) (Some (Some number)) (name_slot now.names other))
+    → FillsFront m next id (names ++ name ∷ []) number
+fills_name m now next id names name number front same filled (Id other) =
+    ap (λ (ids : BTreeMap (List ℕ) (Option ℕ)). id_slot ids other) same ∙ front (Id other)
+fills_name m now next id names name number front same filled (Name other) =
+    filled other
+    ∙ name_by (name_slot m.names other) name other now.names (is_among other names) (bytes_eq name other) number refl
+    (front (Name other))
+    ∙ ap (λ (b : Bool). cond (is_free (name_slot m.names other) && b) (Some (Some number)) (name_slot m.names other))
+    (ap (λ (b : Bool). is_among other names || b) (nat_list_eq_equiv.symm name other)
+    ∙ sym (among_behind other names name))
 
 -- ---- few and many
 
 -- the same where many are needed
-pub key_more_many : (needs : List Need) (kept : List KeyDoc) (m n : BTreeMap (List ℕ) (Option ℕ)) (k : KeyDoc)
-    (number : ℕ) → 8 < length needs → AreSlots needs kept m
-    → ((other : List ℕ) → slot_of n other
-    ≡ cond (is_free (slot_of m k.id) && bytes_eq k.id other) (Some (Some number)) (slot_of m other))
-    → is_free (slot_of m k.id) ≡ true → number ≡ length kept → AreManySlots needs (kept ++ k ∷ []) n
-key_more_many needs kept m n k number many are filled free count = record {
+pub key_more_many : (needs : List NeedAt) (kept : List KeyDoc) (m n : Slots) (k : KeyDoc) (number : ℕ)
+    → 8 < length needs → AreSlots needs kept m → FillsSlots m n k number → number ≡ length kept
+    → AreManySlots needs (kept ++ k ∷ []) n
+key_more_many needs kept m n k number many are filled count = record {
   few = λ few. absurd (omega (arith, many, few));
-  many = λ _. key_more needs kept m n k number are filled free count;
+  many = λ _. key_more needs kept m n k number are filled count;
 }
 
 -- few have no slots, whatever is kept
-pub no_more_slots : (needs : List Need) (kept more : List KeyDoc) (m : BTreeMap (List ℕ) (Option ℕ))
+pub no_more_slots : (needs : List NeedAt) (kept more : List KeyDoc) (m : Slots)
     → length needs ≤ 8 → AreManySlots needs kept m → AreManySlots needs more m
 no_more_slots needs kept more m few are = record {
   few = are.few;
@@ -198,14 +401,14 @@ no_more_slots needs kept more m few are = record {
 }
 
 -- a value more, with its slot, where they are many
-pub slot_more : {A E : Type 0} (needs more : List Need) (m n : BTreeMap (List ℕ) (Option ℕ)) (need : Need)
-    (r : Result A E) → more ≡ needs ++ need ∷ [] → 8 < length needs → AreManySlots needs [] m
-    → OnOk r ((other : List ℕ) → slot_of n other ≡ cond (bytes_eq need.id other) (Some None) (slot_of m other))
+pub slot_more : {A E : Type 0} (needs more : List NeedAt) (m n : Slots) (a : NeedAt)
+    (r : Result A E) → more ≡ needs ++ a ∷ [] → 8 < length needs → AreManySlots needs [] m
+    → OnOk r ((other : Need) → slot_of n other ≡ cond (is_same a.need other) (Some None) (slot_of m other))
     → OnOk r (AreManySlots more [] n)
-slot_more needs more m n need (Err e) is many are put = tt
-slot_more needs more m n need (Ok a) is many are put =
-    let size : length more ≡ length needs + 1 = ap length is ∙ length_push needs need in
+slot_more needs more m n a (Err e) is many are put = tt
+slot_more needs more m n a (Ok u) is many are put =
+    let size : length more ≡ length needs + 1 = ap length is ∙ length_push needs a in
     record {
       few = λ few. absurd (omega (arith, many, few, size));
-      many = λ _. subst (λ (ns : List Need). AreSlots ns [] n) (sym is) (one_more needs m n need (are.many many) put);
+      many = λ _. subst (λ (ns : List NeedAt). AreSlots ns [] n) (sym is) (one_more needs m n a (are.many many) put);
     }

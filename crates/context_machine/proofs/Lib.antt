@@ -1,16 +1,20 @@
 pub mod Kept
 mod Filled
 mod Frames
+mod Listed
 pub mod Waits
 mod Answered
-mod Tables
+pub mod Tables
 pub mod Decrypting
 pub mod Readies
 mod Finishing
 pub mod Infos
 mod Blanked
-mod EqualNeeds
-mod FoundKeys
+mod NamesTold
+pub mod EqualNeeds
+pub mod FoundKeys
+mod ByIds
+pub mod Vaults
 mod EqualOutputs
 pub mod Keyed
 pub mod Alike

@@ -5,65 +5,64 @@ use Rattle.std.specs.Prelude.{is_some}
 use Rattle.bson_codec.specs.Borrowed.{At}
 use Rattle.bson_tree.specs.Spelling.{doc_bytes}
 use Rattle.command_marker.specs.Commands.{Command}
-use Rattle.encrypt_schema.specs.Commands.Visits.{roles}
+use Rattle.encrypt_schema.specs.Commands.Visits.{content_verdict, roles}
 use Rattle.encrypt_schema.specs.Language.Row.{Row}
 use Rattle.encrypt_schema.specs.declared.command.marks.Mark.{Mark}
 use Rattle.doc_rewrite.specs.Plans.{AreMarksOf, Planned, StandsFor}
-use Rattle.doc_rewrite.specs.Sites.{grown, sites_of}
+use Rattle.doc_rewrite.specs.Sites.{Site, grown, sites_of}
+use Rattle.doc_rewrite.proofs.Names.{clean_named}
 use Rattle.doc_rewrite.proofs.Stands.{marks_stand}
 use Rattle.encrypt_schema.specs.Commands.Targets.{rows_in}
 use Rattle.encrypt_schema.specs.Language.Collection.{Collection}
-use Rattle.doc_rewrite.specs.Keys.{key_in}
-use Rattle.doc_rewrite.specs.Opened.{Keyring}
+use Rattle.doc_rewrite.specs.Keys.{Table, key_in}
 use Rattle.doc_rewrite.specs.Sealing.{HasKeys}
-use Rattle.doc_rewrite.specs.declared.key_table.KeyEntry.{KeyEntry}
-use Rattle.doc_rewrite.specs.declared.site.Site.{Site}
 use Rattle.context_machine.specs.Kept.{Wants}
 use Rattle.context_machine.specs.Ready.{IsPlanOf, IsTooLong, StopsWaiting, readied, sealed_size, values_of}
-use Rattle.context_machine.specs.Rings.{AreOpened, need_of, needs_of, ring}
+use Rattle.context_machine.specs.Rings.{AreOpened, Finder, finder, need_at, needs_of}
 use Rattle.context_machine.specs.States.{Readied, Waits}
 use Rattle.context_machine.specs.Tables.{KeysFail, OpensKeys, TellsTable, table_of}
 use Rattle.context_machine.specs.Waiting.{IsWaiting, wanted_of}
-use Rattle.context_machine.specs.declared.need.Need.{Need}
+use Rattle.context_machine.specs.Needs.{NeedAt}
 use Rattle.context_machine.specs.declared.opened_keys.KeysStop.{KeysStop}
 use Rattle.context_machine.specs.declared.opened_keys.KeysStop.TheVariants as stops
-use Rattle.context_machine.proofs.Keyed.{opened_none, opens_keys}
+use Rattle.context_machine.proofs.Keyed.{FindsOwn, finder_own, opened_none, opens_keys}
 use Rattle.context_machine.proofs.Waits.{no_roles}
 
 -- the table has the key of each value that is to be sealed
-pub has_keys : (keys : Keyring) (ss : List Site) (table : List KeyEntry) → AreOpened keys (map need_of ss) table
+pub has_keys : (keys : Finder) (ss : List Site) (table : Table) → AreOpened keys (map need_at ss) table
     → HasKeys (key_in table) ss
 has_keys keys [] table are = tt
 has_keys keys (s ∷ ss) table are = (ap is_some are.0.2, has_keys keys ss table are.1)
 
 -- what is answered of the keys that are wanted is answered of the keys of all values
-pub opens_wanted : (keys : Keyring) (info : Option Collection) (command : At) (needs : List Need)
-    (r : Result (List KeyEntry) KeysStop)
+pub opens_wanted : (keys : Finder) → FindsOwn keys → (info : Option Collection) (command : At) (needs : List NeedAt)
+    (r : Result Table KeysStop)
     → needs ≡ wanted_of info command → TellsTable (table_of keys needs) r
     → OpensKeys keys (needs_of (rows_in info) command) r
-opens_wanted keys info command needs r is tells =
-    opens_keys keys (needs_of (rows_in info) command) r
-    (subst (λ (ns : List Need). TellsTable (table_of keys ns) r) is tells)
+opens_wanted keys own info command needs r is tells =
+    opens_keys keys own (needs_of (rows_in info) command) r
+    (subst (λ (ns : List NeedAt). TellsTable (table_of keys ns) r) is tells)
 
 -- the same of a command that waits
 pub waits_told : (master : List ℕ) (info : Option Collection) (command : At) (marked : Option Command) (wanted : Wants)
-    (w : Waits) (r : Result (List KeyEntry) KeysStop)
+    (w : Waits) (r : Result Table KeysStop)
     → record { command = command; info = info; kept = wanted.kept } ≡ w → IsWaiting info command marked wanted
-    → TellsTable (table_of (ring wanted.kept master) wanted.needs) r
-    → OpensKeys (ring w.kept master) (needs_of (rows_in w.info) w.command) r
+    → TellsTable (table_of (finder wanted.kept master) wanted.needs) r
+    → OpensKeys (finder w.kept master) (needs_of (rows_in w.info) w.command) r
 waits_told master info command marked wanted w r is waiting tells =
-    subst (λ (x : Waits). OpensKeys (ring x.kept master) (needs_of (rows_in x.info) x.command) r) is
-    (opens_wanted (ring wanted.kept master) info command wanted.needs r waiting.needs tells)
+    subst (λ (x : Waits). OpensKeys (finder x.kept master) (needs_of (rows_in x.info) x.command) r) is
+    (opens_wanted (finder wanted.kept master) (finder_own wanted.kept master) info command wanted.needs r
+    waiting.needs tells)
 
 -- a value's key isn't to be had
-pub keyless_stops : (keys : Keyring) (w : Waits) (stop : KeysStop)
+pub keyless_stops : (keys : Finder) (w : Waits) (stop : KeysStop)
     → KeysFail keys (needs_of (rows_in w.info) w.command) stop → StopsWaiting keys w stop
 keyless_stops keys w (stops.Refused reason at) fail = fail
 keyless_stops keys w stops.TooLong fail = absurd fail
 keyless_stops keys w stops.Memory fail = tt
 
 -- each value has its key, and the sealed command would be too long
-pub long_stops : (keys : Keyring) (w : Waits) (table : List KeyEntry) (stop : KeysStop)
+pub long_stops : (keys : Finder) (w : Waits) (table : Table) (stop : KeysStop)
     → AreOpened keys (needs_of (rows_in w.info) w.command) table → IsTooLong (sealed_size w.info w.command) stop
     → StopsWaiting keys w stop
 long_stops keys w table (stops.Refused reason at) are long = absurd long
@@ -72,14 +71,14 @@ long_stops keys w table stops.TooLong are long =
 long_stops keys w table stops.Memory are long = tt
 
 -- what is known of the command that is ready, or isn't, with this table
-pub opened_ready : (keys : Keyring) (w : Waits) (table : List KeyEntry) (result : Result Readied (Waits × KeysStop))
+pub opened_ready : (keys : Finder) (w : Waits) (table : Table) (result : Result Readied (Waits × KeysStop))
     → AreOpened keys (needs_of (rows_in w.info) w.command) table → IfOk result (λ r. r ≡ readied w table)
     → IfOk result (λ r. AreOpened keys (needs_of (rows_in w.info) w.command) r.table)
 opened_ready keys w table (Ok r) are is =
     subst (λ (x : Readied). AreOpened keys (needs_of (rows_in w.info) w.command) x.table) (sym is) are
 opened_ready keys w table (Err e) are is = is
 
-pub stops_ready : (keys : Keyring) (w : Waits) (table : List KeyEntry) (result : Result Readied (Waits × KeysStop))
+pub stops_ready : (keys : Finder) (w : Waits) (table : Table) (result : Result Readied (Waits × KeysStop))
     → AreOpened keys (needs_of (rows_in w.info) w.command) table
     → IfErr result (λ e. IsTooLong (sealed_size w.info w.command) e.1)
     → IfErr result (λ e. StopsWaiting keys w e.1)
@@ -88,14 +87,16 @@ stops_ready keys w table (Err e) are is = long_stops keys w table e.1 are is
 
 -- the marks of a marked command are its roles
 pub marked_stand : (m : Command) (rows : List Row) (marks : List Mark) (command : At) → m.command ≡ command
-    → rows ≡ m.rows → marks ≡ roles m.rows m.command.start m.command.tree → AreMarksOf rows marks command
-marked_stand m rows marks command same ruled are =
+    → rows ≡ m.rows → marks ≡ roles m.rows m.command.start m.command.tree
+    → content_verdict m.rows m.command.start m.command.tree ≡ None → AreMarksOf rows marks command
+marked_stand m rows marks command same ruled are accepted =
     subst (λ (d : At). AreMarksOf rows marks d) same
     (subst (λ (rs : List Row). AreMarksOf rs marks m.command) (sym ruled)
-    (subst (λ (ms : List Mark). AreMarksOf m.rows ms m.command) (sym are) (marks_stand m.rows m.command)))
+    (subst (λ (ms : List Mark). AreMarksOf m.rows ms m.command) (sym are) (marks_stand m.rows m.command
+    (clean_named m.rows m.command accepted))))
 
 no_values : (command : At) → [] ≡ values_of None command
-no_values command = ap (λ (ms : List Mark). sites_of [] ms) (no_roles command)
+no_values command = ap (λ (ms : List Mark). sites_of [] command ms) (no_roles command)
 
 -- without an info nothing is sealed
 pub clear_size : (info : Option Collection) (command : At) → info ≡ None

@@ -7,7 +7,7 @@ use Rattle.encrypt_schema.specs.Commands.Visits.{roles}
 use Rattle.doc_rewrite.specs.Sites.{sites_of}
 use Rattle.context_machine.specs.Kept.{Wants}
 use Rattle.context_machine.specs.Needs.{first_needs}
-use Rattle.context_machine.specs.Rings.{need_of, needs_of}
+use Rattle.context_machine.specs.Rings.{need_at, needs_of}
 use Rattle.context_machine.specs.Waiting.{IsWaiting}
 
 -- a command without rules has no role
@@ -15,7 +15,7 @@ pub no_roles : (command : At) → [] ≡ roles [] command.start command.tree
 no_roles command = (no_rows [] command refl).0
 
 pub no_needs : (command : At) → [] ≡ needs_of [] command
-no_needs command = ap (λ (ms : List Mark). map need_of (sites_of [] ms)) (no_roles command)
+no_needs command = ap (λ (ms : List Mark). map need_at (sites_of [] command ms)) (no_roles command)
 
 -- a command of a collection without an info waits for no key
 pub unmarked_waits : (command : At) (wanted : Wants) → wanted.needs ≡ [] → IsWaiting None command None wanted

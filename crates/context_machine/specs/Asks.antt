@@ -1,7 +1,11 @@
 -- MongoDB `find` and `listCollections`: the filters by which a caller looks for what a context needs
-use Rattle.std.specs.Prelude.{ℕ, ◌+◌, List, [], ◌∷◌, codes, decimal}
+use Rattle.std.specs.Prelude.{ℕ, ◌+◌, List, [], ◌∷◌, codes, decimal, length, map}
 use Rattle.bson_tree.specs.Tree.{Tree, Items, leaf, node, no_items, item}
 use Rattle.bson_codec.specs.Layout.{string_bytes, binary_bytes}
+use Rattle.payload6.specs.Needs.{Need, Id, Name}
+use Rattle.context_machine.specs.Needs.{NeedAt, ids_of, names_of}
+use Rattle.context_machine.specs.declared.keys_asked.Choice.{Choice}
+use Rattle.context_machine.specs.declared.keys_asked.Choice.TheVariants as choices
 
 -- BSON 1.1: a string (02)
 abbrev pub text : List ℕ → Tree
@@ -15,27 +19,42 @@ uuid id = leaf 0x05 (binary_bytes 0x04 id)
 unfoldable pub collection_filter : List ℕ → Items
 collection_filter name = item (codes "name") (text name) no_items
 
--- BSON 1.1, "array": ids under the decimal numbers from i on
-abbrev pub numbered : ℕ → List (List ℕ) → Items
+-- BSON 1.1, "array": values under the decimal numbers from i on
+abbrev pub numbered : ℕ → List Tree → Items
 numbered i [] = no_items
-numbered i (id ∷ ids) = item (decimal i) (uuid id) (numbered (i + 1) ids)
+numbered i (value ∷ values) = item (decimal i) value (numbered (i + 1) values)
 
--- `$in: [..]`
-abbrev pub among : Items → Items
-among values = item (codes "$in") (node 0x04 values) no_items
+-- `field: {$in: [values]}`
+abbrev pub among : List ℕ → List Tree → Items
+among field values =
+    item field (node 0x03 (item (codes "$in") (node 0x04 (numbered 0 values)) no_items)) no_items
 
--- `_id: {$in: [ids]}`
-abbrev pub by_id : List (List ℕ) → Items
-by_id ids = item (codes "_id") (node 0x03 (among (numbered 0 ids))) no_items
+-- `{$or: [{_id: {$in: [ids]}}, {keyAltNames: {$in: [names]}}]}`: the keys of these ids and of these alternate names
+unfoldable pub key_filter : List (List ℕ) → List (List ℕ) → Items
+key_filter ids names = item (codes "$or") (node 0x04
+    (item (codes "0") (node 0x03 (among (codes "_id") (map uuid ids)))
+    (item (codes "1") (node 0x03 (among (codes "keyAltNames") (map text names))) no_items))) no_items
 
--- `1: {keyAltNames: {$in: []}}`: no key is looked for by an alternate name
-abbrev pub by_name : Items
-by_name = item (codes "1") (node 0x03 (item (codes "keyAltNames") (node 0x03 (among no_items)) no_items)) no_items
+-- how the code writes them: what one of the two lists has
+abbrev pub listed : Choice → List NeedAt → List Tree
+listed choices.Ids ns = map uuid (ids_of ns)
+listed choices.Names ns = map text (names_of ns)
 
--- `[{_id: {$in: [ids]}}, {keyAltNames: {$in: []}}]`
-abbrev pub choices : List (List ℕ) → Items
-choices ids = item (codes "0") (node 0x03 (by_id ids)) by_name
+-- at least as many bytes as a need takes in one of the lists; none where it isn't there
+abbrev pub room_in : Choice → Need → ℕ
+room_in choices.Ids (Id id) = 63
+room_in choices.Ids (Name name) = 0
+room_in choices.Names (Id id) = 0
+room_in choices.Names (Name name) = 63 + length name
 
--- `{$or: [{_id: {$in: [ids]}}, {keyAltNames: {$in: []}}]}`: the keys of these ids
-unfoldable pub key_filter : List (List ℕ) → Items
-key_filter ids = item (codes "$or") (node 0x04 (choices ids)) no_items
+-- the same of all needs
+abbrev pub room_for : Choice → List NeedAt → ℕ
+room_for choice [] = 0
+room_for choice (n ∷ ns) = room_in choice n.need + room_for choice ns
+
+-- what one need has in one of the lists
+abbrev pub listed_one : Choice → Need → List Tree
+listed_one choices.Ids (Id id) = uuid id ∷ []
+listed_one choices.Ids (Name name) = []
+listed_one choices.Names (Id id) = []
+listed_one choices.Names (Name name) = text name ∷ []

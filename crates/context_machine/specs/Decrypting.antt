@@ -9,19 +9,19 @@ use Rattle.doc_rewrite.specs.Founds.{payloads_of}
 use Rattle.doc_rewrite.specs.Opened.{Keyring, first_wrong, misshapen, opened}
 use Rattle.doc_rewrite.specs.declared.found.FoundAt.{FoundAt}
 use Rattle.doc_rewrite.specs.declared.unsealing.Spot.{Spot}
-use Rattle.context_machine.specs.declared.need.Need.{Need}
-use Rattle.context_machine.specs.Needs.{put_new}
+use Rattle.payload6.specs.Needs.{Id}
+use Rattle.context_machine.specs.Needs.{NeedAt, put_new}
 
 -- a payload that was found needs the key of its id
-abbrev pub need_found : FoundAt → Need
-need_found f = record { id = f.key_id; at = f.start }
+abbrev pub need_found : FoundAt → NeedAt
+need_found f = record { need = Id f.key_id; at = f.start }
 
 -- the needs of the payloads that were told of, and whether memory ran short
 pub record Gathers : Type 0 where
-  pub needs : List Need
+  pub needs : List NeedAt
   pub short : Bool
 
--- one more was told of: unless memory ran short by then, its need is put behind those before where its key is a new one
+-- one more was told of: unless memory ran short by then, its need is put behind those before where it is a new one
 abbrev pub GathersOne : Gathers → Gathers → FoundAt → Type 0
 GathersOne before after f = after.short ≡ false
     → (before.short ≡ false) × (after.needs ≡ put_new before.needs (need_found f))

@@ -5,21 +5,18 @@ use Rattle.bson_tree.specs.Spelling.{doc_bytes}
 use Rattle.encrypt_schema.specs.Commands.Targets.{rows_in}
 use Rattle.encrypt_schema.specs.Commands.Visits.{roles}
 use Rattle.encrypt_schema.specs.Language.Collection.{Collection}
-use Rattle.doc_rewrite.specs.Keys.{key_in}
-use Rattle.doc_rewrite.specs.Opened.{Keyring}
+use Rattle.doc_rewrite.specs.Keys.{Table, key_in}
 use Rattle.doc_rewrite.specs.Plans.{Planned, StandsFor}
 use Rattle.doc_rewrite.specs.Sealing.{HasKeys}
-use Rattle.doc_rewrite.specs.Sites.{grown, sites_of}
-use Rattle.doc_rewrite.specs.declared.key_table.KeyEntry.{KeyEntry}
-use Rattle.doc_rewrite.specs.declared.site.Site.{Site}
-use Rattle.context_machine.specs.Rings.{first_keyless, needs_of}
+use Rattle.doc_rewrite.specs.Sites.{Site, grown, sites_of}
+use Rattle.context_machine.specs.Rings.{Finder, first_keyless, needs_of}
 use Rattle.context_machine.specs.States.{Finished, Readied, Waits}
 use Rattle.context_machine.specs.declared.opened_keys.KeysStop.{KeysStop}
 use Rattle.context_machine.specs.declared.opened_keys.KeysStop.TheVariants as stops
 
 -- the values of a command that are to be sealed, under the rules of its info
 abbrev pub values_of : Option Collection → At → List Site
-values_of info command = sites_of (rows_in info) (roles (rows_in info) command.start command.tree)
+values_of info command = sites_of (rows_in info) command (roles (rows_in info) command.start command.tree)
 
 -- how many bytes the sealed command has
 abbrev pub sealed_size : Option Collection → At → ℕ
@@ -34,14 +31,14 @@ pub record IsPlanOf (info : Option Collection) (command : At) (plan : Planned) :
 
 -- what holds of a command that is ready: the table has the key of each of its values, and so many bytes are there as it
 -- is sealed to
-pub record IsReady (w : Waits) (table : List KeyEntry) (out : List ℕ) : Type 0 where
+pub record IsReady (w : Waits) (table : Table) (out : List ℕ) : Type 0 where
   pub keyed : HasKeys (key_in table) (values_of w.info w.command)
   pub room : length out ≡ sealed_size w.info w.command
   pub most : sealed_size w.info w.command ≤ 48000000
 
 -- the first value whose key isn't to be had; or each has its key, and the sealed command would be too long; want of
 -- memory may come at any time
-abbrev pub StopsWaiting : Keyring → Waits → KeysStop → Type 0
+abbrev pub StopsWaiting : Finder → Waits → KeysStop → Type 0
 StopsWaiting keys w (stops.Refused reason at) =
     first_keyless keys (needs_of (rows_in w.info) w.command) ≡ Some (record { reason = reason; at = at })
 StopsWaiting keys w stops.TooLong =
@@ -55,7 +52,7 @@ IsTooLong size stops.TooLong = 48000000 < size
 IsTooLong size stops.Memory = Unit {0}
 
 -- the command that waited, once it is ready: the same with this table of data keys
-abbrev pub readied : Waits → List KeyEntry → Readied
+abbrev pub readied : Waits → Table → Readied
 readied w table = record { command = w.command; info = w.info; kept = w.kept; table = table }
 
 -- the command that was ready, once it is sealed: the same with these bytes

@@ -5,7 +5,7 @@ use Rattle.bson_codec.specs.Borrowed.{At, coded_at}
 use Rattle.data_key.specs.contracts.key_doc.KeyDoc as keys
 use Rattle.data_key.specs.declared.key_doc.KeyDoc.{KeyDoc}
 use Rattle.doc_rewrite.specs.contracts.key_table.KeyTable as tables
-use Rattle.doc_rewrite.specs.declared.key_table.KeyEntry.{KeyEntry}
+use Rattle.doc_rewrite.specs.Keys.{Table}
 use Rattle.encrypt_schema.specs.contracts.schema.collections.Info as infos
 use Rattle.encrypt_schema.specs.Language.Collection.{Collection}
 use Rattle.context_machine.specs.States.{Asks, Finished, Readied, Started, Waits}
@@ -27,7 +27,7 @@ coded_waits = code_by (Asks × List KeyDoc) (coded× coded_asks (coded_list keys
 
 -- the code of the same with the data keys of its values
 abbrev pub coded_readied : Coded Readied
-coded_readied = code_by (Waits × List KeyEntry) (coded× coded_waits tables.the_row.coded)
+coded_readied = code_by (Waits × Table) (coded× coded_waits tables.the_row.coded)
     (λ r. (record { command = r.command; info = r.info; kept = r.kept }, r.table))
     (λ p. record { command = p.0.command; info = p.0.info; kept = p.0.kept; table = p.1 }) (λ _. refl)
 

@@ -3,7 +3,7 @@ use Rattle.std.specs.Prelude.{ℕ, List, Option}
 use Rattle.bson_codec.specs.Borrowed.{At}
 use Rattle.data_key.specs.declared.key_doc.KeyDoc.{KeyDoc}
 use Rattle.encrypt_schema.specs.Language.Collection.{Collection}
-use Rattle.doc_rewrite.specs.declared.key_table.KeyEntry.{KeyEntry}
+use Rattle.doc_rewrite.specs.Keys.{Table}
 
 -- a command that is to be sealed, and the database that it is sent to
 pub record Started : Type 0 where
@@ -26,14 +26,14 @@ pub record Readied : Type 0 where
   pub command : At
   pub info : Option Collection
   pub kept : List KeyDoc
-  pub table : List KeyEntry
+  pub table : Table
 
 -- the same with the sealed command's bytes
 pub record Finished : Type 0 where
   pub command : At
   pub info : Option Collection
   pub kept : List KeyDoc
-  pub table : List KeyEntry
+  pub table : Table
   pub bytes : List ℕ
 
 -- a document whose payloads are known, and the keys kept so far
@@ -45,11 +45,11 @@ pub record Opens : Type 0 where
 pub record OpensWith : Type 0 where
   pub document : At
   pub kept : List KeyDoc
-  pub table : List KeyEntry
+  pub table : Table
 
 -- the same with the opened document's bytes
 pub record OpenedDone : Type 0 where
   pub document : At
   pub kept : List KeyDoc
-  pub table : List KeyEntry
+  pub table : Table
   pub bytes : List ℕ

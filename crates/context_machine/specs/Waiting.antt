@@ -9,10 +9,9 @@ use Rattle.encrypt_schema.specs.declared.command.marks.MarkFault.{MarkFault}
 use Rattle.encrypt_schema.specs.declared.command.marks.MarkFault.TheVariants as faults
 use Rattle.data_key.specs.declared.key_doc.KeyDoc.{KeyDoc}
 use Rattle.context_machine.specs.Kept.{Wants, fed}
-use Rattle.context_machine.specs.Needs.{first_needs}
+use Rattle.context_machine.specs.Needs.{NeedAt, first_needs}
 use Rattle.context_machine.specs.Rings.{needs_of}
 use Rattle.context_machine.specs.States.{Waits}
-use Rattle.context_machine.specs.declared.need.Need.{Need}
 
 -- this is refused; want of memory may come at any time
 abbrev pub IsRefusal : Option Refusal → MarkFault → Type 0
@@ -24,8 +23,8 @@ abbrev pub IsMarked : Option Collection → At → Option Command → Type 0
 IsMarked info command None = info ≡ None
 IsMarked info command (Some marked) = marked ≡ record { rows = rows_in info; command = command }
 
--- the first value of a command that needs each key
-abbrev pub wanted_of : Option Collection → At → List Need
+-- the first value of each need of a command
+abbrev pub wanted_of : Option Collection → At → List NeedAt
 wanted_of info command = first_needs (needs_of (rows_in info) command)
 
 -- what holds of a command that waits: it is marked under the rules of its info, nothing of its contents is refused, and
@@ -35,7 +34,7 @@ pub record IsWaiting (info : Option Collection) (command : At) (marked : Option 
   pub accepted : content_verdict (rows_in info) command.start command.tree ≡ None
   pub needs : wanted.needs ≡ wanted_of info command
 
--- a key is kept where a value of the command needs it and none of its id is kept
+-- a key is kept where it meets a need of the command that no kept key meets
 abbrev pub fed_key : Waits → KeyDoc → Waits
 fed_key w key = record {
   command = w.command;

@@ -9,13 +9,14 @@ ghost use Rattle.doc_rewrite.specs.Opening.{room_to_open};
 ghost use Rattle.context_machine.specs.Asks.{key_filter};
 ghost use Rattle.context_machine.specs.Decrypting.{IsMisshapen};
 ghost use Rattle.context_machine.specs.Kept.{fed};
-ghost use Rattle.context_machine.specs.Needs.{first_needs, ids_of};
-ghost use Rattle.context_machine.specs.Rings.{AreOpened, needs_in, ring};
+ghost use Rattle.context_machine.specs.Needs.{first_needs, ids_of, needs_seen};
+ghost use Rattle.context_machine.specs.Rings.{AreOpened, by_ids, needs_in, ring};
 ghost use Rattle.context_machine.specs.Tables.{KeysFail};
+ghost use Rattle.payload6.specs.Needs.{need_seen};
 
 use crate::decrypt_ready::DecryptReady;
 use crate::keys_asked::key_filter;
-use crate::need::Need;
+use crate::need::NeedAt;
 use crate::opened_keys::{KeysStop, open_keys, open_keys_cached};
 use crate::payload_needs::PayloadNeeds;
 use crate::wanted::Wanted;
@@ -27,6 +28,7 @@ use encrypt_schema::{MarkFault, Reason};
 use fle_outside::Memory;
 use key_vault::KeyCache;
 use local_kms::MasterKey;
+use payload6::Need;
 use std::alloc::Global;
 use std::marker::Model;
 
@@ -88,31 +90,32 @@ impl<'a> DecryptNeedKeys<'a> {
         &self.document
     }
 
-    /// The filter by which the caller asks its key vault for the keys that are needed. `Memory` where there is none for
-    /// it.
+    /// The filter by which the caller asks its key vault for the keys that are needed, all of them by their ids.
+    /// `Memory` where there is none for it.
     pub fn op(&self, alloc: Global) -> Result<Vec<u8>, Memory>
         ensures filter { IfOk result (λ out. out.items
-            ≡ doc_bytes (key_filter (ids_of (first_needs (needs_in self.now.document))))) }
+            ≡ doc_bytes (key_filter (ids_of (first_needs (needs_in self.now.document))) [])) }
     {
         key_filter(alloc, self.wanted.needs())
     }
 
     /// The first payload that needs each key, in reading order.
-    pub fn needs(&self) -> &[Need]
-        ensures needs { result.now ≡ first_needs (needs_in self.now.document) }
+    pub fn needs(&self) -> &[NeedAt<'a>]
+        ensures needs { needs_seen result.now ≡ first_needs (needs_in self.now.document) }
     {
         self.wanted.needs()
     }
 
     /// The id of key `i` of those that are needed, in the order in which the document needs them first, counted from 0;
     /// `None` past the last.
-    pub fn needed(&self, i: usize) -> Option<[u8; 16]>
-        ensures id { result ≡ option_map (λ n. n.id) (slice_get (first_needs (needs_in self.now.document)) i) }
+    pub fn needed(&self, i: usize) -> Option<Need<'a>>
+        ensures need { option_map need_seen result
+            ≡ option_map (λ n. n.need) (slice_get (first_needs (needs_in self.now.document)) i) }
     {
         self.wanted.needed(i)
     }
 
-    /// Keeps a key where its id is needed and no key of this id is kept. It takes no memory.
+    /// Keeps a key where it meets a need, by its id, that no kept key meets. It takes no memory.
     pub fn feed(&mut self, key: &'a KeyDoc)
         ensures fed { self.new ≡ record {
           document = self.old.document;
@@ -136,10 +139,10 @@ impl<'a> DecryptNeedKeys<'a> {
         ensures ready { IfOk result (λ r. r
             ≡ record { document = self.entry.document; kept = self.entry.kept; table = r.table }) }
         ensures opened { IfOk result (λ r.
-            AreOpened (ring self.entry.kept master.now) (needs_in self.entry.document) r.table) }
+            AreOpened (by_ids (ring self.entry.kept master.now)) (needs_in self.entry.document) r.table) }
         ensures back { IfErr result (λ e. e.0 ≡ self.entry) }
         ensures refused { IfErr result (λ e.
-            KeysFail (ring self.entry.kept master.now) (needs_in self.entry.document) e.1) }
+            KeysFail (by_ids (ring self.entry.kept master.now)) (needs_in self.entry.document) e.1) }
     {
         let Ok(out) = self.room(alloc) else {
             return Err((self, KeysStop::Memory));
@@ -162,10 +165,10 @@ impl<'a> DecryptNeedKeys<'a> {
         ensures ready { IfOk result (λ r. r
             ≡ record { document = self.entry.document; kept = self.entry.kept; table = r.table }) }
         ensures opened { IfOk result (λ r.
-            AreOpened (ring self.entry.kept cache.old.master) (needs_in self.entry.document) r.table) }
+            AreOpened (by_ids (ring self.entry.kept cache.old.master)) (needs_in self.entry.document) r.table) }
         ensures back { IfErr result (λ e. e.0 ≡ self.entry) }
         ensures refused { IfErr result (λ e.
-            KeysFail (ring self.entry.kept cache.old.master) (needs_in self.entry.document) e.1) }
+            KeysFail (by_ids (ring self.entry.kept cache.old.master)) (needs_in self.entry.document) e.1) }
     {
         let Ok(out) = self.room(alloc) else {
             return Err((self, KeysStop::Memory));

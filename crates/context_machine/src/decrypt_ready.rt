@@ -3,7 +3,7 @@
 ghost use Rattle.std.specs.Prelude.{◌≡◌, ◌≤◌, length, map, IfErr, IfOk};
 ghost use Rattle.doc_rewrite.specs.Finding.{HasKeysFor, found_at};
 ghost use Rattle.doc_rewrite.specs.Founds.{payloads_of};
-ghost use Rattle.doc_rewrite.specs.Keys.{key_in};
+ghost use Rattle.doc_rewrite.specs.Keys.{key_by_id};
 ghost use Rattle.doc_rewrite.specs.Opened.{ring_of};
 ghost use Rattle.doc_rewrite.specs.Opening.{room_to_open};
 ghost use Rattle.context_machine.specs.Decrypting.{OpensTo, StaysSealed};
@@ -27,7 +27,7 @@ impl<'a> Model for DecryptReady<'a> {
     ghost use Rattle.std.specs.Prelude.{◌≤◌, length, map};
     ghost use Rattle.doc_rewrite.specs.Finding.{HasKeysFor, found_at};
     ghost use Rattle.doc_rewrite.specs.Founds.{payloads_of};
-    ghost use Rattle.doc_rewrite.specs.Keys.{key_in};
+    ghost use Rattle.doc_rewrite.specs.Keys.{key_by_id};
     ghost use Rattle.doc_rewrite.specs.Opening.{room_to_open};
     ghost use Rattle.std.specs.Coded.{codes};
     ghost use Rattle.bson_tree.specs.Code.{coded_items};
@@ -39,14 +39,14 @@ impl<'a> Model for DecryptReady<'a> {
 
     ghost view = { λ s. record { document = s.asked.document; kept = s.asked.kept; table = s.table } };
 
-    ghost invariant = { λ s. HasKeysFor (key_in s.table) (map found_at (payloads_of s.asked.document))
+    ghost invariant = { λ s. HasKeysFor (key_by_id s.table.ids) (map found_at (payloads_of s.asked.document))
         × (room_to_open s.asked.document (map found_at (payloads_of s.asked.document)) ≤ length s.out.items) };
 }
 
 impl<'a> DecryptReady<'a> {
     /// What is asked for is there, and so is the room.
     pub(crate) fn new(asked: DecryptNeedKeys<'a>, table: KeyTable, out: Vec<u8>) -> DecryptReady<'a>
-        requires keyed { HasKeysFor (key_in table) (map found_at (payloads_of asked.document)) }
+        requires keyed { HasKeysFor (key_by_id table.ids) (map found_at (payloads_of asked.document)) }
         requires room { room_to_open asked.document (map found_at (payloads_of asked.document)) ≤ length out.items }
         ensures ready { result
             ≡ record { document = asked.entry.document; kept = asked.entry.kept; table = table } }
@@ -73,8 +73,8 @@ impl<'a> DecryptReady<'a> {
           bytes = d.bytes;
         }) }
         ensures opened { IfOk result (λ d.
-            OpensTo (ring_of (key_in self.entry.table)) self.entry.document d.bytes) }
-        ensures refused { IfErr result (StaysSealed (ring_of (key_in self.entry.table)) self.entry.document) }
+            OpensTo (ring_of (key_by_id self.entry.table.ids)) self.entry.document d.bytes) }
+        ensures refused { IfErr result (StaysSealed (ring_of (key_by_id self.entry.table.ids)) self.entry.document) }
     {
         let DecryptReady {
             asked,

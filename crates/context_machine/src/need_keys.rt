@@ -3,19 +3,20 @@
 ghost use Rattle.std.specs.Prelude.{◌≡◌, ◌<◌, ◌≤◌, length, option_copied, option_map, slice_get, IfErr, IfOk, OnErr};
 ghost use Rattle.bson_tree.specs.Spelling.{doc_bytes};
 ghost use Rattle.context_machine.specs.Asks.{key_filter};
-ghost use Rattle.context_machine.specs.Needs.{ids_of};
+ghost use Rattle.context_machine.specs.Needs.{ids_of, names_of, needs_seen};
 ghost use Rattle.context_machine.specs.Ready.{IsPlanOf, IsReady, IsTooLong, StopsWaiting, finished, readied};
 ghost use Rattle.context_machine.specs.Ready.{sealed_size, values_of};
-ghost use Rattle.context_machine.specs.Rings.{AreOpened, needs_of, ring};
+ghost use Rattle.context_machine.specs.Rings.{AreOpened, finder, needs_of};
 ghost use Rattle.context_machine.specs.Waiting.{IsMarked, IsWaiting, fed_key, wanted_of};
-ghost use Rattle.doc_rewrite.specs.Keys.{key_in};
+ghost use Rattle.doc_rewrite.specs.Keys.{GivesLongIds, key_in};
 ghost use Rattle.doc_rewrite.specs.Sealing.{FellShort, HasKeys, IsSealedWhole};
 ghost use Rattle.doc_rewrite.specs.Sites.{draws_of};
 ghost use Rattle.encrypt_schema.specs.Commands.Targets.{rows_in};
+ghost use Rattle.payload6.specs.Needs.{need_seen};
 
 use crate::done::Done;
 use crate::keys_asked;
-use crate::need::Need;
+use crate::need::NeedAt;
 use crate::opened_keys::{KeysStop, open_keys, open_keys_cached};
 use crate::ready::Ready;
 use crate::wanted::Wanted;
@@ -29,6 +30,7 @@ use encrypt_schema::Info;
 use fle_outside::{Entropy, Failed, Memory};
 use key_vault::KeyCache;
 use local_kms::MasterKey;
+use payload6::Need;
 use std::alloc::Global;
 use std::marker::Model;
 
@@ -87,30 +89,34 @@ impl<'a> NeedKeys<'a> {
         &self.command
     }
 
-    /// The filter `{$or: [{_id: {$in: [ids]}}, {keyAltNames: {$in: []}}]}` by which a caller asks for the keys.
-    /// `Memory` where there is none for it.
+    /// The filter `{$or: [{_id: {$in: [ids]}}, {keyAltNames: {$in: [names]}}]}` by which a caller asks for the keys,
+    /// both lists in order of first use. `Memory` where there is none for it.
     pub fn op(&self, alloc: Global) -> Result<Vec<u8>, Memory>
         ensures filter { IfOk result (λ out. out.items
-            ≡ doc_bytes (key_filter (ids_of (wanted_of self.now.info self.now.command)))) }
+            ≡ doc_bytes (key_filter (ids_of (wanted_of self.now.info self.now.command))
+            (names_of (wanted_of self.now.info self.now.command)))) }
     {
         keys_asked::key_filter(alloc, self.wanted.needs())
     }
 
-    /// The first value that needs each key, in reading order.
-    pub fn needs(&self) -> &[Need]
-        ensures needs { result.now ≡ wanted_of self.now.info self.now.command }
+    /// The first value of each need, in reading order.
+    pub fn needs(&self) -> &[NeedAt<'a>]
+        ensures needs { needs_seen result.now ≡ wanted_of self.now.info self.now.command }
     {
         self.wanted.needs()
     }
 
-    /// The id of key `i` of those that the command needs, counted from 0, in order of first use; `None` past the last.
-    pub fn needed(&self, i: usize) -> Option<[u8; 16]>
-        ensures id { result ≡ option_map (λ n. n.id) (slice_get (wanted_of self.now.info self.now.command) i) }
+    /// What names key `i` of those that the command needs, counted from 0, in order of first use: its id, or an
+    /// alternate name that stands in the command; `None` past the last.
+    pub fn needed(&self, i: usize) -> Option<Need<'a>>
+        ensures need { option_map need_seen result
+            ≡ option_map (λ n. n.need) (slice_get (wanted_of self.now.info self.now.command) i) }
     {
         self.wanted.needed(i)
     }
 
-    /// Keeps a key where the command needs it and no key of its id is kept. It takes no memory.
+    /// Keeps a key where it meets a need of the command that no kept key meets: by its id, or by one of its alternate
+    /// names. It takes no memory.
     pub fn feed(&mut self, key: &'a KeyDoc)
         ensures fed { self.new ≡ fed_key self.old key.entry.now }
     {
@@ -129,11 +135,11 @@ impl<'a> NeedKeys<'a> {
     ) -> Result<Ready<'a>, (NeedKeys<'a>, KeysStop)>
         requires hooks { B.answers hooks.now }
         ensures ready { IfOk result (λ r. r ≡ readied self.entry r.table) }
-        ensures opened { IfOk result (λ r. AreOpened (ring self.entry.kept master.now)
+        ensures opened { IfOk result (λ r. AreOpened (finder self.entry.kept master.now)
             (needs_of (rows_in self.entry.info) self.entry.command) r.table) }
         ensures fits { IfOk result (λ _. sealed_size self.entry.info self.entry.command ≤ 48000000) }
         ensures back { IfErr result (λ e. e.0 ≡ self.entry) }
-        ensures stop { IfErr result (λ e. StopsWaiting (ring self.entry.kept master.now) self.entry e.1) }
+        ensures stop { IfErr result (λ e. StopsWaiting (finder self.entry.kept master.now) self.entry e.1) }
     {
         match open_keys(alloc, &self.wanted, master, hooks) {
             Ok(table) => self.with_keys(alloc, table),
@@ -151,11 +157,11 @@ impl<'a> NeedKeys<'a> {
         requires hooks { B.answers hooks.now }
         ensures master { cache.new.master ≡ cache.old.master }
         ensures ready { IfOk result (λ r. r ≡ readied self.entry r.table) }
-        ensures opened { IfOk result (λ r. AreOpened (ring self.entry.kept cache.old.master)
+        ensures opened { IfOk result (λ r. AreOpened (finder self.entry.kept cache.old.master)
             (needs_of (rows_in self.entry.info) self.entry.command) r.table) }
         ensures fits { IfOk result (λ _. sealed_size self.entry.info self.entry.command ≤ 48000000) }
         ensures back { IfErr result (λ e. e.0 ≡ self.entry) }
-        ensures stop { IfErr result (λ e. StopsWaiting (ring self.entry.kept cache.old.master) self.entry e.1) }
+        ensures stop { IfErr result (λ e. StopsWaiting (finder self.entry.kept cache.old.master) self.entry e.1) }
     {
         match open_keys_cached(alloc, &self.wanted, cache, hooks) {
             Ok(table) => self.with_keys(alloc, table),
@@ -210,6 +216,7 @@ impl<'a> NeedKeys<'a> {
         requires hooks { B.answers hooks.now }
         requires ready { IsReady self.now table.now out.old }
         ensures size { length out.new ≡ length out.old }
+        ensures long { GivesLongIds (key_in table.now) }
         ensures sealed { IfOk result (λ _. IsSealedWhole (key_in table.now) (values_of self.now.info self.now.command)
             self.now.command (N.seen entropy.old) (N.seen entropy.new) out.new) }
         ensures failed { OnErr result (FellShort (N.seen entropy.old) (N.seen entropy.new)
@@ -232,8 +239,8 @@ impl<'a> NeedKeys<'a> {
 /// The plan of a command, by its marks; of one without marks nothing is sealed.
 fn plan_of<'m>(
     info: Option<&Info>,
-    command: &RawDoc<'_>,
-    marked: &'m Option<Marked<'_>>,
+    command: &RawDoc<'m>,
+    marked: &'m Option<Marked<'m>>,
 ) -> Result<Plan<'m>, TooLong>
     requires marked { IsMarked (option_copied info) command.now marked.now }
     ensures plan { IfOk result (λ plan. IsPlanOf (option_copied info.entry) command.now plan) }

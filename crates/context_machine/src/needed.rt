@@ -1,24 +1,30 @@
-//! The first value that needs each key. A few are looked through, one after another; of more than that each id has a
-//! slot.
+//! The first value of each need. A few are looked through, one after another; of more than that each need has a slot.
 
 ghost use Rattle.std.specs.Prelude.{◌≡◌, [], OnOk};
-ghost use Rattle.context_machine.specs.Needs.{is_needed, put_new};
+ghost use Rattle.payload6.specs.Needs.{need_seen};
+ghost use Rattle.context_machine.specs.Needs.{is_needed, need_at_seen, needs_seen, put_new};
 ghost use Rattle.context_machine.specs.Slots.{AreManySlots, AreSlots};
 
-use crate::need::Need;
-use crate::slots::{Slots, add_slot, has_slot};
+use crate::need::{NeedAt, is_same};
+use crate::slots::Slots;
 use fle_outside::Memory;
+use payload6::Need;
 
-/// So many keys are looked through.
+/// So many needs are looked through.
 pub(crate) const FEW: usize = 8;
 
-/// Appends a value where its key isn't needed yet, and makes slots for keys that are no longer few.
-pub(crate) fn put_new(needs: &mut Vec<Need>, slots: &mut Slots, n: Need) -> Result<(), Memory>
-    requires slots { AreManySlots needs.old.items [] slots.old }
-    ensures put { OnOk result (needs.new.items ≡ put_new needs.old.items n) }
-    ensures slots { OnOk result (AreManySlots needs.new.items [] slots.new) }
+/// Appends a value where its need isn't there yet, and makes slots for needs that are no longer few.
+pub(crate) fn put_new<'a>(
+    needs: &mut Vec<NeedAt<'a>>,
+    slots: &mut Slots<'a>,
+    n: NeedAt<'a>,
+) -> Result<(), Memory>
+    requires slots { AreManySlots (needs_seen needs.old.items) [] slots.old }
+    ensures put { OnOk result (needs_seen needs.new.items ≡ put_new (needs_seen needs.old.items)
+        (need_at_seen n.entry)) }
+    ensures slots { OnOk result (AreManySlots (needs_seen needs.new.items) [] slots.new) }
 {
-    if is_needed(needs, slots, &n.id) {
+    if is_needed(needs, slots, n.need) {
         return Ok(());
     }
     let before = needs.len();
@@ -26,7 +32,7 @@ pub(crate) fn put_new(needs: &mut Vec<Need>, slots: &mut Slots, n: Need) -> Resu
         return Err(Memory);
     }
     if before > FEW {
-        return add_slot(slots, n.id);
+        return slots.add(n.need);
     }
     if before == FEW {
         return add_slots(slots, needs);
@@ -34,37 +40,37 @@ pub(crate) fn put_new(needs: &mut Vec<Need>, slots: &mut Slots, n: Need) -> Resu
     Ok(())
 }
 
-/// Whether the key of an id is needed.
-fn is_needed(needs: &[Need], slots: &Slots, id: &[u8; 16]) -> bool
-    requires slots { AreManySlots needs.now [] slots.now }
-    ensures needed { result ≡ is_needed id.now needs.now }
+/// Whether this is needed.
+fn is_needed(needs: &[NeedAt<'_>], slots: &Slots<'_>, need: Need<'_>) -> bool
+    requires slots { AreManySlots (needs_seen needs.now) [] slots.now }
+    ensures needed { result ≡ is_needed (need_seen need.entry) (needs_seen needs.now) }
 {
     if needs.len() > FEW {
-        has_slot(slots, id)
+        slots.has(need)
     } else {
-        is_among(needs, id)
+        is_among(needs, need)
     }
 }
 
-/// Whether one of these values needs the key of an id. All are looked through.
-pub(crate) fn is_among(needs: &[Need], id: &[u8; 16]) -> bool
-    ensures needed { result ≡ is_needed id.now needs.now }
+/// Whether one of these values needs this. All are looked through.
+fn is_among(needs: &[NeedAt<'_>], need: Need<'_>) -> bool
+    ensures needed { result ≡ is_needed (need_seen need.entry) (needs_seen needs.now) }
 {
     for n in needs {
-        if n.id == *id {
+        if is_same(n.need, need) {
             return true;
         }
     }
     false
 }
 
-/// Makes a free slot for the key of each of these values.
-fn add_slots(slots: &mut Slots, needs: &[Need]) -> Result<(), Memory>
+/// Makes a free slot for the need of each of these values.
+fn add_slots<'a>(slots: &mut Slots<'a>, needs: &[NeedAt<'a>]) -> Result<(), Memory>
     requires none { AreSlots [] [] slots.old }
-    ensures slots { OnOk result (AreSlots needs.now [] slots.new) }
+    ensures slots { OnOk result (AreSlots (needs_seen needs.now) [] slots.new) }
 {
     for n in needs {
-        add_slot(slots, n.id)?;
+        slots.add(n.need)?;
     }
     Ok(())
 }

@@ -1,12 +1,16 @@
 //! The data keys of what is needed.
 
-ghost use Rattle.std.specs.Prelude.{◌≡◌, option_copied, IfSome, Ok};
-ghost use Rattle.key_vault.specs.Lookup.{key_of, opened_key};
-ghost use Rattle.context_machine.specs.Rings.{keyless_reason, reasoned, ring};
-ghost use Rattle.context_machine.specs.Tables.{PutsKey, TellsTable, table_of};
+ghost use Rattle.std.specs.Prelude.{◌≡◌, option_copied, IfErr, IfSome, Ok, OnOk, Some};
+ghost use Rattle.doc_rewrite.specs.Keys.{with_id, with_name};
+ghost use Rattle.key_vault.specs.Lookup.{opened_key};
+ghost use Rattle.context_machine.specs.Needs.{need_at_seen};
+ghost use Rattle.context_machine.specs.Rings.{finder, found_key, keyless_reason};
+ghost use Rattle.context_machine.specs.Tables.{IsShort, PutsKey, TellsTable, table_of};
+ghost use Rattle.context_machine.specs.declared.opened_keys.KeysStop.TheVariants as stops;
 
-use crate::need::Need;
+use crate::need::NeedAt;
 use crate::wanted::Wanted;
+use bson_tree::Bytes;
 use crypto_hooks::Block256;
 use data_key::{KeyDoc, Provider};
 use doc_rewrite::KeyTable;
@@ -14,6 +18,7 @@ use encrypt_schema::Reason;
 use fle_aead::{DataKey, SharedKey};
 use key_vault::{KeyCache, Keyless, open_key};
 use local_kms::MasterKey;
+use payload6::Need;
 use std::alloc::Global;
 
 /// Why the keys that were handed in don't do.
@@ -32,8 +37,7 @@ pub enum KeysStop {
     Memory,
 }
 
-/// The data key of each id that is needed, under a master key; or the first value whose key isn't to be had. It is
-/// never `TooLong`.
+/// The data key of each need, under a master key; or the first value whose key isn't to be had. It is never `TooLong`.
 pub(crate) fn open_keys<B: Block256>(
     alloc: Global,
     wanted: &Wanted<'_>,
@@ -41,11 +45,12 @@ pub(crate) fn open_keys<B: Block256>(
     hooks: &B,
 ) -> Result<KeyTable, KeysStop>
     requires hooks { B.answers hooks.now }
-    ensures opened { TellsTable (table_of (ring wanted.now.kept master.now) wanted.now.needs) result }
+    ensures opened { TellsTable (table_of (finder wanted.now.kept master.now) wanted.now.needs) result }
 {
     let mut table = KeyTable::new(alloc);
     for n in wanted.needs() {
-        match put_key(&mut table, n, key_for(n, wanted, master, hooks)) {
+        let key = wanted.key_by(n.need);
+        match put_opened(alloc, &mut table, n, key, master, hooks) {
             Ok(()) => {}
             Err(stop) => return Err(stop),
         }
@@ -62,11 +67,12 @@ pub(crate) fn open_keys_cached<B: Block256>(
 ) -> Result<KeyTable, KeysStop>
     requires hooks { B.answers hooks.now }
     ensures master { cache.new.master ≡ cache.old.master }
-    ensures opened { TellsTable (table_of (ring wanted.now.kept cache.old.master) wanted.now.needs) result }
+    ensures opened { TellsTable (table_of (finder wanted.now.kept cache.old.master) wanted.now.needs) result }
 {
     let mut table = KeyTable::new(alloc);
     for n in wanted.needs() {
-        match put_cached(&mut table, n, wanted, cache, hooks) {
+        let key = wanted.key_by(n.need);
+        match put_cached(alloc, &mut table, n, key, cache, hooks) {
             Ok(()) => {}
             Err(stop) => return Err(stop),
         }
@@ -74,76 +80,144 @@ pub(crate) fn open_keys_cached<B: Block256>(
     Ok(table)
 }
 
-/// Puts the data key of a value behind the others: the one that the cache keeps, shared, or else the one that the cache
-/// opens.
-fn put_cached<B: Block256>(
+/// Puts the data key of a value behind the others, opened under a master key.
+fn put_opened<B: Block256>(
+    alloc: Global,
     table: &mut KeyTable,
-    n: &Need,
-    wanted: &Wanted<'_>,
+    n: &NeedAt<'_>,
+    key: Option<&KeyDoc>,
+    master: &MasterKey,
+    hooks: &B,
+) -> Result<(), KeysStop>
+    requires hooks { B.answers hooks.now }
+    ensures put { PutsKey (need_at_seen n.now) (found_key master.now (option_copied key.entry)) table.old table.new
+        result }
+{
+    let Some(key) = key else {
+        return Err(refused(n, Keyless::Missing));
+    };
+    match open_key(hooks, master, Some(key)) {
+        Ok(data_key) => put_key(alloc, table, n, key, data_key),
+        Err(keyless) => Err(refused(n, keyless)),
+    }
+}
+
+/// The same under the master key of a cache.
+fn put_cached<B: Block256>(
+    alloc: Global,
+    table: &mut KeyTable,
+    n: &NeedAt<'_>,
+    key: Option<&KeyDoc>,
     cache: &mut KeyCache,
     hooks: &B,
 ) -> Result<(), KeysStop>
     requires hooks { B.answers hooks.now }
     ensures master { cache.new.master ≡ cache.old.master }
-    ensures put { PutsKey n.now (ring wanted.now.kept cache.old.master n.now.id) table.old table.new result }
+    ensures put { PutsKey (need_at_seen n.now) (found_key cache.old.master (option_copied key.entry)) table.old
+        table.new result }
 {
-    let key = wanted.by_id(&n.id);
-    match shared_in(cache, key) {
-        Some(shared) => {
-            cache.promote(&n.id);
-            put_shared(table, n, shared)
-        }
-        None => put_key(table, n, open_cached(hooks, cache, key)),
+    match key {
+        Some(key) => put_found(alloc, table, n, key, cache, hooks),
+        None => Err(refused(n, Keyless::Missing)),
     }
 }
 
-/// Puts the data key of a value, which a cache owns too, behind the others.
-fn put_shared(table: &mut KeyTable, n: &Need, key: SharedKey) -> Result<(), KeysStop>
-    ensures put { PutsKey n.now (Ok key) table.old table.new result }
+/// Puts the data key of a key document behind the others: the one that the cache keeps, shared, or else the one that
+/// the cache opens.
+fn put_found<B: Block256>(
+    alloc: Global,
+    table: &mut KeyTable,
+    n: &NeedAt<'_>,
+    key: &KeyDoc,
+    cache: &mut KeyCache,
+    hooks: &B,
+) -> Result<(), KeysStop>
+    requires hooks { B.answers hooks.now }
+    ensures master { cache.new.master ≡ cache.old.master }
+    ensures put { PutsKey (need_at_seen n.now) (found_key cache.old.master (Some key.now)) table.old table.new result }
 {
-    match table.add_shared(n.id, key) {
+    match shared_in(cache, key) {
+        Some(shared) => {
+            cache.promote(&key.id);
+            put_shared(alloc, table, n, key, shared)
+        }
+        None => match open_cached(hooks, cache, key) {
+            Ok(data_key) => put_key(alloc, table, n, key, data_key),
+            Err(keyless) => Err(refused(n, keyless)),
+        },
+    }
+}
+
+/// Puts the data key of a key document behind the others.
+fn put_key(
+    alloc: Global,
+    table: &mut KeyTable,
+    n: &NeedAt<'_>,
+    key: &KeyDoc,
+    data_key: DataKey,
+) -> Result<(), KeysStop>
+    ensures put { PutsKey (need_at_seen n.now) (Ok (record { id = key.now.id; key = data_key })) table.old table.new
+        result }
+{
+    match SharedKey::new(alloc, data_key) {
+        Ok(shared) => put_shared(alloc, table, n, key, shared),
+        Err(_) => Err(KeysStop::Memory),
+    }
+}
+
+/// Puts the data key of a key document, which others may own too, behind the others: under the id that names it, or
+/// under the alternate name.
+fn put_shared(
+    alloc: Global,
+    table: &mut KeyTable,
+    n: &NeedAt<'_>,
+    key: &KeyDoc,
+    shared: SharedKey,
+) -> Result<(), KeysStop>
+    ensures put { PutsKey (need_at_seen n.now) (Ok (record { id = key.now.id; key = shared })) table.old table.new
+        result }
+{
+    match n.need {
+        Need::Id(id) => put_by_id(table, id, shared),
+        Need::Name(name) => put_by_name(alloc, table, name, key.id, shared),
+    }
+}
+
+/// Puts a data key under its id behind the others.
+fn put_by_id(table: &mut KeyTable, id: [u8; 16], key: SharedKey) -> Result<(), KeysStop>
+    ensures put { OnOk result (table.new ≡ with_id table.old (record { id = id; key = key })) }
+    ensures short { IfErr result IsShort }
+{
+    match table.add_shared(id, key) {
         Ok(()) => Ok(()),
         Err(_) => Err(KeysStop::Memory),
     }
 }
 
-/// Puts the data key of a value behind the others.
-fn put_key(table: &mut KeyTable, n: &Need, key: Result<DataKey, Keyless>) -> Result<(), KeysStop>
-    ensures put { PutsKey n.now (reasoned key) table.old table.new result }
+/// Puts a data key under an alternate name behind the others, with its id.
+fn put_by_name(
+    alloc: Global,
+    table: &mut KeyTable,
+    name: &[u8],
+    id: [u8; 16],
+    key: SharedKey,
+) -> Result<(), KeysStop>
+    ensures put { OnOk result (table.new ≡ with_name table.old (record { name = name.now; id = id; key = key })) }
+    ensures short { IfErr result IsShort }
 {
-    match key {
-        Ok(key) => match table.add(n.id, key) {
+    match Vec::from_slice(alloc, name) {
+        Ok(copy) => match table.add_named_shared(Bytes::from_vec(copy), id, key) {
             Ok(()) => Ok(()),
             Err(_) => Err(KeysStop::Memory),
         },
-        Err(keyless) => Err(KeysStop::Refused {
-            reason: reason_of(keyless),
-            at: n.at,
-        }),
+        Err(_) => Err(KeysStop::Memory),
     }
 }
 
-/// The data key of a value.
-#[tactic(auto, unfolding(key_vault::specs::Lookup::key_of))]
-fn key_for<B: Block256>(
-    n: &Need,
-    wanted: &Wanted<'_>,
-    master: &MasterKey,
-    hooks: &B,
-) -> Result<DataKey, Keyless>
-    requires hooks { B.answers hooks.now }
-    ensures key { result ≡ key_of wanted.now.kept master.now n.now.id }
+/// The data key of a key, where a cache keeps it.
+fn shared_in(cache: &KeyCache, key: &KeyDoc) -> Option<SharedKey>
+    ensures kept { IfSome result (λ k. opened_key cache.now.master (Some key.now) ≡ Ok k) }
 {
-    open_key(hooks, master, wanted.by_id(&n.id))
-}
-
-/// The data key of a key that was looked up, where a cache keeps it.
-fn shared_in(cache: &KeyCache, key: Option<&KeyDoc>) -> Option<SharedKey>
-    ensures kept { IfSome result (λ k. opened_key cache.now.master (option_copied key.entry) ≡ Ok k) }
-{
-    let Some(key) = key else {
-        return None;
-    };
     match key.provider {
         Provider::Local => match cache.shared_key(key) {
             Ok(shared) => shared,
@@ -153,25 +227,32 @@ fn shared_in(cache: &KeyCache, key: Option<&KeyDoc>) -> Option<SharedKey>
     }
 }
 
-/// The data key of a key that was looked up, by a cache.
+/// The data key of a key, by a cache.
 fn open_cached<B: Block256>(
     hooks: &B,
     cache: &mut KeyCache,
-    key: Option<&KeyDoc>,
+    key: &KeyDoc,
 ) -> Result<DataKey, Keyless>
     requires hooks { B.answers hooks.now }
     ensures master { cache.new.master ≡ cache.old.master }
-    ensures opened { result ≡ opened_key cache.old.master (option_copied key.entry) }
+    ensures opened { result ≡ opened_key cache.old.master (Some key.now) }
 {
-    let Some(key) = key else {
-        return Err(Keyless::Missing);
-    };
     match key.provider {
         Provider::Local => match cache.data_key(hooks, key) {
-            Ok(key) => Ok(key),
+            Ok(data_key) => Ok(data_key),
             Err(_) => Err(Keyless::Damaged),
         },
         Provider::Other => Err(Keyless::NotLocal),
+    }
+}
+
+/// A value whose key isn't to be had.
+fn refused(n: &NeedAt<'_>, keyless: Keyless) -> KeysStop
+    ensures refused { result ≡ stops.Refused (keyless_reason keyless) n.now.at }
+{
+    KeysStop::Refused {
+        reason: reason_of(keyless),
+        at: n.at,
     }
 }
 

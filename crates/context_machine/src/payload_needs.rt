@@ -2,39 +2,41 @@
 
 ghost use Rattle.std.specs.Prelude.{◌≡◌, [], false, IfOk};
 ghost use Rattle.context_machine.specs.Decrypting.{need_found};
+ghost use Rattle.context_machine.specs.Needs.{need_at_seen};
 
-use crate::need::Need;
+use crate::need::NeedAt;
 use crate::needed::put_new;
 use crate::slots::Slots;
 use crate::wanted::Wanted;
 use doc_rewrite::{FoundAt, Listener};
 use fle_outside::Memory;
+use payload6::Need;
 use std::alloc::Global;
-use std::collections::BTreeMap;
 use std::marker::Model;
 
-/// The first payload that needs each key, of those told of so far, and whether memory ran short: nothing more is kept
+/// The first payload that needs each id, of those told of so far, and whether memory ran short: nothing more is kept
 /// then.
 #[derive(Drop)]
-pub(crate) struct PayloadNeeds {
-    needs: Vec<Need>,
-    slots: Slots,
+pub(crate) struct PayloadNeeds<'a> {
+    needs: Vec<NeedAt<'a>>,
+    slots: Slots<'a>,
     short: bool,
 }
 
-impl Model for PayloadNeeds {
+impl<'a> Model for PayloadNeeds<'a> {
     ghost use Rattle.std.specs.Prelude.{◌≡◌, [], false};
     ghost use Rattle.context_machine.specs.Decrypting.{Gathers};
+    ghost use Rattle.context_machine.specs.Needs.{needs_seen};
     ghost use Rattle.context_machine.specs.Slots.{AreManySlots};
 
     ghost Value = { Gathers };
 
-    ghost view = { λ s. record { needs = s.needs.items; short = s.short } };
+    ghost view = { λ s. record { needs = needs_seen s.needs.items; short = s.short } };
 
-    ghost invariant = { λ s. s.short ≡ false → AreManySlots s.needs.items [] s.slots };
+    ghost invariant = { λ s. s.short ≡ false → AreManySlots (needs_seen s.needs.items) [] s.slots };
 }
 
-impl Listener for PayloadNeeds {
+impl<'a> Listener for PayloadNeeds<'a> {
     ghost use Rattle.context_machine.specs.Decrypting.{GathersOne};
 
     ghost tells = { GathersOne };
@@ -50,22 +52,22 @@ impl Listener for PayloadNeeds {
     }
 }
 
-impl PayloadNeeds {
+impl<'a> PayloadNeeds<'a> {
     /// No payload was told of yet. It takes no memory.
-    pub(crate) fn new(alloc: Global) -> PayloadNeeds
+    pub(crate) fn new(alloc: Global) -> PayloadNeeds<'a>
         ensures none { result ≡ record { needs = []; short = false } }
     {
         PayloadNeeds {
             needs: Vec::new(alloc),
-            slots: BTreeMap::new(alloc),
+            slots: Slots::new(alloc),
             short: false,
         }
     }
 
     /// The keys that are needed, none of them kept yet. `Memory` where it ran short, or there is no room for the keys.
-    pub(crate) fn wanted<'a>(self, alloc: Global) -> Result<Wanted<'a>, Memory>
-        ensures all { IfOk result (λ w. self.short ≡ false) }
-        ensures wanted { IfOk result (λ w. w ≡ record { needs = self.needs; kept = [] }) }
+    pub(crate) fn wanted(self, alloc: Global) -> Result<Wanted<'a>, Memory>
+        ensures all { IfOk result (λ w. self.entry.short ≡ false) }
+        ensures wanted { IfOk result (λ w. w ≡ record { needs = self.entry.needs; kept = [] }) }
     {
         let PayloadNeeds {
             needs,
@@ -79,12 +81,12 @@ impl PayloadNeeds {
     }
 }
 
-/// What a payload needs: the key that it names.
-fn need_of(payload: &FoundAt) -> Need
-    ensures need { result ≡ need_found payload.now }
+/// What a payload needs: the key of its id.
+fn need_of<'a>(payload: &FoundAt) -> NeedAt<'a>
+    ensures need { need_at_seen result ≡ need_found payload.now }
 {
-    Need {
-        id: payload.key_id,
+    NeedAt {
+        need: Need::Id(payload.key_id),
         at: payload.start,
     }
 }

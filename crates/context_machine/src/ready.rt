@@ -2,7 +2,7 @@
 
 ghost use Rattle.std.specs.Prelude.{◌≡◌, length, IfErr, IfOk, OnErr};
 ghost use Rattle.context_machine.specs.Ready.{IsReady, finished, readied, sealed_size, values_of};
-ghost use Rattle.doc_rewrite.specs.Keys.{key_in};
+ghost use Rattle.doc_rewrite.specs.Keys.{GivesLongIds, key_in};
 ghost use Rattle.doc_rewrite.specs.Sealing.{FellShort, IsSealedWhole};
 ghost use Rattle.doc_rewrite.specs.Sites.{draws_of};
 
@@ -65,6 +65,7 @@ impl<'a> Ready<'a> {
         ensures sealed { IfOk result (λ d. IsSealedWhole (key_in self.entry.table)
             (values_of self.entry.info self.entry.command) self.entry.command
             (N.seen entropy.old) (N.seen entropy.new) d.bytes) }
+        ensures long { GivesLongIds (key_in self.entry.table) }
         ensures size { IfOk result (λ d. length d.bytes ≡ sealed_size self.entry.info self.entry.command) }
         ensures back { IfErr result (λ e. e.0 ≡ self.entry) }
         ensures failed { OnErr result (FellShort (N.seen entropy.old) (N.seen entropy.new)

@@ -7,7 +7,7 @@ use Rattle.encrypt_schema.specs.declared.schema.policy.Algorithm.TheVariants.{Ra
 use Rattle.fle_outside.specs.Blocks.{Block, IsBlock, DrawTakes, DrawCause, DrawAssured}
 use Rattle.fle_outside.specs.Seen.{EntropySeen}
 use Rattle.fle_outside.specs.declared.answers.Failed.{Failed}
-use Rattle.doc_rewrite.specs.declared.site.Site.{Site}
+use Rattle.doc_rewrite.specs.declared.label.Label.{Label}
 use Rattle.doc_rewrite.specs.Vectors.{IsDrawnVector, DrawFails}
 
 some_is : (a b : List Block) → Some a ≡ Some b → a ≡ b
@@ -24,11 +24,11 @@ kept : (before after : Option (List Block)) (fault : Failed) → DrawTakes befor
 kept None after fault t all is = absurd cc
 kept (Some blocks) after fault t all is = t ∙ is
 
-pub vector_drawn : (s : Site) (key : List ℕ) (t : Tree) (before after : EntropySeen) (block : Block)
-    → s.algorithm ≡ Random
+pub vector_drawn : (l : Label) (key : List ℕ) (t : Tree) (before after : EntropySeen) (block : Block)
+    → l.algorithm ≡ Random
     → DrawTakes before.told after.told (Ok block) → DrawCause before.faults after.faults (Ok block)
-    → DrawAssured before.assured after.assured (Ok block) → IsBlock block → IsDrawnVector s key t before after block
-vector_drawn s key t before after block random takes cause sure is = rw random (record {
+    → DrawAssured before.assured after.assured (Ok block) → IsBlock block → IsDrawnVector l key t before after block
+vector_drawn l key t before after block random takes cause sure is = rw random (record {
   drawn = block ∷ [];
   count = refl;
   draws = record {

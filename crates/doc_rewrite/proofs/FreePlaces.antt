@@ -11,7 +11,7 @@ use Rattle.encrypt_schema.specs.Commands.Visits.{entry, command_entry}
 use Rattle.encrypt_schema.specs.Language.Row.{Row}
 use Rattle.doc_rewrite.specs.Founds.{is_sealed, opens_here}
 use Rattle.doc_rewrite.specs.PayloadFree.{FreeBy, IsFreeIn, AreFree, IsPayloadFree, IsPayloadFreeByPlaces}
-use Rattle.doc_rewrite.specs.SealedTrees.{rule_of}
+use Rattle.doc_rewrite.specs.SealedTrees.{Use, rule_of}
 use Rattle.doc_rewrite.proofs.FromPlaces.{rule_along, along_onward, command_rule}
 use Rattle.doc_rewrite.proofs.ToPlaces.{command_none}
 
@@ -27,8 +27,8 @@ with_role (Compare j) i e = refl
 with_role _ i e = absurd cc
 
 module _ (rows : List Row) where
-  abbrev Any : ℕ → Tree → Tree → Type 0
-  Any i t u = Unit {0}
+  abbrev Any : Use → Tree → Tree → Type 0
+  Any usage t u = Unit {0}
 
   -- the rule at the end of a chain below a value of this station, and whether no ancestor there is protected
   abbrev along : Station → Option Chain → Option ℕ

@@ -15,7 +15,8 @@ use Rattle.encrypt_schema.specs.Commands.Visits.{entry}
 use Rattle.doc_rewrite.specs.Founds.{contents_of, is_sealed, opens_here, Place, founds_in, founds}
 use Rattle.doc_rewrite.specs.Founds.{opened_value, opened_items}
 use Rattle.doc_rewrite.specs.PayloadFree.{FreeBy, IsFreeIn, AreFree}
-use Rattle.doc_rewrite.specs.SealedTrees.{rule_of, SealedBy, SealedIn, AreSealed}
+use Rattle.doc_rewrite.specs.SealedTrees.{rule_of}
+use Rattle.doc_rewrite.proofs.Covered.{CoveredBy, CoveredIn, AreCovered}
 
 -- the document of a value has its layout
 node_laid : (D : Items → Type 0) (o : Option ValueLayout) (tag : ℕ) (is : Items) → HasLayout D o (node tag is) → D is
@@ -65,7 +66,7 @@ module _ (value : List ℕ → Tree) (Right : ℕ → List ℕ → Type 0) where
       (back : (levels i : ℕ) (t u : Tree) → levels ≤ 99 → S i t u → IsValue (IsItems levels) t
       → IsBack levels t u) where
     of_leaf : (levels at tag : ℕ) (bytes : List ℕ) (u : Tree) (o : Option ℕ) → levels ≤ 99
-        → SealedBy S o (leaf tag bytes) u (u ≡ leaf tag bytes) → FreeBy o (is_sealed tag bytes ≡ false)
+        → CoveredBy S o (leaf tag bytes) u (u ≡ leaf tag bytes) → FreeBy o (is_sealed tag bytes ≡ false)
         → IsValue (IsItems levels) (leaf tag bytes) → BackIn levels at (leaf tag bytes) u
     of_leaf levels at tag bytes u (Some i) low sealed free laid =
         of_sealed levels at (leaf tag bytes) u (back levels i (leaf tag bytes) u low sealed laid)
@@ -73,9 +74,9 @@ module _ (value : List ℕ → Tree) (Right : ℕ → List ℕ → Type 0) where
         subst (BackIn levels at (leaf tag bytes)) (sym sealed) (record { filled = rw free refl; right = rw free tt })
 
     of_node : (levels at tag : ℕ) (is : Items) (u : Tree) (s : Station) (o : Option ℕ) → levels ≤ 99
-        → SealedBy S o (node tag is) u ((js : Items) × (u ≡ node tag js) × AreSealed S rows s is js)
+        → CoveredBy S o (node tag is) u ((js : Items) × (u ≡ node tag js) × AreCovered S rows s is js)
         → FreeBy o (AreFree rows s is) → IsValue (IsItems levels) (node tag is)
-        → ((js : Items) → AreSealed S rows s is js → AreFree rows s is → Back (levels - 1) (at + 4) is js)
+        → ((js : Items) → AreCovered S rows s is js → AreFree rows s is → Back (levels - 1) (at + 4) is js)
         → BackIn levels at (node tag is) u
     of_node levels at tag is u s (Some i) low sealed free laid inside =
         of_sealed levels at (node tag is) u (back levels i (node tag is) u low sealed laid)
@@ -98,7 +99,7 @@ module _ (value : List ℕ → Tree) (Right : ℕ → List ℕ → Type 0) where
         }
 
     mutual
-      back_in : (levels : ℕ) (s : Station) (at : ℕ) (t u : Tree) → levels ≤ 99 → SealedIn S rows s t u
+      back_in : (levels : ℕ) (s : Station) (at : ℕ) (t u : Tree) → levels ≤ 99 → CoveredIn S rows s t u
           → IsFreeIn rows s t → IsValue (IsItems levels) t → BackIn levels at t u
       back_in levels s at (leaf tag bytes) u low sealed free laid =
           of_leaf levels at tag bytes u (rule_of s) low sealed free laid
@@ -107,7 +108,7 @@ module _ (value : List ℕ → Tree) (Right : ℕ → List ℕ → Type 0) where
           (λ js p q. at_levels levels (at + 4) is js low (node_laid (IsItems levels) (layout_of tag) tag is laid)
           (λ l h e. back_items l s (at + 4) is js h p q e))
 
-      pub back_items : (levels : ℕ) (s : Station) (at : ℕ) (is js : Items) → levels ≤ 99 → AreSealed S rows s is js
+      pub back_items : (levels : ℕ) (s : Station) (at : ℕ) (is js : Items) → levels ≤ 99 → AreCovered S rows s is js
           → AreFree rows s is → AreElements (IsItems levels) is → Back levels at is js
       back_items levels s at no_items js low sealed free laid =
           subst (Back levels at no_items) (sym sealed) (record { filled = refl; right = tt })

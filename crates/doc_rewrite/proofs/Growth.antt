@@ -11,12 +11,11 @@ use Rattle.bson_splice.specs.Takes.{Takes, Trades, Caps}
 use Rattle.bson_splice.specs.Whole.{HasRoomFor, StandsAt, replaced}
 use Rattle.bson_splice.proofs.Splices.{spliced_items}
 use Rattle.fle_outside.specs.Blocks.{Block, IsBlock, AreBlocks}
-use Rattle.doc_rewrite.specs.declared.site.Site.{Site}
-use Rattle.doc_rewrite.specs.Keys.{Lookup}
+use Rattle.doc_rewrite.specs.Keys.{GivesLongIds, Lookup}
 use Rattle.doc_rewrite.specs.Plans.{AreLong, IsSealedSize}
 use Rattle.doc_rewrite.specs.Sealed.{put_of, seals, sealed, first_block, other_blocks}
-use Rattle.doc_rewrite.specs.Sites.{sealed_width, spans_of, grown}
-use Rattle.doc_rewrite.proofs.Sizes.{sealed_size, first_long, other_are}
+use Rattle.doc_rewrite.specs.Sites.{Site, sealed_width, spans_of, grown}
+use Rattle.doc_rewrite.proofs.Sizes.{key_long, sealed_size, first_long, other_are}
 
 -- how many bytes are taken off
 abbrev pub removed : List Site → ℕ
@@ -74,29 +73,30 @@ trades_one s ss p ps from to long others = (
   others,
 )
 
-trades : (keys : Lookup) (ss : List Site) (blocks : List Block) → AreLong ss → AreBlocks blocks
+trades : (keys : Lookup) (ss : List Site) (blocks : List Block) → GivesLongIds keys → AreLong ss → AreBlocks blocks
     → Trades (seals keys ss blocks) (removed ss) (removed ss + grown ss)
-trades keys [] blocks ids are = (refl, refl)
-trades keys (s ∷ ss) blocks ids are =
+trades keys [] blocks gives ids are = (refl, refl)
+trades keys (s ∷ ss) blocks gives ids are =
     trades_one s ss (put_of keys s (first_block s.algorithm blocks))
     (seals keys ss (other_blocks s.algorithm blocks)) refl refl
-    (λ t. sealed_size keys s (first_block s.algorithm blocks) t ids.0 (first_long s.algorithm blocks are))
-    (trades keys ss (other_blocks s.algorithm blocks) ids.1 (other_are s.algorithm blocks are))
+    (λ t. sealed_size keys s (first_block s.algorithm blocks) t (key_long keys s gives ids.0)
+    (first_long s.algorithm blocks are))
+    (trades keys ss (other_blocks s.algorithm blocks) gives ids.1 (other_are s.algorithm blocks are))
 
-fit : (keys : Lookup) (ss : List Site) (blocks : List Block) → AreLong ss → AreBlocks blocks
+fit : (keys : Lookup) (ss : List Site) (blocks : List Block) → GivesLongIds keys → AreLong ss → AreBlocks blocks
     → AreFits (spans_of ss) (seals keys ss blocks)
-fit keys [] blocks ids are = tt
-fit keys (s ∷ ss) blocks ids are = (
+fit keys [] blocks gives ids are = tt
+fit keys (s ∷ ss) blocks gives ids are = (
   record {
     start = refl;
     end = refl;
     size = λ t. omega (
       arith,
-      sealed_size keys s (first_block s.algorithm blocks) t ids.0
+      sealed_size keys s (first_block s.algorithm blocks) t (key_long keys s gives ids.0)
           (first_long s.algorithm blocks are),
     );
   },
-  fit keys ss (other_blocks s.algorithm blocks) ids.1 (other_are s.algorithm blocks are),
+  fit keys ss (other_blocks s.algorithm blocks) gives ids.1 (other_are s.algorithm blocks are),
 )
 
 -- the document with what takes the places of these sites
@@ -127,12 +127,13 @@ module _ (ss : List Site) (d : At) (stands : StandsAt (spans_of ss) d) where
 
   pub sealed_long : (n : ℕ) → n ≡ length (doc_bytes d.tree) + grown ss → AreLong ss → IsSealedSize ss d n
   unfolding sealed
-  sealed_long n long ids keys blocks are =
-      whole_size ss d (seals keys ss blocks) (stands (seals keys ss blocks) (fit keys ss blocks ids are))
-      (trades keys ss blocks ids are) ∙ sym long
+  sealed_long n long ids keys blocks gives are =
+      whole_size ss d (seals keys ss blocks) (stands (seals keys ss blocks) (fit keys ss blocks gives ids are))
+      (trades keys ss blocks gives ids are) ∙ sym long
 
   -- how long it is under some keys, is how long it is under any
   pub size_is : (n : ℕ) → AreLong ss → IsSealedSize ss d n → n ≡ length (doc_bytes d.tree) + grown ss
   size_is n ids are =
-      sym (are (λ id. None) [] (All-nil IsBlock))
-      ∙ sealed_long (length (doc_bytes d.tree) + grown ss) refl ids (λ id. None) [] (All-nil IsBlock)
+      sym (are (λ need. None) [] (λ need f long e. absurd cc) (All-nil IsBlock))
+      ∙ sealed_long (length (doc_bytes d.tree) + grown ss) refl ids (λ need. None) [] (λ need f long e. absurd cc)
+      (All-nil IsBlock)

@@ -6,7 +6,7 @@ use Rattle.std.proofs.lemmas.Bool.{eqb-true}
 use Rattle.encrypt_schema.specs.declared.command.marks.Mark.{Mark}
 use Rattle.encrypt_schema.specs.Language.Row.{Row}
 use Rattle.doc_rewrite.specs.Keys.{Lookup}
-use Rattle.doc_rewrite.specs.Plans.{AreRuled, AreMarksOf}
+use Rattle.doc_rewrite.specs.Plans.{AreNamed, AreRuled, AreMarksOf}
 use Rattle.doc_rewrite.specs.Sealing.{HasKeys}
 use Rattle.bson_tree.specs.Tree.{Tree, leaf, node, Items, no_items, item, tag_of}
 use Rattle.bson_tree.specs.Spelling.{value_bytes}
@@ -17,8 +17,7 @@ use Rattle.bson_splice.specs.Splices.{Put}
 use Rattle.bson_splice.specs.Takes.{TakesIn, own, raw, inside, Takes, done, next}
 use Rattle.bson_splice.specs.Whole.{StandsAt}
 use Rattle.bson_splice.proofs.Refits.{refit}
-use Rattle.doc_rewrite.specs.declared.site.Site.{Site}
-use Rattle.doc_rewrite.specs.Sites.{sites_of, spans_of}
+use Rattle.doc_rewrite.specs.Sites.{Site, sites_of, spans_of}
 use Rattle.doc_rewrite.specs.Standing.{empty_of, empties, ElementTakes, DocumentTakes}
 
 -- none is taken
@@ -114,20 +113,21 @@ ruled_end n i all past before = before (subst (λ (ms : List Mark). AreRuled n m
 
 -- as many sites stand as there are
 pub all_told : (rows : List Row) (ms : List Mark) (d : At) (ss xs : List Site) (n m : ℕ) → xs ≡ ss
-    → ss ≡ sites_of rows ms → AreRuled (length rows) ms
+    → ss ≡ sites_of rows d ms → AreRuled (length rows) ms → AreNamed rows d ms
     → DocumentTakes d xs (drop n xs) → m ≡ length xs → nat_eq n m ≡ true → AreMarksOf rows ms d
-all_told rows ms d ss xs n m same is ruled taken long all =
+all_told rows ms d ss xs n m same is ruled named taken long all =
     let here : n ≡ m = eqb-true n m all in
     let none : drop n xs ≡ [] = none_behind n xs (omega (arith, here, long)) in
     let whole : DocumentTakes d xs [] = subst (λ (left : List Site). DocumentTakes d xs left) none taken in
     record {
       places = subst (λ (rs : List Site). StandsAt (spans_of rs) d) (same ∙ is) (all_stand d xs whole);
       ruled = ruled;
+      named = named;
     }
 
 -- keys of the first site and of the others
 pub keys_more : (keys : Lookup) (all ss left : List Site) (s : Site) → (HasKeys keys ss → HasKeys keys all)
     → ss ≡ s ∷ left
-    → is_some (keys s.key_id) ≡ true → HasKeys keys left → HasKeys keys all
+    → is_some (keys s.need) ≡ true → HasKeys keys left → HasKeys keys all
 keys_more keys all ss left s before first here others =
     before (subst (λ (rs : List Site). HasKeys keys rs) (sym first) (here, others))

@@ -12,7 +12,8 @@ use Rattle.encrypt_schema.specs.Language.Row.{Row}
 use Rattle.encrypt_schema.specs.Commands.Stations.{Station, station}
 use Rattle.encrypt_schema.specs.Commands.Visits.{entry}
 use Rattle.payload6.specs.Marking.{binary}
-use Rattle.doc_rewrite.specs.SealedTrees.{rule_of, SealedBy, SealedIn, AreSealed}
+use Rattle.doc_rewrite.specs.SealedTrees.{rule_of}
+use Rattle.doc_rewrite.proofs.Covered.{CoveredBy, CoveredIn, AreCovered}
 
 row_five : layout_of 5 ≡ Some (values.Raw raws.Binary)
 unfolding layout_of
@@ -34,15 +35,15 @@ module _ (S : ℕ → Tree → Tree → Type 0) (rows : List Row)
     (laid_S : (D : Items → Type 0) (i : ℕ) (t u : Tree) → S i t u → length (value_bytes u) < 2 ^ 31
     → IsValue D u) where
   laid_leaf : (D : Items → Type 0) (tag : ℕ) (bytes : List ℕ) (u : Tree) (o : Option ℕ)
-      → SealedBy S o (leaf tag bytes) u (u ≡ leaf tag bytes) → IsValue D (leaf tag bytes)
+      → CoveredBy S o (leaf tag bytes) u (u ≡ leaf tag bytes) → IsValue D (leaf tag bytes)
       → length (value_bytes u) < 2 ^ 31 → IsValue D u
   laid_leaf D tag bytes u (Some i) sealed laid h = laid_S D i (leaf tag bytes) u sealed h
   laid_leaf D tag bytes u None sealed laid h = subst (IsValue D) (sym sealed) laid
 
   laid_node : (D : Items → Type 0) (tag : ℕ) (is : Items) (u : Tree) (s : Station) (o : Option ℕ)
-      → SealedBy S o (node tag is) u ((js : Items) × (u ≡ node tag js) × AreSealed S rows s is js)
+      → CoveredBy S o (node tag is) u ((js : Items) × (u ≡ node tag js) × AreCovered S rows s is js)
       → IsValue D (node tag is) → length (value_bytes u) < 2 ^ 31
-      → ((js : Items) → AreSealed S rows s is js → length (items_bytes js) < 2 ^ 31 → D is → D js) → IsValue D u
+      → ((js : Items) → AreCovered S rows s is js → length (items_bytes js) < 2 ^ 31 → D is → D js) → IsValue D u
   laid_node D tag is u s (Some i) sealed laid h f = laid_S D i (node tag is) u sealed h
   laid_node D tag is u s None sealed laid h f =
       let js = sealed.0 in
@@ -58,7 +59,7 @@ module _ (S : ℕ → Tree → Tree → Type 0) (rows : List Row)
   at_levels (suc l) is js laid f = f l laid
 
   mutual
-    laid_in : (levels : ℕ) (s : Station) (t u : Tree) → SealedIn S rows s t u → IsValue (IsItems levels) t
+    laid_in : (levels : ℕ) (s : Station) (t u : Tree) → CoveredIn S rows s t u → IsValue (IsItems levels) t
         → length (value_bytes u) < 2 ^ 31 → IsValue (IsItems levels) u
     laid_in levels s (leaf tag bytes) u sealed laid h =
         laid_leaf (IsItems levels) tag bytes u (rule_of s) sealed laid h
@@ -66,7 +67,7 @@ module _ (S : ℕ → Tree → Tree → Type 0) (rows : List Row)
         laid_node (IsItems levels) tag is u s (rule_of s) sealed laid h
         (λ js p short d. at_levels levels is js d (λ l e. laid_items l s is js p e short))
 
-    pub laid_items : (levels : ℕ) (s : Station) (is js : Items) → AreSealed S rows s is js
+    pub laid_items : (levels : ℕ) (s : Station) (is js : Items) → AreCovered S rows s is js
         → AreElements (IsItems levels) is → length (items_bytes js) < 2 ^ 31 → AreElements (IsItems levels) js
     laid_items levels s no_items js sealed laid h = subst (AreElements (IsItems levels)) (sym sealed) tt
     laid_items levels s (item name t is) js sealed laid h =

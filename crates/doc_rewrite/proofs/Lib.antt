@@ -1,4 +1,5 @@
 pub mod Numbered
+pub mod Entries
 pub mod Sizes
 pub mod Spellings
 pub mod Drawings
@@ -8,6 +9,9 @@ pub mod Policies
 pub mod Stands
 pub mod Judged
 pub mod FromPlaces
+pub mod Covered
+pub mod Texts
+pub mod Names
 pub mod ToPlaces
 pub mod ByStations
 pub mod Codes

@@ -1,5 +1,5 @@
 -- What takes the place of a value is a payload of it.
-use Rattle.std.proofs.Common.{◌≡◌, ℕ, ◌<◌, List, ◌++◌, length, Some, refl, rules}
+use Rattle.std.proofs.Common.{◌≡◌, ℕ, ◌<◌, List, [], ◌++◌, length, Option, Some, None, unwrap_or, refl, rules}
 use Rattle.std.specs.List.{All}
 use Rattle.std.proofs.lemmas.List.Elements.{All-take}
 use Rattle.aes_block.specs.Block as aes
@@ -7,16 +7,17 @@ use Rattle.bson_tree.specs.Tree.{Tree, tag_of}
 use Rattle.bson_tree.specs.Spelling.{value_bytes}
 use Rattle.encrypt_schema.specs.declared.schema.policy.Algorithm.{Algorithm}
 use Rattle.encrypt_schema.specs.declared.schema.policy.Algorithm.TheVariants.{Deterministic, Random}
-use Rattle.encrypt_schema.specs.declared.schema.policy.Policy.{Policy}
 use Rattle.fle_aead.specs.Sealed.{body, tag, derived_iv}
 use Rattle.fle_outside.specs.Blocks.{Block, IsBlock}
-use Rattle.payload6.specs.Marking.{key_id}
+use Rattle.payload6.specs.Needs.{Need, Name}
 use Rattle.payload6.specs.Payload.{algorithm_number, head, IsPayload, IsSealedPayload, IsVector}
 use Rattle.payload6.proofs.PayloadForm.{payload_of}
-use Rattle.doc_rewrite.specs.Keys.{Lookup}
+use Rattle.doc_rewrite.specs.Keys.{Found, Lookup}
 use Rattle.doc_rewrite.specs.Payloads.{vector, payload}
 use Rattle.doc_rewrite.specs.Sealed.{any_block, sealed_value}
-use Rattle.doc_rewrite.specs.SealedTrees.{IsSealedValue}
+use Rattle.doc_rewrite.specs.SealedCommand.{HasNamed}
+use Rattle.doc_rewrite.specs.SealedTrees.{IsSealedBy, IsSealedValue}
+use Rattle.doc_rewrite.specs.Sites.{Site}
 use Rattle.doc_rewrite.proofs.Codes.{code_bytes}
 use Rattle.doc_rewrite.proofs.Sizes.{derived_size}
 
@@ -54,20 +55,28 @@ payload_made algorithm id key type p block long b bytes =
     } in
     payload_of algorithm kind id key type iv p (a ++ (s ++ tag key a s)) form refl (vector_is algorithm key a p block)
 
-pub value_made : (keys : Lookup) (policy : Policy) (start end : ℕ) (t : Tree) (block : Block) (key : List ℕ)
-    → length (key_id policy.key) ≡ 16
-    → keys (key_id policy.key) ≡ Some key → IsBlock block → All (λ x. x < 256) (value_bytes t)
-    → IsSealedValue keys policy t (sealed_value keys (record {
-      start = start;
-      end = end;
-      algorithm = policy.algorithm;
-      key_id = key_id policy.key;
-    }) block t)
+value_made : (keys : Lookup) (site : Site) (t : Tree) (block : Block) (f : Found) → length f.id ≡ 16
+    → keys site.need ≡ Some f → IsBlock block → All (λ x. x < 256) (value_bytes t)
+    → IsSealedValue keys site.algorithm site.need t (sealed_value keys site block t)
 unfolding sealed_value
-value_made keys policy start end t block key long there b bytes = record {
-  key = key;
+value_made keys site t block f long there b bytes = record {
+  key = f;
   found = there;
-  bytes = payload policy.algorithm (key_id policy.key) key (tag_of t) (value_bytes t) block;
-  payload = payload_made policy.algorithm (key_id policy.key) key (tag_of t) (value_bytes t) block long b bytes;
+  bytes = payload site.algorithm f.id f.key (tag_of t) (value_bytes t) block;
+  payload = payload_made site.algorithm f.id f.key (tag_of t) (value_bytes t) block long b bytes;
   whole = rw there refl;
 }
+
+-- what takes the place of a value whose key is named, and is there
+pub need_made : (keys : Lookup) (algorithm : Algorithm) (need : Option Need) (start end : ℕ) (t : Tree) (block : Block)
+    → HasNamed keys need → IsBlock block → All (λ x. x < 256) (value_bytes t)
+    → IsSealedBy keys algorithm need t (sealed_value keys (record {
+      start = start;
+      end = end;
+      algorithm = algorithm;
+      need = unwrap_or need (Name []);
+    }) block t)
+need_made keys algorithm None start end t block h b bytes = absurd h
+need_made keys algorithm (Some need) start end t block h b bytes =
+    value_made keys (record { start = start; end = end; algorithm = algorithm; need = need }) t block h.0 h.2 h.1 b
+    bytes

@@ -9,10 +9,10 @@ use Rattle.std.specs.Ordering.{nat_cmp}
 use Rattle.std.specs.Prelude.{is_some}
 use Rattle.std.specs.Prelude.{option_map, slice_get}
 use Rattle.doc_rewrite.specs.declared.key_table.KeyEntry.{KeyEntry}
-use Rattle.doc_rewrite.specs.Keys.{key_in}
+use Rattle.doc_rewrite.specs.Keys.{key_by_id}
 use Rattle.doc_rewrite.specs.Numbers.{number_of_id, or_new, place_from}
 
-or_new_if : (test : Bool) (n : ℕ) (o : Option ℕ) (new : Bool) (m k : ℕ) → m ≡ k
+pub or_new_if : (test : Bool) (n : ℕ) (o : Option ℕ) (new : Bool) (m k : ℕ) → m ≡ k
     → cond test (Some n) (or_new o new m) ≡ or_new (cond test (Some n) o) new k
 or_new_if true n o new m k e = refl
 or_new_if false n o new m k e = ap (or_new o new) e
@@ -28,11 +28,11 @@ place_behind n id (d ∷ es) e =
     ∙ or_new_if (bytes_eq d.id id) n (place_from (n + 1) id es) (bytes_eq e.id id) (n + 1 + length es)
     (n + length (d ∷ es)) k
 
-none_there : (o : Option ℕ) → is_some o ≡ false → o ≡ None
+pub none_there : (o : Option ℕ) → is_some o ≡ false → o ≡ None
 none_there None e = refl
 none_there (Some n) e = absurd cc
 
-new_by : (test : Bool) (o : Option ℕ) (number : ℕ) → (test ≡ true → o ≡ None)
+pub new_by : (test : Bool) (o : Option ℕ) (number : ℕ) → (test ≡ true → o ≡ None)
     → cond test (Some number) o ≡ or_new o test number
 new_by true o number none = sym (ap (λ (p : Option ℕ). or_new p true number) (none refl))
 new_by false None number none = refl
@@ -78,26 +78,27 @@ found_by true all e n first number here others = ap (λ o. option_map (λ d. d.k
 found_by false all e n first number here others = others
 
 found_behind : (id : List ℕ) (front es : List KeyEntry)
-    → Found (front ++ es) (key_in es id) (place_from (length front) id es)
+    → Found (front ++ es) (key_by_id es id) (place_from (length front) id es)
 found_behind id front [] = refl
 found_behind id front (e ∷ es) =
     let all : (front ++ e ∷ []) ++ es ≡ front ++ e ∷ es = append_assoc front (e ∷ []) es in
     let next : length (front ++ e ∷ []) ≡ length front + 1 = omega (arith, length-append front (e ∷ [])) in
-    let others : Found (front ++ e ∷ es) (key_in es id) (place_from (length front + 1) id es)
-    = subst (λ (ds : List KeyEntry). Found ds (key_in es id) (place_from (length front + 1) id es)) all
-    (subst (λ (n : ℕ). Found ((front ++ e ∷ []) ++ es) (key_in es id) (place_from n id es)) next
+    let others : Found (front ++ e ∷ es) (key_by_id es id) (place_from (length front + 1) id es)
+    = subst (λ (ds : List KeyEntry). Found ds (key_by_id es id) (place_from (length front + 1) id es)) all
+    (subst (λ (n : ℕ). Found ((front ++ e ∷ []) ++ es) (key_by_id es id) (place_from n id es)) next
     (found_behind id (front ++ e ∷ []) es)) in
-    found_by (bytes_eq e.id id) (front ++ e ∷ es) e (length front) (key_in es id) (place_from (length front + 1) id es)
+    found_by (bytes_eq e.id id) (front ++ e ∷ es) e (length front) (key_by_id es id)
+    (place_from (length front + 1) id es)
     (seam front e es (length front) refl) others
 
 -- the key of the number that an id has
 pub found_at : (id : List ℕ) (es : List KeyEntry) (n : ℕ) → place_from 0 id es ≡ Some n
-    → option_map (λ e. e.key) (slice_get es n) ≡ key_in es id
-found_at id es n k = subst (Found es (key_in es id)) k (found_behind id [] es)
+    → option_map (λ e. e.key) (slice_get es n) ≡ key_by_id es id
+found_at id es n k = subst (Found es (key_by_id es id)) k (found_behind id [] es)
 
 -- no entry has an id without a number
-pub found_none : (id : List ℕ) (es : List KeyEntry) → place_from 0 id es ≡ None → None ≡ key_in es id
-found_none id es k = sym (subst (Found es (key_in es id)) k (found_behind id [] es))
+pub found_none : (id : List ℕ) (es : List KeyEntry) → place_from 0 id es ≡ None → None ≡ key_by_id es id
+found_none id es k = sym (subst (Found es (key_by_id es id)) k (found_behind id [] es))
 
 behind_if : (test : Bool) (key : List ℕ) (first all others : Option (List ℕ)) → cond test (Some key) first ≡ None
     → (first ≡ None → all ≡ others) → cond test (Some key) all ≡ others
@@ -110,14 +111,16 @@ before_if true own first all key k h = k
 before_if false own first all key k h = h k
 
 -- a look-up in two lists: in the second, where the first has nothing
-pub key_behind : (id : List ℕ) (es fs : List KeyEntry) → key_in es id ≡ None → key_in (es ++ fs) id ≡ key_in fs id
+pub key_behind : (id : List ℕ) (es fs : List KeyEntry) → key_by_id es id ≡ None
+    → key_by_id (es ++ fs) id ≡ key_by_id fs id
 key_behind id [] fs k = refl
 key_behind id (e ∷ es) fs k =
-    behind_if (bytes_eq e.id id) e.key (key_in es id) (key_in (es ++ fs) id) (key_in fs id) k (key_behind id es fs)
+    behind_if (bytes_eq e.id id) e.key (key_by_id es id) (key_by_id (es ++ fs) id) (key_by_id fs id) k
+    (key_behind id es fs)
 
 -- and in the first
-pub key_before : (id : List ℕ) (es fs : List KeyEntry) (key : List ℕ) → key_in es id ≡ Some key
-    → key_in (es ++ fs) id ≡ Some key
+pub key_before : (id : List ℕ) (es fs : List KeyEntry) (key : List ℕ) → key_by_id es id ≡ Some key
+    → key_by_id (es ++ fs) id ≡ Some key
 key_before id [] fs key k = absurd cc
 key_before id (e ∷ es) fs key k =
-    before_if (bytes_eq e.id id) e.key (key_in es id) (key_in (es ++ fs) id) key k (key_before id es fs key)
+    before_if (bytes_eq e.id id) e.key (key_by_id es id) (key_by_id (es ++ fs) id) key k (key_before id es fs key)

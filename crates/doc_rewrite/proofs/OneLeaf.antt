@@ -18,7 +18,7 @@ use Rattle.payload6.specs.Verdicts.{id_in, type_in, plain_in, value_in}
 use Rattle.payload6.proofs.Verdicts.{id_is, type_is}
 use Rattle.doc_rewrite.specs.declared.unsealing.Spot.{Spot}
 use Rattle.doc_rewrite.specs.Founds.{Place, contents_of, founds_in, is_sealed, opened_value, opens_here, place_of}
-use Rattle.doc_rewrite.specs.Keys.{Lookup}
+use Rattle.doc_rewrite.specs.Keys.{IdLookup}
 use Rattle.doc_rewrite.specs.Opened.{first_wrong, found_or_missing, keyless, is_payload_length, misshapen, reason_in}
 use Rattle.doc_rewrite.specs.Opened.{ring_of, spoilt, value_of}
 use Rattle.doc_rewrite.specs.Opening.{OpensAs, ValueOpens, element_bytes, element_opened}
@@ -66,7 +66,7 @@ type_of_value : (key b : List ℕ) → tag_of (value_in key b) ≡ type_in b
 unfolding value_in
 type_of_value key b = type_of_tree (type_in b) (unwrap_or (plain_in key b) [])
 
-module _ (keys : Lookup) (levels : ℕ) (e : Elem) (tag : ℕ) (bytes : List ℕ) (raw : e.tree ≡ leaf tag bytes) where
+module _ (keys : IdLookup) (levels : ℕ) (e : Elem) (tag : ℕ) (bytes : List ℕ) (raw : e.tree ≡ leaf tag bytes) where
   -- no payload
   pub leaf_passes : (at end : ℕ) (old new : List ℕ) → opens_here e.tree ≡ false
       → take end new ≡ take at old ++ element_bytes e

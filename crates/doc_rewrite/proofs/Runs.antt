@@ -14,12 +14,10 @@ use Rattle.fle_outside.proofs.Drawings.{draws_none, draws_then}
 use Rattle.fle_outside.specs.Blocks.{Block}
 use Rattle.fle_outside.specs.Drawing.{Draws}
 use Rattle.fle_outside.specs.Seen.{EntropySeen}
-use Rattle.doc_rewrite.specs.declared.key_table.KeyEntry.{KeyEntry}
-use Rattle.doc_rewrite.specs.declared.site.Site.{Site}
-use Rattle.doc_rewrite.specs.Keys.{Lookup, key_in}
+use Rattle.doc_rewrite.specs.Keys.{Lookup, Table, key_in}
 use Rattle.doc_rewrite.specs.Sealed.{put_of, seals, sealed, first_block, other_blocks}
 use Rattle.doc_rewrite.specs.Sealing.{SealsOne, SealsNone, FellShort, IsSealedWhole}
-use Rattle.doc_rewrite.specs.Sites.{draws_of, grown, spans_of}
+use Rattle.doc_rewrite.specs.Sites.{Site, draws_of, grown, spans_of}
 use Rattle.doc_rewrite.specs.Vectors.{DrawFails}
 use Rattle.doc_rewrite.proofs.Growth.{removed, trades_one, whole_size}
 use Rattle.doc_rewrite.proofs.Sizes.{first_same, others_are}
@@ -71,7 +69,7 @@ no_sites : (ss : List Site) → spans_of ss ≡ [] → ss ≡ []
 no_sites [] e = refl
 no_sites (s ∷ ss) e = absurd cc
 
-module _ {S A : Type 0} (keys : S → List KeyEntry) (left : S → List Site) (seen : S → EntropySeen) (name : S → A) where
+module _ {S A : Type 0} (keys : S → Table) (left : S → List Site) (seen : S → EntropySeen) (name : S → A) where
   -- one step: a value is sealed, with the same keys, and blocks are drawn from the same source; or none is
   abbrev One : S → S → Put → Type 0
   One a b p = SealsOne (key_in (keys a)) (left a) (left b) (seen a) (seen b) p × (keys b ≡ keys a) × (name b ≡ name a)
@@ -88,7 +86,7 @@ module _ {S A : Type 0} (keys : S → List KeyEntry) (left : S → List Site) (s
       let mid = runs.0 in
       let more = runs_seal mid b ps runs.2 in (
         some_more (key_in (keys a)) (left a) (left mid) (left b) (seen a) (seen mid) (seen b) p ps runs.1.0
-            (subst (λ (ks : List KeyEntry). SealsSome (key_in ks) (left mid) (left b) (seen mid) (seen b) ps) runs.1.1
+            (subst (λ (ks : Table). SealsSome (key_in ks) (left mid) (left b) (seen mid) (seen b) ps) runs.1.1
             more.0),
         more.1 ∙ runs.1.2,
       )

@@ -14,7 +14,8 @@ use Rattle.encrypt_schema.specs.Commands.Visits.{content_of, first_refusal}
 use Rattle.encrypt_schema.specs.Language.Row.{Row}
 use Rattle.encrypt_schema.proofs.Commands.Ruled.{IsRuled, station_ruled}
 use Rattle.payload6.specs.Opening.{is_single}
-use Rattle.doc_rewrite.specs.SealedTrees.{rule_of, SealedBy, SealedIn, AreSealed}
+use Rattle.doc_rewrite.specs.SealedTrees.{rule_of}
+use Rattle.doc_rewrite.proofs.Covered.{CoveredBy, CoveredIn, AreCovered}
 
 none_least : (rs : List Reason) → least rs ≡ None → rs ≡ []
 none_least [] e = refl
@@ -62,7 +63,7 @@ role_type (row ∷ rows) s ts elder e i ruled r h =
     (left_nil (of_role (row ∷ rows) (station (row ∷ rows) s e) e) _ (none_least (reasons_at (row ∷ rows) s elder e)
     (no_first (least (reasons_at (row ∷ rows) s elder e)) _ h)))
 
-first_none : (a b : Option Refusal) → or_else a b ≡ None → a ≡ None
+pub first_none : (a b : Option Refusal) → or_else a b ≡ None → a ≡ None
 first_none None b e = refl
 first_none (Some x) b e = absurd cc
 
@@ -70,7 +71,7 @@ pub later_none : (a b : Option Refusal) → or_else a b ≡ None → b ≡ None
 later_none None b e = e
 later_none (Some x) b e = absurd cc
 
-offence_none : (at : ℕ) (o : Option Reason) → refused_at at o ≡ None → o ≡ None
+pub offence_none : (at : ℕ) (o : Option Reason) → refused_at at o ≡ None → o ≡ None
 offence_none at None e = refl
 offence_none at (Some r) e = absurd cc
 
@@ -96,8 +97,8 @@ module _ (S : ℕ → Tree → Tree → Type 0) (rows : List Row) where
       (u : Tree) (o : Option ℕ)
       → IsRuled (length rows) s → rule_of (station rows s (entry name (leaf tag bytes))) ≡ o
       → content_offence rows ts s elder (entry name (leaf tag bytes)) ≡ None
-      → SealedBy S o (leaf tag bytes) u (u ≡ leaf tag bytes)
-      → SealedBy Sealable o (leaf tag bytes) u (u ≡ leaf tag bytes)
+      → CoveredBy S o (leaf tag bytes) u (u ≡ leaf tag bytes)
+      → CoveredBy Sealable o (leaf tag bytes) u (u ≡ leaf tag bytes)
   fine_leaf s ts elder name tag bytes u (Some i) ruled r off sealed =
       (sealed, role_type rows s ts elder (entry name (leaf tag bytes)) i ruled r off)
   fine_leaf s ts elder name tag bytes u None ruled r off sealed = sealed
@@ -106,9 +107,9 @@ module _ (S : ℕ → Tree → Tree → Type 0) (rows : List Row) where
       (o : Option ℕ)
       → IsRuled (length rows) s → rule_of (station rows s (entry name (node tag is))) ≡ o
       → content_offence rows ts s elder (entry name (node tag is)) ≡ None
-      → SealedBy S o (node tag is) u ((js : Items) × (u ≡ node tag js) × AreSealed S rows w is js)
-      → ((js : Items) → AreSealed S rows w is js → AreSealed Sealable rows w is js)
-      → SealedBy Sealable o (node tag is) u ((js : Items) × (u ≡ node tag js) × AreSealed Sealable rows w is js)
+      → CoveredBy S o (node tag is) u ((js : Items) × (u ≡ node tag js) × AreCovered S rows w is js)
+      → ((js : Items) → AreCovered S rows w is js → AreCovered Sealable rows w is js)
+      → CoveredBy Sealable o (node tag is) u ((js : Items) × (u ≡ node tag js) × AreCovered Sealable rows w is js)
   fine_node s w ts elder name tag is u (Some i) ruled r off sealed inside =
       (sealed, role_type rows s ts elder (entry name (node tag is)) i ruled r off)
   fine_node s w ts elder name tag is u None ruled r off sealed inside = (sealed.0, sealed.1, inside sealed.0 sealed.2)
@@ -118,8 +119,8 @@ module _ (S : ℕ → Tree → Tree → Type 0) (rows : List Row) where
         → IsRuled (length rows) s
         → content_offence rows ts s elder (entry name t) ≡ None
         → first_refusal (content_of rows) (visits_in rows (station rows s (entry name t)) ts at t) ≡ None
-        → SealedIn S rows (station rows s (entry name t)) t u
-        → SealedIn Sealable rows (station rows s (entry name t)) t u
+        → CoveredIn S rows (station rows s (entry name t)) t u
+        → CoveredIn Sealable rows (station rows s (entry name t)) t u
     fine_in s ts at elder name (leaf tag bytes) u ruled off none sealed =
         fine_leaf s ts elder name tag bytes u (rule_of (station rows s (entry name (leaf tag bytes)))) ruled refl off
         sealed
@@ -131,8 +132,8 @@ module _ (S : ℕ → Tree → Tree → Type 0) (rows : List Row) where
 
     pub fine_items : (s : Station) (ts : Targets) (at : ℕ) (elder : List (List ℕ)) (is js : Items)
         → IsRuled (length rows) s
-        → first_refusal (content_of rows) (visits rows s ts at elder is) ≡ None → AreSealed S rows s is js
-        → AreSealed Sealable rows s is js
+        → first_refusal (content_of rows) (visits rows s ts at elder is) ≡ None → AreCovered S rows s is js
+        → AreCovered Sealable rows s is js
     fine_items s ts at elder no_items js ruled none sealed = sealed
     fine_items s ts at elder (item name t is) js ruled none sealed =
         let p = at + (2 + length name) in

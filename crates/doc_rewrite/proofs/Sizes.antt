@@ -1,5 +1,5 @@
 -- How long payloads are.
-use Rattle.std.proofs.Common.{◌≡◌, ℕ, ◌+◌, ◌*◌, ◌/◌, List, length, arith, refl, length-append}
+use Rattle.std.proofs.Common.{◌≡◌, ℕ, ◌+◌, ◌*◌, ◌/◌, List, length, Option, Some, None, arith, refl, length-append}
 use Rattle.std.proofs.lemmas.List.{length-take-le}
 use Rattle.std.proofs.lemmas.List.Elements.{All-head, All-tail}
 use Rattle.std.specs.Prelude.{[], ◌∷◌, ◌++◌, unwrap_or}
@@ -14,11 +14,10 @@ use Rattle.fle_outside.specs.Blocks.{Block, IsBlock, AreBlocks}
 use Rattle.hmac_sha512.proofs.CodeLength.{length-hmac}
 use Rattle.payload6.specs.Payload.{algorithm_number, head}
 use Rattle.payload6.proofs.PayloadForm.{head-size}
-use Rattle.doc_rewrite.specs.declared.site.Site.{Site}
-use Rattle.doc_rewrite.specs.Keys.{Lookup}
+use Rattle.doc_rewrite.specs.Keys.{Found, GivesLongIds, IsLong, Lookup}
 use Rattle.doc_rewrite.specs.Payloads.{vector, payload}
-use Rattle.doc_rewrite.specs.Sealed.{sealed_value, first_block, other_blocks}
-use Rattle.doc_rewrite.specs.Sites.{draw, sealed_width}
+use Rattle.doc_rewrite.specs.Sealed.{any_key, key_at, sealed_value, first_block, other_blocks}
+use Rattle.doc_rewrite.specs.Sites.{Site, draw, sealed_width}
 
 pub derived_size : (key a p : List ℕ) → length (derived_iv key a p) ≡ 16
 unfolding derived_iv
@@ -46,14 +45,23 @@ payload_size algorithm id key type p block long h =
       length-tag key a s,
     )
 
+found_long : (o : Option Found) → ((f : Found) → o ≡ Some f → length f.id ≡ 16) → length (unwrap_or o any_key).id ≡ 16
+found_long None h = refl
+found_long (Some f) h = h f refl
+
+-- the id of a site's key
+pub key_long : (keys : Lookup) (s : Site) → GivesLongIds keys → IsLong s.need → length (key_at keys s).id ≡ 16
+key_long keys s gives long = found_long (keys s.need) (λ f e. gives s.need f long e)
+
 -- what takes the place of a value
-pub sealed_size : (keys : Lookup) (s : Site) (block : Block) (t : Tree) → length s.key_id ≡ 16 → length block ≡ 16
+pub sealed_size : (keys : Lookup) (s : Site) (block : Block) (t : Tree) → length (key_at keys s).id ≡ 16
+    → length block ≡ 16
     → length (value_bytes (sealed_value keys s block t)) ≡ sealed_width (length (value_bytes t))
 unfolding sealed_value
 sealed_size keys s block t id h =
     omega (
       arith,
-      payload_size s.algorithm s.key_id (unwrap_or (keys s.key_id) []) (tag_of t)
+      payload_size s.algorithm (key_at keys s).id (key_at keys s).key (tag_of t)
           (value_bytes t) block id h,
     )
 

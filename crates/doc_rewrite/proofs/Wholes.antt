@@ -14,7 +14,7 @@ use Rattle.doc_rewrite.specs.declared.unsealing.Spot.{Spot}
 use Rattle.doc_rewrite.specs.Finding.{HasKeysFor, IsFoundIn, found_at}
 use Rattle.doc_rewrite.specs.Founds.{Place, founds, founds_in, is_sealed, opened_value, opened_items, payloads_of}
 use Rattle.doc_rewrite.specs.Founds.{place_of}
-use Rattle.doc_rewrite.specs.Keys.{Lookup}
+use Rattle.doc_rewrite.specs.Keys.{IdLookup}
 use Rattle.doc_rewrite.specs.Opened.{Keyring, first_wrong, found_or_missing, keyless, misshapen, opened, opened_whole}
 use Rattle.doc_rewrite.specs.Opened.{reason_in, ring_of, spoilt, value_of}
 use Rattle.doc_rewrite.specs.Opening.{OpensAs, OpensWhole, document_opened, spared}
@@ -26,14 +26,14 @@ with_key (Some key) e = refl
 with_key None e = absurd cc
 
 -- where each id has its key, none is missing
-all_keyed : (keys : Lookup) (ps : List Place) → HasKeysFor keys (map found_at ps)
+all_keyed : (keys : IdLookup) (ps : List Place) → HasKeysFor keys (map found_at ps)
     → first_wrong (keyless (ring_of keys)) ps ≡ None
 all_keyed keys [] h = refl
 all_keyed keys (p ∷ ps) h =
     let here = with_key (keys (id_in p.contents)) h.0 in
     rw here (all_keyed keys ps h.1)
 
-pub found_keyed : (keys : Lookup) (d : At) (fs : List FoundAt) → IsFoundIn d fs → HasKeysFor keys fs
+pub found_keyed : (keys : IdLookup) (d : At) (fs : List FoundAt) → IsFoundIn d fs → HasKeysFor keys fs
     → first_wrong (keyless (ring_of keys)) (payloads_of d) ≡ None
 found_keyed keys d fs found h = all_keyed keys (payloads_of d) (subst (HasKeysFor keys) found.all h)
 

@@ -7,7 +7,7 @@ use Rattle.payload6.specs.Verdicts.{id_in}
 use Rattle.doc_rewrite.specs.declared.found.FoundAt.{FoundAt}
 use Rattle.doc_rewrite.specs.declared.finding.FindFault.{FindFault}
 use Rattle.doc_rewrite.specs.Founds.{Place, payloads_of}
-use Rattle.doc_rewrite.specs.Keys.{Lookup}
+use Rattle.doc_rewrite.specs.Keys.{IdLookup}
 use Rattle.doc_rewrite.specs.Opened.{first_wrong, misshapen}
 
 -- what is told of a payload's place
@@ -51,6 +51,6 @@ picked_of before (Some f) fs = Some f
 picked_of before None fs = slice_get fs before
 
 -- the key of each id is there
-abbrev pub HasKeysFor : Lookup → List FoundAt → Type 0
+abbrev pub HasKeysFor : IdLookup → List FoundAt → Type 0
 HasKeysFor keys [] = Unit {0}
 HasKeysFor keys (f ∷ fs) = (is_some (keys f.key_id) ≡ true) × HasKeysFor keys fs

@@ -6,9 +6,10 @@ use Rattle.bson_codec.specs.Borrowed.{At}
 use Rattle.encrypt_schema.specs.Commands.Visits.{Refusal, or_else, refused_at}
 use Rattle.encrypt_schema.specs.declared.command.reason.Reason.{Reason}
 use Rattle.encrypt_schema.specs.declared.command.reason.Reason.TheVariants as reasons
+use Rattle.payload6.specs.Needs.{Need}
 use Rattle.payload6.specs.Verdicts.{id_in, value_in, wrong}
 use Rattle.doc_rewrite.specs.Founds.{Place, payloads_of, opened_items}
-use Rattle.doc_rewrite.specs.Keys.{Lookup}
+use Rattle.doc_rewrite.specs.Keys.{Found, IdLookup, Lookup}
 
 -- which data key an id has, or why none
 abbrev pub Keyring : Type 0
@@ -29,13 +30,13 @@ abbrev pub found_or_missing : Option (List ℕ) → Result (List ℕ) Reason
 found_or_missing (Some key) = Ok key
 found_or_missing None = Err reasons.KeyMissing
 
--- a look-up as a keyring
-abbrev pub ring_of : Lookup → Keyring
+-- a look-up by ids as a keyring
+abbrev pub ring_of : IdLookup → Keyring
 ring_of keys id = found_or_missing (keys id)
 
 -- each key that may be looked up is had, under its id
 abbrev pub HasAll : Keyring → Lookup → Type 0
-HasAll ring keys = (id key : List ℕ) → keys id ≡ Some key → ring id ≡ Ok key
+HasAll ring keys = (need : Need) (f : Found) → keys need ≡ Some f → ring f.id ≡ Ok f.key
 
 -- the first payload for which there is a reason
 abbrev pub first_wrong : (Place → Option Reason) → List Place → Option Refusal

@@ -7,7 +7,7 @@ use Rattle.encrypt_schema.specs.declared.schema.policy.Algorithm.TheVariants.{De
 use Rattle.fle_aead.specs.Sealed.{body, tag, derived_iv}
 use Rattle.fle_outside.specs.Blocks.{Block}
 use Rattle.payload6.specs.Payload.{algorithm_number, head}
-use Rattle.doc_rewrite.specs.declared.site.Site.{Site}
+use Rattle.doc_rewrite.specs.declared.label.Label.{Label}
 
 -- the vector under which a plain text is sealed: the one that is derived of it, or the block that was drawn for it
 abbrev pub vector : Algorithm → List ℕ → List ℕ → List ℕ → Block → List ℕ
@@ -21,11 +21,11 @@ payload algorithm id key type plain block =
     let s = body key (vector algorithm key a plain block) plain in
     a ++ (s ++ tag key a s)
 
--- the vector and the payload of a value at a site, under its data key
-abbrev pub site_vector : Site → List ℕ → Tree → Block → List ℕ
-site_vector s key t block =
-    vector s.algorithm key (head (algorithm_number s.algorithm) s.key_id (tag_of t)) (value_bytes t) block
+-- the vector of a value whose payload has this label, under its data key
+abbrev pub vector_under : Label → List ℕ → Tree → Block → List ℕ
+vector_under l key t block =
+    vector l.algorithm key (head (algorithm_number l.algorithm) l.key_id (tag_of t)) (value_bytes t) block
 
--- the payload of a value at a site
-abbrev pub site_payload : Site → List ℕ → Tree → Block → List ℕ
-site_payload s key t block = payload s.algorithm s.key_id key (tag_of t) (value_bytes t) block
+-- the payload of a value, with this label
+abbrev pub payload_under : Label → List ℕ → Tree → Block → List ℕ
+payload_under l key t block = payload l.algorithm l.key_id key (tag_of t) (value_bytes t) block

@@ -8,13 +8,27 @@ use Rattle.encrypt_schema.specs.declared.schema.policy.Algorithm.{Algorithm}
 use Rattle.encrypt_schema.specs.declared.schema.policy.Algorithm.TheVariants.{Deterministic, Random}
 use Rattle.fle_outside.specs.Blocks.{Block}
 use Rattle.payload6.specs.Marking.{binary}
-use Rattle.doc_rewrite.specs.declared.site.Site.{Site}
-use Rattle.doc_rewrite.specs.Keys.{Lookup}
-use Rattle.doc_rewrite.specs.Payloads.{site_payload}
+use Rattle.doc_rewrite.specs.declared.label.Label.{Label}
+use Rattle.doc_rewrite.specs.Keys.{Found, Lookup}
+use Rattle.doc_rewrite.specs.Payloads.{payload_under}
+use Rattle.doc_rewrite.specs.Sites.{Site}
+
+-- any data key, where none is found
+abbrev pub any_key : Found
+any_key = record { id = replicate 16 0; key = [] }
+
+-- the data key of a site
+abbrev pub key_at : Lookup → Site → Found
+key_at keys s = unwrap_or (keys s.need) any_key
+
+-- what the payload of a value at a site states of itself: the id is that of the data key
+abbrev pub label_of : Site → Found → Label
+label_of s f = record { algorithm = s.algorithm; key_id = f.id }
 
 -- what takes the place of a value: a binary of subtype 06 with its payload
 unfoldable pub sealed_value : Lookup → Site → Block → Tree → Tree
-sealed_value keys s block t = binary 6 (site_payload s (unwrap_or (keys s.key_id) []) t block)
+sealed_value keys s block t =
+    binary 6 (payload_under (label_of s (key_at keys s)) (key_at keys s).key t block)
 
 -- the same at the place of its site
 abbrev pub put_of : Lookup → Site → Block → Put

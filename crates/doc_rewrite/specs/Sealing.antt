@@ -8,16 +8,15 @@ use Rattle.fle_outside.specs.Blocks.{Block}
 use Rattle.fle_outside.specs.Counts.{Rose}
 use Rattle.fle_outside.specs.Drawing.{Draws}
 use Rattle.fle_outside.specs.Seen.{EntropySeen}
-use Rattle.doc_rewrite.specs.declared.site.Site.{Site}
 use Rattle.doc_rewrite.specs.Keys.{Lookup}
 use Rattle.doc_rewrite.specs.Sealed.{first_block, put_of, sealed}
-use Rattle.doc_rewrite.specs.Sites.{draw, draws_of, sealed_width}
+use Rattle.doc_rewrite.specs.Sites.{Site, draw, draws_of, sealed_width}
 use Rattle.doc_rewrite.specs.Vectors.{DrawFails}
 
--- each site's key is there
+-- the key of each site is there
 abbrev pub HasKeys : Lookup → List Site → Type 0
 HasKeys keys [] = Unit {0}
-HasKeys keys (s ∷ ss) = (is_some (keys s.key_id) ≡ true) × HasKeys keys ss
+HasKeys keys (s ∷ ss) = (is_some (keys s.need) ≡ true) × HasKeys keys ss
 
 -- the bytes are the document, sealed at these sites with the blocks that were drawn, one for each random value
 pub record IsSealedWhole (keys : Lookup) (ss : List Site) (d : At) (before after : EntropySeen)

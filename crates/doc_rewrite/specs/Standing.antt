@@ -4,7 +4,7 @@ use Rattle.bson_codec.specs.Borrowed.{At, Elem}
 use Rattle.bson_splice.specs.Splices.{Put}
 use Rattle.bson_splice.specs.Takes.{Takes, TakesIn}
 use Rattle.bson_tree.specs.Tree.{leaf}
-use Rattle.doc_rewrite.specs.declared.site.Site.{Site}
+use Rattle.doc_rewrite.specs.Sites.{Site}
 
 -- empty values in their places
 abbrev pub empty_of : Site → Put

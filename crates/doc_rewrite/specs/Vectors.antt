@@ -7,17 +7,17 @@ use Rattle.fle_outside.specs.Counts.{Rose}
 use Rattle.fle_outside.specs.Drawing.{Draws}
 use Rattle.fle_outside.specs.Seen.{EntropySeen}
 use Rattle.fle_outside.specs.declared.answers.Failed.{Failed}
-use Rattle.doc_rewrite.specs.declared.site.Site.{Site}
-use Rattle.doc_rewrite.specs.Payloads.{site_vector}
+use Rattle.doc_rewrite.specs.declared.label.Label.{Label}
+use Rattle.doc_rewrite.specs.Payloads.{vector_under}
 use Rattle.doc_rewrite.specs.Sealed.{first_block}
 use Rattle.doc_rewrite.specs.Sites.{draw}
 
 -- the blocks that were drawn for a value, one or none, and its vector
-pub record IsDrawnVector (s : Site) (key : List ℕ) (t : Tree) (before after : EntropySeen) (iv : List ℕ) : Type 0 where
+pub record IsDrawnVector (l : Label) (key : List ℕ) (t : Tree) (before after : EntropySeen) (iv : List ℕ) : Type 0 where
   pub drawn : List Block
-  pub count : length drawn ≡ draw s.algorithm
+  pub count : length drawn ≡ draw l.algorithm
   pub draws : Draws before after drawn
-  pub is : iv ≡ site_vector s key t (first_block s.algorithm drawn)
+  pub is : iv ≡ vector_under l key t (first_block l.algorithm drawn)
 
 -- a value needs a block, and its draw failed
 pub record DrawFails (algorithm : Algorithm) (before after : EntropySeen) : Type 0 where
@@ -27,6 +27,6 @@ pub record DrawFails (algorithm : Algorithm) (before after : EntropySeen) : Type
   pub rose : Rose before.faults after.faults
 
 -- the vector of a value was made, or the draw for it failed
-abbrev pub TellsVector : Site → List ℕ → Tree → EntropySeen → EntropySeen → Result (List ℕ) Failed → Type 0
-TellsVector s key t before after (Ok iv) = IsDrawnVector s key t before after iv
-TellsVector s key t before after (Err _) = DrawFails s.algorithm before after
+abbrev pub TellsVector : Label → List ℕ → Tree → EntropySeen → EntropySeen → Result (List ℕ) Failed → Type 0
+TellsVector l key t before after (Ok iv) = IsDrawnVector l key t before after iv
+TellsVector l key t before after (Err _) = DrawFails l.algorithm before after

@@ -3,7 +3,7 @@
 
 ghost use Rattle.std.specs.Prelude.{◌≡◌, ◌++◌, ◌∷◌, ℕ, List, [], bytes_eq, option_copied, option_map, slice_get};
 ghost use Rattle.std.specs.Prelude.{MatchResult};
-ghost use Rattle.doc_rewrite.specs.Keys.{key_in};
+ghost use Rattle.doc_rewrite.specs.Keys.{key_by_id};
 ghost use Rattle.doc_rewrite.specs.Numbers.{number_of_id, or_new};
 
 use crate::key_table::KeyEntry;
@@ -66,7 +66,7 @@ impl IndexedKeys {
     /// The first key with this id; `None` exactly where there is none.
     #[tactic(auto, using(crate::proofs::Numbered::found_at, crate::proofs::Numbered::found_none))]
     pub(crate) fn find(&self, id: &[u8; 16]) -> Option<&DataKey>
-        ensures found { option_copied result ≡ key_in self.now id.now }
+        ensures found { option_copied result ≡ key_by_id self.now id.now }
     {
         match number_of(&self.numbers, id) {
             Some(number) => key_at(&self.entries, number),

@@ -10,19 +10,22 @@ ghost use Rattle.encrypt_schema.specs.declared.command.marks.Mark.{Mark};
 ghost use Rattle.encrypt_schema.specs.Commands.Visits.{content_verdict, roles};
 ghost use Rattle.encrypt_schema.specs.Language.Row.{Row};
 ghost use Rattle.fle_outside.specs.Blocks.{AreBlocks, Block};
-ghost use Rattle.doc_rewrite.specs.Keys.{Lookup};
+ghost use Rattle.doc_rewrite.specs.Keys.{GivesLongIds, Lookup};
 ghost use Rattle.doc_rewrite.specs.Opened.{HasAll, Keyring, opened};
 ghost use Rattle.doc_rewrite.specs.PayloadFree.{IsPayloadFree, IsPayloadFreeByPlaces};
-ghost use Rattle.doc_rewrite.specs.Plans.{AreLong, AreMarksOf};
+ghost use Rattle.doc_rewrite.specs.Plans.{AreById, AreLong, AreMarksOf};
 ghost use Rattle.doc_rewrite.specs.Sealed.{sealed};
-ghost use Rattle.doc_rewrite.specs.SealedCommand.{HasRuleKeys, IsSealedCommand};
+ghost use Rattle.doc_rewrite.specs.SealedCommand.{AreNeeded, HasRuleKeys, IsSealedCommand};
 ghost use Rattle.doc_rewrite.specs.SealedTrees.{IsSealedByStations};
 ghost use Rattle.doc_rewrite.specs.Sealing.{HasKeys};
 ghost use Rattle.doc_rewrite.specs.Sites.{sites_of};
 
-/// The marks of a command's protected values are what `plan_seal` asks of marks.
+/// The marks of a command's protected values are what `plan_seal` asks of marks: where no place of the command has an
+/// offence of the content pass, and under rules whose keys are ids of every command.
 pub fn roles_stand()
-    ensures stand { (rows : List Row) (d : At) → AreMarksOf rows (roles rows d.start d.tree) d }
+    ensures stand { (rows : List Row) (d : At) → content_verdict rows d.start d.tree ≡ None
+        → AreMarksOf rows (roles rows d.start d.tree) d }
+    ensures by_ids { (rows : List Row) (d : At) → AreById rows → AreMarksOf rows (roles rows d.start d.tree) d }
 {}
 
 /// A sealed command, read by its places, is one read by their stations, and the other way round.
@@ -44,15 +47,17 @@ pub fn free_reading()
 pub fn sealed_as_stated()
     ensures sealed { (keys : Lookup) (rows : List Row) (d : At) (blocks : List Block)
         → All (λ b. b < 256) (items_bytes d.tree) → AreBlocks blocks
-        → HasRuleKeys keys rows (roles rows d.start d.tree)
-        → IsSealedCommand keys rows d.tree (sealed keys (sites_of rows (roles rows d.start d.tree)) blocks d) }
+        → HasRuleKeys keys rows d (roles rows d.start d.tree)
+        → IsSealedCommand keys rows d.tree (sealed keys (sites_of rows d (roles rows d.start d.tree)) blocks d) }
 {}
 
-/// Sites with keys that are there, each under an id of 16 bytes, as those of a plan are: then the rules of their marks
-/// have their keys.
+/// Sites with keys that are there, under ids of 16 bytes, as those of a plan are: then the marks have the keys of their
+/// rules, where the key of each is named. That is so of marks that stand in a document.
 pub fn sites_have_rule_keys()
-    ensures keyed { (keys : Lookup) (rows : List Row) (marks : List Mark) → HasKeys keys (sites_of rows marks)
-        → AreLong (sites_of rows marks) → HasRuleKeys keys rows marks }
+    ensures keyed { (keys : Lookup) (rows : List Row) (d : At) (marks : List Mark) → AreNeeded rows d marks
+        → HasKeys keys (sites_of rows d marks) → AreLong (sites_of rows d marks) → GivesLongIds keys
+        → HasRuleKeys keys rows d marks }
+    ensures needed { (rows : List Row) (d : At) (marks : List Mark) → AreMarksOf rows marks d → AreNeeded rows d marks }
 {}
 
 /// A sealed command opens to the command, under any keys that have those that it was sealed under: where the command
@@ -71,9 +76,9 @@ pub fn opening_undoes_sealing()
     ensures sealed { (keys : Lookup) (ring : Keyring) (rows : List Row) (c : At) (blocks : List Block) → IsDoc c.tree
         → content_verdict rows c.start c.tree ≡ None → IsPayloadFree rows c.tree → HasAll ring keys
         → All (λ b. b < 256) (items_bytes c.tree) → AreBlocks blocks
-        → HasRuleKeys keys rows (roles rows c.start c.tree)
+        → HasRuleKeys keys rows c (roles rows c.start c.tree)
         → opened ring (record {
-          tree = sealed keys (sites_of rows (roles rows c.start c.tree)) blocks c;
+          tree = sealed keys (sites_of rows c (roles rows c.start c.tree)) blocks c;
           start = c.start;
         }) ≡ Ok c.tree }
 {}

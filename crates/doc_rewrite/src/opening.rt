@@ -5,7 +5,7 @@ ghost use Rattle.bson_tree.specs.Spelling.{doc_bytes, items_bytes, value_bytes};
 ghost use Rattle.bson_tree.specs.Tree.{leaf, tag_of};
 ghost use Rattle.doc_rewrite.specs.Finding.{HasKeysFor, IsFoundIn};
 ghost use Rattle.doc_rewrite.specs.Founds.{founds, founds_in};
-ghost use Rattle.doc_rewrite.specs.Keys.{key_in};
+ghost use Rattle.doc_rewrite.specs.Keys.{key_by_id};
 ghost use Rattle.doc_rewrite.specs.Opened.{first_wrong, keyless, misshapen, ring_of};
 ghost use Rattle.doc_rewrite.specs.Opening.{Fits, OpensAs, OpensWhole, document_opened, element_bytes};
 ghost use Rattle.doc_rewrite.specs.Opening.{element_opened, elements_opened, room_to_open};
@@ -33,12 +33,12 @@ fn open_leaf<B: Block256>(
     requires raw { item.now.tree ≡ leaf (tag_of item.now.tree) (value_bytes item.now.tree) }
     requires small { length out.old < 2 ^ 31 }
     requires shaped { first_wrong misshapen (founds_in levels item.now.start item.now.tree) ≡ None }
-    requires keyed { first_wrong (keyless (ring_of (key_in keys.now))) (founds_in levels item.now.start item.now.tree)
-        ≡ None }
+    requires keyed { first_wrong (keyless (ring_of (key_by_id keys.now.ids)))
+        (founds_in levels item.now.start item.now.tree) ≡ None }
     requires room { at + length (element_bytes item.now) ≤ length out.old }
     ensures size { length out.new ≡ length out.old }
-    ensures opened { OpensAs (ring_of (key_in keys.now)) (founds_in levels item.now.start item.now.tree)
-        (element_opened (ring_of (key_in keys.now)) item.now) out.old out.new at
+    ensures opened { OpensAs (ring_of (key_by_id keys.now.ids)) (founds_in levels item.now.start item.now.tree)
+        (element_opened (ring_of (key_by_id keys.now.ids)) item.now) out.old out.new at
         (length (element_bytes item.now)) result }
 {
     match leaf_of(item) {
@@ -75,13 +75,13 @@ fn open_item<B: Block256>(
     requires levels { levels ≤ 99 }
     requires small { length out.old < 2 ^ 31 }
     requires shaped { first_wrong misshapen (founds_in levels item.now.start item.now.tree) ≡ None }
-    requires keyed { first_wrong (keyless (ring_of (key_in keys.now))) (founds_in levels item.now.start item.now.tree)
-        ≡ None }
+    requires keyed { first_wrong (keyless (ring_of (key_by_id keys.now.ids)))
+        (founds_in levels item.now.start item.now.tree) ≡ None }
     requires room { Fits at (length (element_bytes item.now)) (founds_in levels item.now.start item.now.tree)
         (length out.old) }
     ensures size { length out.new ≡ length out.old }
-    ensures opened { OpensAs (ring_of (key_in keys.now)) (founds_in levels item.now.start item.now.tree)
-        (element_opened (ring_of (key_in keys.now)) item.now) out.old out.new at
+    ensures opened { OpensAs (ring_of (key_by_id keys.now.ids)) (founds_in levels item.now.start item.now.tree)
+        (element_opened (ring_of (key_by_id keys.now.ids)) item.now) out.old out.new at
         (length (element_bytes item.now)) result }
 {
     match item.child() {
@@ -107,13 +107,14 @@ fn open_document<B: Block256>(
     requires levels { levels ≤ 99 }
     requires small { length out.old < 2 ^ 31 }
     requires shaped { first_wrong misshapen (founds levels (document.now.start + 4) document.now.tree) ≡ None }
-    requires keyed { first_wrong (keyless (ring_of (key_in keys.now)))
+    requires keyed { first_wrong (keyless (ring_of (key_by_id keys.now.ids)))
         (founds levels (document.now.start + 4) document.now.tree) ≡ None }
     requires room { Fits at (length (doc_bytes document.now.tree))
         (founds levels (document.now.start + 4) document.now.tree) (length out.old) }
     ensures size { length out.new ≡ length out.old }
-    ensures opened { OpensAs (ring_of (key_in keys.now)) (founds levels (document.now.start + 4) document.now.tree)
-        (document_opened (ring_of (key_in keys.now)) document.now) out.old out.new at
+    ensures opened { OpensAs (ring_of (key_by_id keys.now.ids))
+        (founds levels (document.now.start + 4) document.now.tree)
+        (document_opened (ring_of (key_by_id keys.now.ids)) document.now) out.old out.new at
         (length (doc_bytes document.now.tree)) result }
 {
     match open_items(document, levels, keys, hooks, out, at + 4) {
@@ -136,14 +137,15 @@ fn open_items<B: Block256>(
     requires levels { levels ≤ 99 }
     requires small { length out.old < 2 ^ 31 }
     requires shaped { first_wrong misshapen (founds levels (document.now.start + 4) document.now.tree) ≡ None }
-    requires keyed { first_wrong (keyless (ring_of (key_in keys.now)))
+    requires keyed { first_wrong (keyless (ring_of (key_by_id keys.now.ids)))
         (founds levels (document.now.start + 4) document.now.tree) ≡ None }
     requires room { Fits at (length (items_bytes document.now.tree))
         (founds levels (document.now.start + 4) document.now.tree) (length out.old) }
     ensures size { length out.new ≡ length out.old }
-    ensures opened { OpensAs (ring_of (key_in keys.now)) (founds levels (document.now.start + 4) document.now.tree)
-        (elements_opened (ring_of (key_in keys.now)) (document.now.start + 4) document.now.tree) out.old out.new at
-        (length (items_bytes document.now.tree)) result }
+    ensures opened { OpensAs (ring_of (key_by_id keys.now.ids))
+        (founds levels (document.now.start + 4) document.now.tree)
+        (elements_opened (ring_of (key_by_id keys.now.ids)) (document.now.start + 4) document.now.tree)
+        out.old out.new at (length (items_bytes document.now.tree)) result }
 {
     let mut end = at;
     for item in document.items() {
@@ -170,10 +172,10 @@ pub fn open_through<B: Block256>(
 ) -> Result<usize, Spot>
     requires hooks { B.answers hooks.now }
     requires found { IsFoundIn document.now found.now }
-    requires keyed { HasKeysFor (key_in keys.now) found.now }
+    requires keyed { HasKeysFor (key_by_id keys.now.ids) found.now }
     requires room { room_to_open document.now found.now ≤ length out.old }
     ensures size { length out.new ≡ length out.old }
-    ensures opened { OpensWhole (ring_of (key_in keys.now)) document.now out.new result }
+    ensures opened { OpensWhole (ring_of (key_by_id keys.now.ids)) document.now out.new result }
 {
     let bytes = document.bytes();
     if found.len() == 0 {

@@ -6,10 +6,10 @@ ghost use Rattle.bson_tree.specs.Tree.{item as element, no_items};
 ghost use Rattle.fle_outside.specs.Blocks.{Block};
 ghost use Rattle.payload6.specs.Marking.{binary};
 ghost use Rattle.payload6.specs.Payload.{algorithm_number};
-ghost use Rattle.doc_rewrite.specs.Payloads.{site_payload, site_vector};
+ghost use Rattle.doc_rewrite.specs.Payloads.{payload_under, vector_under};
 ghost use Rattle.doc_rewrite.specs.Sites.{sealed_width};
 
-use crate::site::Site;
+use crate::label::Label;
 use bson_codec::RawItem;
 use bson_splice::writing::{put, put_name};
 use bson_tree::types;
@@ -35,7 +35,7 @@ fn kind_of(algorithm: Algorithm) -> u8
 fn put_payload<B: Block256>(
     hooks: &B,
     key: &DataKey,
-    site: &Site,
+    label: &Label,
     iv: [u8; 16],
     item: &RawItem<'_>,
     out: &mut [u8],
@@ -44,18 +44,18 @@ fn put_payload<B: Block256>(
     requires hooks { B.answers hooks.now }
     requires room { at + (66 + 16 * (length (value_bytes item.now.tree) / 16 + 1)) ≤ length out.old }
     ensures end { result ≡ at + (66 + 16 * (length (value_bytes item.now.tree) / 16 + 1)) }
-    ensures id { length site.now.key_id ≡ 16 }
+    ensures id { length label.now.key_id ≡ 16 }
     ensures size { length out.new ≡ length out.old }
     ensures within { result ≤ length out.new }
-    ensures payload { (block : Block) → iv ≡ site_vector site.now key.now item.now.tree block
-        → take result out.new ≡ take at out.old ++ site_payload site.now key.now item.now.tree block }
+    ensures payload { (block : Block) → iv ≡ vector_under label.now key.now item.now.tree block
+        → take result out.new ≡ take at out.old ++ payload_under label.now key.now item.now.tree block }
 {
     let end = at + payload_len(item.value().len());
     seal_payload_into(
         hooks,
         key,
-        kind_of(site.algorithm),
-        site.key_id,
+        kind_of(label.algorithm),
+        label.key_id,
         item.tag(),
         iv,
         item.value(),
@@ -68,7 +68,7 @@ fn put_payload<B: Block256>(
 pub(crate) fn put_sealed<B: Block256>(
     hooks: &B,
     key: &DataKey,
-    site: &Site,
+    label: &Label,
     iv: [u8; 16],
     item: &RawItem<'_>,
     out: &mut [u8],
@@ -78,14 +78,15 @@ pub(crate) fn put_sealed<B: Block256>(
     requires room { at + 2 + length item.now.name + sealed_width (length (value_bytes item.now.tree)) ≤ length out.old }
     ensures size { length out.new ≡ length out.old }
     ensures within { result ≤ length out.new }
-    ensures id { length site.now.key_id ≡ 16 }
-    ensures element { (block : Block) → iv ≡ site_vector site.now key.now item.now.tree block
+    ensures id { length label.now.key_id ≡ 16 }
+    ensures element { (block : Block) → iv ≡ vector_under label.now key.now item.now.tree block
         → take result out.new ≡ take at out.old
-        ++ items_bytes (element item.now.name (binary 6 (site_payload site.now key.now item.now.tree block)) no_items) }
+        ++ items_bytes (element item.now.name (binary 6 (payload_under label.now key.now item.now.tree block))
+        no_items) }
 {
     let size = payload_len(item.value().len()) as u32;
     let named = put_name(out, at, types::BINARY, item.name());
     let sized = put(out, named, &size.to_le_bytes());
     let typed = put(out, sized, &[PAYLOAD]);
-    put_payload(hooks, key, site, iv, item, out, typed)
+    put_payload(hooks, key, label, iv, item, out, typed)
 }

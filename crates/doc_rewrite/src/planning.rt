@@ -14,8 +14,8 @@ use std::marker::Model;
 /// The most bytes of a sealed document.
 const LONGEST: u32 = 48_000_000;
 
-/// The values of a document that are to be sealed, and how many bytes the sealed document has. It borrows the marks and
-/// their rules, and takes no memory.
+/// The values of a document that are to be sealed, and how many bytes the sealed document has. It borrows the document,
+/// the marks and their rules, and takes no memory.
 #[derive(Drop)]
 pub struct Plan<'a> {
     sites: Sites<'a>,
@@ -55,22 +55,22 @@ impl<'a> Plan<'a> {
 /// The plan of a document whose marked values are to be sealed, each under its rule. `TooLong` exactly where the sealed
 /// document has more than 48,000,000 bytes. It takes no memory.
 pub fn plan_seal<'a>(
-    document: &RawDoc<'_>,
+    document: &RawDoc<'a>,
     marks: &'a Marks,
     rows: &'a Rows,
 ) -> Result<Plan<'a>, TooLong>
     requires stands { AreMarksOf rows.now marks.now document.now }
-    ensures sites { IfOk result (λ plan. plan.sites ≡ sites_by rows.now marks.now) }
+    ensures sites { IfOk result (λ plan. plan.sites ≡ sites_by rows.now document.now marks.now) }
     ensures long { IfOk result (λ plan. AreLong plan.sites) }
     ensures stands { IfOk result (λ plan. StandsFor plan document.now) }
     ensures size { IfOk result (λ plan. plan.size
-        ≡ length (doc_bytes document.now.tree) + grown (sites_by rows.now marks.now)) }
+        ≡ length (doc_bytes document.now.tree) + grown (sites_by rows.now document.now marks.now)) }
     ensures most { IfOk result (λ plan. plan.size ≤ 48000000) }
     ensures too_long { IfErr result (λ _.
-        48000000 < length (doc_bytes document.now.tree) + grown (sites_by rows.now marks.now)) }
-    ensures above { IfErr result (λ _. IsTooLong (sites_by rows.now marks.now) document.now) }
+        48000000 < length (doc_bytes document.now.tree) + grown (sites_by rows.now document.now marks.now)) }
+    ensures above { IfErr result (λ _. IsTooLong (sites_by rows.now document.now marks.now) document.now) }
 {
-    let sites = sites_of(marks, rows);
+    let sites = sites_of(document, marks, rows);
     let size = document.bytes().len() as u128 + grown(&sites);
     if size > LONGEST as u128 {
         return Err(TooLong);

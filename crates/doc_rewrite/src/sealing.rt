@@ -1,12 +1,13 @@
 //! A document with the values of a plan sealed, written into a slice.
 
 ghost use Rattle.std.specs.Prelude.{◌≡◌, drop, length, IfOk, OnErr};
-ghost use Rattle.doc_rewrite.specs.Keys.{key_in};
+ghost use Rattle.doc_rewrite.specs.Keys.{GivesLongIds, key_in};
 ghost use Rattle.doc_rewrite.specs.Plans.{StandsFor};
 ghost use Rattle.doc_rewrite.specs.Sealing.{FellShort, HasKeys, IsSealedWhole, SealsNone, SealsOne};
 ghost use Rattle.doc_rewrite.specs.Sites.{draws_of, spans_of};
 
-use crate::key_table::{KeyTable, key_of};
+use crate::key_table::{KeyTable, key_for};
+use crate::label::Label;
 use crate::placing::put_sealed;
 use crate::planning::Plan;
 use crate::sites::{Sites, site_at, start_at};
@@ -52,10 +53,14 @@ impl<'a, 'n, B: Block256, N: Entropy> Putter for Sealing<'a, 'n, B, N> {
     ) -> Result<usize, Stopped> {
         match site_at(self.sites, self.next) {
             Some(site) => {
-                let key = key_of(self.keys, &site.key_id);
-                match vector_of(&site, key, item, self.entropy) {
+                let found = key_for(self.keys, site.need);
+                let label = Label {
+                    algorithm: site.algorithm,
+                    key_id: found.0,
+                };
+                match vector_of(&label, found.1, item, self.entropy) {
                     Ok(iv) => {
-                        let end = put_sealed(self.hooks, key, &site, iv, item, out, at);
+                        let end = put_sealed(self.hooks, found.1, &label, iv, item, out, at);
                         self.next += 1;
                         Ok(end)
                     }
@@ -68,8 +73,8 @@ impl<'a, 'n, B: Block256, N: Entropy> Putter for Sealing<'a, 'n, B, N> {
 }
 
 /// Writes the document into `out`, which has the plan's length, with the values of the plan sealed: each under the key
-/// of its id, those of the random algorithm with a block each, drawn in reading order. `Failed` where a block couldn't
-/// be drawn: `out` may hold anything then. It takes no memory.
+/// to which its id or its name leads, and with that key's id, those of the random algorithm with a block each, drawn in
+/// reading order. `Failed` where a block couldn't be drawn: `out` may hold anything then. It takes no memory.
 pub fn seal_through<B: Block256, N: Entropy>(
     plan: &Plan<'_>,
     document: &RawDoc<'_>,
@@ -83,10 +88,12 @@ pub fn seal_through<B: Block256, N: Entropy>(
     requires keyed { HasKeys (key_in keys.now) plan.now.sites }
     requires room { length out.old ≡ plan.now.size }
     ensures size { length out.new ≡ length out.old }
+    ensures long { GivesLongIds (key_in keys.now) }
     ensures sealed { IfOk result (λ _. IsSealedWhole (key_in keys.now) plan.now.sites document.now
         (N.seen entropy.old) (N.seen entropy.new) out.new) }
     ensures failed { OnErr result (FellShort (N.seen entropy.old) (N.seen entropy.new) (draws_of plan.now.sites)) }
 {
+    keys.ids();
     let mut sealing = Sealing {
         hooks,
         keys,

@@ -1,32 +1,35 @@
 //! The values of a document that are to be sealed, read from its marks and their rules.
 
 ghost use Rattle.std.specs.Prelude.{◌≡◌, ◌+◌, ◌<◌, ◌^◌, ◌∷◌, [], drop, length, option_map, slice_get, IfSome};
-ghost use Rattle.std.specs.Prelude.{MatchOption};
+ghost use Rattle.std.specs.Prelude.{unwrap_or, MatchOption};
 ghost use Rattle.bson_splice.specs.Spans.{IsNextAt};
-ghost use Rattle.payload6.specs.Marking.{key_id};
+ghost use Rattle.payload6.specs.Needs.{Name, need_seen};
+ghost use Rattle.doc_rewrite.specs.Keys.{IsLong};
 ghost use Rattle.doc_rewrite.specs.Plans.{AreRuled};
-ghost use Rattle.doc_rewrite.specs.Sites.{site_of as site_by, sites_of as sites_by, spans_of};
+ghost use Rattle.doc_rewrite.specs.Sites.{site_of as site_by, site_seen, sites_of as sites_by, spans_of};
 
 use crate::site::Site;
-use encrypt_schema::{KeyRef, Mark, Marks, Policy, Rows};
+use bson_codec::RawDoc;
+use encrypt_schema::{Mark, Marks, Rows};
+use payload6::{Need, need_of};
 use std::marker::Model;
 
-/// Marks of rules that are there, seen as the list of their sites.
+/// Marks of a document, of rules that are there, seen as the list of their sites.
 #[derive(Drop)]
 struct Ruled<'a> {
+    document: RawDoc<'a>,
     marks: &'a Marks,
     rows: &'a Rows,
 }
 
 impl<'a> Model for Ruled<'a> {
     ghost use Rattle.std.specs.Prelude.{List, length};
-    ghost use Rattle.doc_rewrite.specs.declared.site.Site.{Site};
     ghost use Rattle.doc_rewrite.specs.Plans.{AreRuled};
-    ghost use Rattle.doc_rewrite.specs.Sites.{sites_of};
+    ghost use Rattle.doc_rewrite.specs.Sites.{Site, sites_of};
 
     ghost Value = { List Site };
 
-    ghost view = { λ r. sites_of r.rows.now r.marks.now };
+    ghost view = { λ r. sites_of r.rows.now r.document r.marks.now };
 
     ghost invariant = { λ r. AreRuled (length r.rows.now) r.marks.now };
 }
@@ -40,13 +43,13 @@ impl<'a> Ruled<'a> {
     }
 
     /// The site of the mark of this number, counted from 0.
-    fn get(&self, i: usize) -> Option<Site>
-        ensures site { result ≡ slice_get self.now i }
-        ensures long { IfSome result (λ s. length s.key_id ≡ 16) }
+    fn get(&self, i: usize) -> Option<Site<'a>>
+        ensures site { option_map site_seen result ≡ slice_get self.now i }
+        ensures long { IfSome result (λ s. IsLong (need_seen s.need)) }
     {
         match self.marks.get(i) {
             Some(mark) => {
-                let site = site_of(&mark, self.rows);
+                let site = site_of(&self.document, &mark, self.rows);
                 Some(site)
             }
             None => None,
@@ -74,7 +77,7 @@ pub struct Sites<'a> {
 
 impl<'a> Model for Sites<'a> {
     ghost use Rattle.std.specs.Prelude.{List, [], unwrap_or};
-    ghost use Rattle.doc_rewrite.specs.declared.site.Site.{Site};
+    ghost use Rattle.doc_rewrite.specs.Sites.{Site};
 
     ghost Value = { List Site };
 
@@ -100,10 +103,11 @@ impl<'a> Sites<'a> {
     }
 
     /// The value of this number, counted from 0; `None` exactly where the number isn't below `len`.
-    pub fn get(&self, i: usize) -> Option<Site>
-        ensures site { result ≡ slice_get self.now i }
-        ensures first { MatchOption result (drop i self.now ≡ []) (λ s. drop i self.now ≡ s ∷ drop (i + 1) self.now) }
-        ensures long { IfSome result (λ s. length s.key_id ≡ 16) }
+    pub fn get(&self, i: usize) -> Option<Site<'a>>
+        ensures site { option_map site_seen result ≡ slice_get self.now i }
+        ensures first { MatchOption result (drop i self.now ≡ [])
+            (λ s. drop i self.now ≡ site_seen s ∷ drop (i + 1) self.now) }
+        ensures long { IfSome result (λ s. IsLong (need_seen s.need)) }
     {
         match &self.ruled {
             Some(ruled) => ruled.get(i),
@@ -122,20 +126,25 @@ impl<'a> Sites<'a> {
     }
 }
 
-/// The sites of marks, in their order. It takes no memory.
-pub fn sites_of<'a>(marks: &'a Marks, rows: &'a Rows) -> Sites<'a>
+/// The sites of a document's marks, in their order. It takes no memory.
+pub fn sites_of<'a>(document: &RawDoc<'a>, marks: &'a Marks, rows: &'a Rows) -> Sites<'a>
     requires ruled { AreRuled (length rows.now) marks.now }
-    ensures sites { result ≡ sites_by rows.now marks.now }
+    ensures sites { result ≡ sites_by rows.now document.now marks.now }
 {
     Sites {
-        ruled: Some(Ruled { marks, rows }),
+        ruled: Some(Ruled {
+            document: document.again(),
+            marks,
+            rows,
+        }),
     }
 }
 
 /// The site of this number, counted from 0.
-pub(crate) fn site_at(sites: &Sites<'_>, i: usize) -> Option<Site>
-    ensures first { MatchOption result (drop i sites.now ≡ []) (λ s. drop i sites.now ≡ s ∷ drop (i + 1) sites.now) }
-    ensures long { IfSome result (λ s. length s.key_id ≡ 16) }
+pub(crate) fn site_at<'a>(sites: &Sites<'a>, i: usize) -> Option<Site<'a>>
+    ensures first { MatchOption result (drop i sites.now ≡ [])
+        (λ s. drop i sites.now ≡ site_seen s ∷ drop (i + 1) sites.now) }
+    ensures long { IfSome result (λ s. IsLong (need_seen s.need)) }
     ensures counted { IfSome result (λ s. i + 1 < 2 ^ 64) }
 {
     if i < sites.len() { sites.get(i) } else { None }
@@ -150,30 +159,31 @@ pub(crate) fn start_at(sites: &Sites<'_>, i: usize) -> Option<usize>
 }
 
 /// The site of a mark.
-fn site_of(mark: &Mark, rows: &Rows) -> Site
+fn site_of<'a>(document: &RawDoc<'a>, mark: &Mark, rows: &Rows) -> Site<'a>
     requires ruled { mark.now.policy < length rows.now }
-    ensures site { result ≡ site_by rows.now mark.now }
-    ensures long { length result.key_id ≡ 16 }
+    ensures site { site_seen result ≡ site_by rows.now document.now mark.now }
+    ensures long { IsLong (need_seen result.need) }
 {
     match rows.policy(mark.policy) {
         Some(policy) => Site {
             start: mark.start,
             end: mark.end,
             algorithm: policy.algorithm,
-            key_id: id_of(policy),
+            need: named(need_of(policy, document, mark)),
         },
         None => unreachable!(),
     }
 }
 
-/// The id of a policy's key.
-fn id_of(policy: &Policy) -> [u8; 16]
-    ensures id { result ≡ key_id policy.now.key }
-    ensures long { length result ≡ 16 }
+/// What names a key; a name of no byte where nothing does.
+fn named<'a>(need: Option<Need<'a>>) -> Need<'a>
+    ensures need { need_seen result ≡ unwrap_or (option_map need_seen need.entry) (Name []) }
+    ensures long { IsLong (need_seen result) }
 {
-    match &policy.key {
-        KeyRef::Id(id) => as_id(*id),
-        KeyRef::Pointer(_) => as_id([0; 16]),
+    match need {
+        Some(Need::Id(id)) => Need::Id(as_id(id)),
+        Some(Need::Name(name)) => Need::Name(name),
+        None => Need::Name(&[]),
     }
 }
 

@@ -2,7 +2,7 @@
 
 ghost use Rattle.doc_rewrite.specs.Vectors.{TellsVector};
 
-use crate::site::Site;
+use crate::label::Label;
 use bson_codec::RawItem;
 use encrypt_schema::Algorithm;
 use fle_aead::DataKey;
@@ -12,15 +12,15 @@ use payload6::det_iv;
 /// The vector of a value: derived of it under the deterministic algorithm, the next random block under the random one.
 #[tactic(auto, using(crate::proofs::Drawings::vector_drawn))]
 pub(crate) fn vector_of<N: Entropy>(
-    site: &Site,
+    label: &Label,
     key: &DataKey,
     item: &RawItem<'_>,
     entropy: &mut N,
 ) -> Result<[u8; 16], Failed>
-    ensures vector { TellsVector site.now key.now item.now.tree (N.seen entropy.old) (N.seen entropy.new) result }
+    ensures vector { TellsVector label.now key.now item.now.tree (N.seen entropy.old) (N.seen entropy.new) result }
 {
-    match site.algorithm {
-        Algorithm::Deterministic => Ok(det_iv(key, site.key_id, item.tag(), item.value())),
+    match label.algorithm {
+        Algorithm::Deterministic => Ok(det_iv(key, label.key_id, item.tag(), item.value())),
         Algorithm::Random => match entropy.block() {
             Ok(block) => Ok(block),
             Err(Failed) => Err(Failed),

@@ -2,4 +2,5 @@ pub mod Kept
 pub mod Maps
 pub mod Numbering
 pub mod Numbered
+pub mod Distinct
 pub mod Files

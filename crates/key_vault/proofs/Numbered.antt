@@ -87,7 +87,7 @@ among_first : (same : Bool) (rest : Bool) (P : Type 0) → (same || rest) ≡ tr
 among_first true rest P e h t = h refl
 among_first false rest P e h t = t e
 
-new_unknown : (known : List ℕ → Bool) (before names : List (List ℕ)) → are_new known before names ≡ true
+pub new_unknown : (known : List ℕ → Bool) (before names : List (List ℕ)) → are_new known before names ≡ true
     → (name : List ℕ) → is_among name names ≡ true
     → known name ≡ false
 new_unknown known before [] new name there = absurd (false≢true there)

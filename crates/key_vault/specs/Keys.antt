@@ -1,5 +1,5 @@
 -- MongoDB Client Side Encryption, "Key vault": keys by id and by alternate name
-use Rattle.std.specs.Prelude.{ℕ, ◌+◌, Bool, false, ◌||◌, List, [], ◌∷◌, Option, Some, None, bytes_eq}
+use Rattle.std.specs.Prelude.{◌≡◌, ℕ, ◌+◌, Bool, true, false, ◌||◌, List, [], ◌∷◌, Option, Some, None, bytes_eq}
 use Rattle.std.specs.Prelude.{if◌then◌else◌}
 use Rattle.data_key.specs.declared.key_doc.KeyDoc.{KeyDoc}
 
@@ -33,3 +33,11 @@ key_by_id keys id = first_key (has_id id) keys
 -- the first key of a name
 abbrev pub key_by_name : List KeyDoc → List ℕ → Option KeyDoc
 key_by_name keys name = first_key (has_name name) keys
+
+-- no two keys have one id, and no two one name
+abbrev pub AreDistinct : List KeyDoc → Type 0
+AreDistinct [] = Unit {0}
+AreDistinct (key ∷ keys) =
+    (key_by_id keys key.id ≡ None)
+    × ((name : List ℕ) → has_name name key ≡ true → key_by_name keys name ≡ None)
+    × AreDistinct keys

@@ -1,7 +1,7 @@
 //! The keys of a file of key documents.
 
 ghost use Rattle.std.specs.Prelude.{◌≡◌, ◌≤◌, ◌<◌, [], length, option_copied, slice_get};
-ghost use Rattle.key_vault.specs.Keys.{key_by_id, key_by_name};
+ghost use Rattle.key_vault.specs.Keys.{AreDistinct, key_by_id, key_by_name};
 ghost use Rattle.key_vault.specs.Loading.{Loads, vault};
 
 use crate::faults::VaultFault;
@@ -24,7 +24,7 @@ pub struct Vault {
 impl Model for Vault {
     ghost use Rattle.std.specs.Prelude.{◌≡◌, ℕ, List};
     ghost use Rattle.data_key.specs.declared.key_doc.KeyDoc.{KeyDoc};
-    ghost use Rattle.key_vault.specs.Keys.{has_id, has_name, place_from};
+    ghost use Rattle.key_vault.specs.Keys.{AreDistinct, has_id, has_name, place_from};
     ghost use Rattle.key_vault.specs.Numbers.{AreOf, number_of};
 
     ghost Value = { List KeyDoc };
@@ -33,7 +33,7 @@ impl Model for Vault {
 
     ghost invariant = { λ v. ((id : List ℕ) → number_of v.keys.items v.ids id ≡ place_from 0 (has_id id) v.keys.items)
         × ((name : List ℕ) → number_of v.keys.items v.names name ≡ place_from 0 (has_name name) v.keys.items)
-        × AreOf v.keys.items v.ids × AreOf v.keys.items v.names };
+        × AreOf v.keys.items v.ids × AreOf v.keys.items v.names × AreDistinct v.keys.items };
 }
 
 impl Vault {
@@ -68,9 +68,10 @@ impl Vault {
         key_at(&self.keys, i)
     }
 
-    /// The keys, in the file's order.
+    /// The keys, in the file's order. No two have one id, and no two one name.
     pub fn keys(&self) -> &[KeyDoc]
         ensures same { result.now ≡ self.now }
+        ensures distinct { AreDistinct self.now }
     {
         &self.keys
     }

@@ -1,6 +1,7 @@
 use Rattle.std.proofs.Common.{◌≡◌, codes, length, rules, arith}
-use Rattle.context_machine.specs.Asks.{by_id}
-use Rattle.context_machine.specs.Needs.{ids_of}
+use Rattle.context_machine.specs.Asks.{among, listed}
+use Rattle.context_machine.specs.Needs.{needs_seen}
+use Rattle.context_machine.specs.declared.keys_asked.Choice.TheVariants as choices
 use Rattle.context_machine.proofs.Frames.{nested, grown}
 use Rattle.context_machine.proofs.keys_asked.put_by_id.Goals as goal
 
@@ -12,9 +13,10 @@ returns c =
     (codes "0") c.in_ok-put_name.ensures.named c.in_ok-open.ensures.opened in
     let all =
     nested c.args.out.now.items c.put_name.new.out.items c.open.new.out.items c.put_id.new.out.items
-    c.close.new.out.items 3 (codes "0") (by_id (ids_of c.args.needs.now)) c.len-at.result at
-    c.in_ok-put_name.ensures.named c.in_ok-open.ensures.opened c.in_ok-put_id.ensures.put c.in_ok-close.ensures.closed
-    in
+    c.close.new.out.items 3 (codes "0")
+    (among (codes "_id") (listed choices.Ids (needs_seen c.args.needs.now))) c.len-at.result at
+    c.in_ok-put_name.ensures.named c.in_ok-open.ensures.opened c.in_ok-put_id.ensures.put
+    c.in_ok-close.ensures.closed in
     record {
       put = all.put;
       size = omega (arith, wide, all.size, c.in_ok-put_id.ensures.size);

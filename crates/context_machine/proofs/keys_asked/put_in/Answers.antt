@@ -1,6 +1,6 @@
 use Rattle.std.proofs.Common.{◌≡◌, codes, length, rules, arith}
-use Rattle.context_machine.specs.Asks.{numbered}
-use Rattle.context_machine.specs.Needs.{ids_of}
+use Rattle.context_machine.specs.Asks.{listed, numbered}
+use Rattle.context_machine.specs.Needs.{needs_seen}
 use Rattle.context_machine.proofs.Frames.{nested, grown}
 use Rattle.context_machine.proofs.keys_asked.put_in.Goals as goal
 
@@ -11,11 +11,11 @@ returns c =
     grown c.args.out.now.items c.put_name.new.out.items c.open.new.out.items 4
     (codes "$in") c.in_ok-put_name.ensures.named c.in_ok-open.ensures.opened in
     let all =
-    nested c.args.out.now.items c.put_name.new.out.items c.open.new.out.items c.put_ids.new.out.items
-    c.close.new.out.items 4 (codes "$in") (numbered 0 (ids_of c.args.needs.now)) c.len-at.result at
-    c.in_ok-put_name.ensures.named c.in_ok-open.ensures.opened c.in_ok-put_ids.ensures.put c.in_ok-close.ensures.closed
-    in
+    nested c.args.out.now.items c.put_name.new.out.items c.open.new.out.items c.put_values.new.out.items
+    c.close.new.out.items 4 (codes "$in") (numbered 0 (listed c.args.choice (needs_seen c.args.needs.now)))
+    c.len-at.result at c.in_ok-put_name.ensures.named c.in_ok-open.ensures.opened c.in_ok-put_values.ensures.put
+    c.in_ok-close.ensures.closed in
     record {
       put = all.put;
-      size = omega (arith, wide, all.size, c.in_ok-put_ids.ensures.size);
+      size = omega (arith, wide, all.size, c.in_ok-put_values.ensures.size);
     }

@@ -9,7 +9,7 @@ plan_seal-requires c =
     let is = rw c.in-Some.is at c.requires.marked in
     record {
       stands = marked_stand c.in-Some.marked c.rows.result.now c.marks.result.now c.args.command.now
-          (ap (λ (m : Command). m.command) is) c.rows.ensures.rows c.marks.ensures.marks;
+          (ap (λ (m : Command). m.command) is) c.rows.ensures.rows c.marks.ensures.marks c.marks.ensures.accepted;
     }
 
 pub returns-in-Ok-plan_clear-clause-plan : goal.returns-in-Ok-plan_clear-clause-plan

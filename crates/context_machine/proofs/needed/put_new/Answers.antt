@@ -1,5 +1,7 @@
--- The id of a new need gets a slot, where they are many.
-use Rattle.std.proofs.Common.{◌≡◌, ◌<◌, ◌∷◌, [], ◌++◌, length, rules}
+-- A new need gets a slot, where they are many.
+use Rattle.std.proofs.Common.{◌≡◌, ◌∙◌, ◌<◌, ◌∷◌, [], ◌++◌, ap, length, map, rules, subst, sym}
+use Rattle.std.proofs.lemmas.List.{length-map, map-append}
+use Rattle.context_machine.specs.Needs.{need_at_seen, needs_seen}
 use Rattle.context_machine.proofs.Filled.{slot_more}
 use Rattle.context_machine.proofs.needed.put_new.Goals as goal
 
@@ -7,5 +9,8 @@ pub returns-then-before-gt-FEW-clause-slots : goal.returns-then-before-gt-FEW-cl
 returns-then-before-gt-FEW-clause-slots c =
     let put : c.push.new.self.items ≡ c.args.needs.now.items ++ c.args.n ∷ [] = search rules in
     let many : 8 < length c.args.needs.now.items = search rules in
-    slot_more c.args.needs.now.items c.push.new.self.items c.args.slots.now c.add_slot.new.slots c.args.n
-    c.add_slot.result put many c.requires.slots c.add_slot.ensures.put
+    let seen : needs_seen c.push.new.self.items ≡ needs_seen c.args.needs.now.items ++ need_at_seen c.args.n ∷ [] =
+    ap (map need_at_seen) put ∙ map-append need_at_seen c.args.needs.now.items (c.args.n ∷ []) in
+    slot_more (needs_seen c.args.needs.now.items) (needs_seen c.push.new.self.items) c.args.slots.now c.add.new.self
+    (need_at_seen c.args.n) c.add.result seen
+    (subst (λ k. 8 < k) (sym (length-map c.args.needs.now.items need_at_seen)) many) c.requires.slots c.add.ensures.put

@@ -15,7 +15,7 @@ returns c = record {
       let apart = from_places rows a.tree free in
       opens_again keys rows ring a d doc none apart all (stations_of keys rows a.tree d.tree h);
   sealed = λ keys ring rows a blocks doc none free all bytes are had.
-      let js = sealed keys (sites_of rows (roles rows a.start a.tree)) blocks a in
+      let js = sealed keys (sites_of rows a (roles rows a.start a.tree)) blocks a in
       opens_again keys rows ring a (record { tree = js; start = a.start }) doc none free all
       (stations_of keys rows a.tree js (as_stated keys rows a blocks bytes are had));
 }

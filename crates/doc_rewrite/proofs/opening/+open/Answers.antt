@@ -3,7 +3,7 @@ use Rattle.std.proofs.Common.{ℕ, rules}
 use Rattle.bson_tree.specs.Tree.{items_size, tag_of, tree_size}
 use Rattle.bson_tree.specs.Spelling.{items_bytes}
 use Rattle.bson_tree.proofs.Sizes.{framed_size}
-use Rattle.doc_rewrite.specs.Keys.{key_in}
+use Rattle.doc_rewrite.specs.Keys.{key_by_id}
 use Rattle.doc_rewrite.specs.Opened.{ring_of}
 use Rattle.doc_rewrite.proofs.Opens.{begun, closed_document, frame_fits, goes_on, halts, inside_opens, next_keyed}
 use Rattle.doc_rewrite.proofs.Opens.{name_fits, next_room, next_shaped}
@@ -54,14 +54,14 @@ open_item-returns-in-Some-clause-opened g t c =
     c.put_name-named.ensures.named ∙ ap₂ (λ (n : ℕ) (x : List ℕ). take c.args.at c.args.out.now ++ (n ∷ (x ++ 0 ∷ [])))
     c.tag.ensures.tag c.name.ensures.name in
     let less : c.saturating_sub.result ≡ c.args.levels - 1 = search rules in
-    inside_opens (ring_of (key_in c.args.keys.now)) c.args.levels e c.in-Some.document c.saturating_sub.result
+    inside_opens (ring_of (key_by_id c.args.keys.now.ids)) c.args.levels e c.in-Some.document c.saturating_sub.result
     c.in-Some.ensures.node c.in-Some.ensures.start less
     c.args.at c.put_name-named.result c.args.out.now c.put_name-named.new.out c.open_document.new.out
     c.open_document.result place name c.open_document.ensures.opened
 
 pub open_items-open_item-requires : goal.open_items-open_item-requires
 open_items-open_item-requires g t c κs within =
-    let keys = ring_of (key_in c.args.keys.now) in
+    let keys = ring_of (key_by_id c.args.keys.now.ids) in
     let inv = c.loop-item.invariant in
     let taken = c.in-Some.ensures.steps in
     let falls : 3 * tree_size c.in-Some.item.tree < 3 * items_size c.args.document.now.tree =
@@ -83,14 +83,15 @@ open_items-loop-item-preserved g t c =
     record {
       size = omega (arith, ap items_size taken.0, inv.size);
       long = c.in-Ok.ensures.size ∙ inv.long;
-      going = goes_on (ring_of (key_in c.args.keys.now)) c.args.levels c.args.document.now c.args.out.now c.args.at
+      going = goes_on (ring_of (key_by_id c.args.keys.now.ids)) c.args.levels c.args.document.now c.args.out.now
+          c.args.at
           c.loop-item.item-iterator c.next.new.self c.in-Some.item
           c.loop-item.out c.loop-item.end taken inv.going c.open_item.new.out c.in-Ok.behind c.in-Ok.ensures.opened;
     }
 
 pub open_items-returns-in_default-clause-opened : goal.open_items-returns-in_default-clause-opened
 open_items-returns-in_default-clause-opened g t c =
-    halts (ring_of (key_in c.args.keys.now)) c.args.levels c.args.document.now c.args.out.now c.args.at
+    halts (ring_of (key_by_id c.args.keys.now.ids)) c.args.levels c.args.document.now c.args.out.now c.args.at
     c.loop-item.item-iterator c.next.new.self c.in-Some.item
     c.loop-item.out c.loop-item.end c.in-Some.ensures.steps c.loop-item.invariant.going c.open_item.new.out
     c.open_item.result c.in_default.not-Ok c.open_item.ensures.opened

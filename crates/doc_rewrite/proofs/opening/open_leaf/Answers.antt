@@ -1,14 +1,15 @@
 use Rattle.std.proofs.Common.{◌≡◌, ◌∙◌, ◌+◌, ◌++◌, ◌∷◌, [], ap, arith, rules, length, take, List, ℕ}
 use Rattle.payload6.specs.Verdicts.{id_in}
 use Rattle.payload6.proofs.Verdicts.{id_is}
-use Rattle.doc_rewrite.specs.Keys.{key_in}
+use Rattle.doc_rewrite.specs.Keys.{key_by_id}
 use Rattle.doc_rewrite.proofs.OneLeaf.{leaf_key, leaf_opens, leaf_shaped}
 use Rattle.doc_rewrite.proofs.opening.open_leaf.Goals as goal
 
 pub unreachable-requires : goal.unreachable-requires
 unreachable-requires g c =
     let is = c.in-Misshapen.ensures.is in
-    leaf_shaped (key_in c.args.keys.now) c.args.levels c.args.item.now _ _ c.requires.raw is.0 is.1 c.requires.shaped
+    leaf_shaped (key_by_id c.args.keys.now.ids) c.args.levels c.args.item.now _ _ c.requires.raw is.0 is.1
+    c.requires.shaped
 
 pub key_of-key-requires : goal.key_of-key-requires
 key_of-key-requires g c =
@@ -17,7 +18,7 @@ key_of-key-requires g c =
     let long : length p.key_id ≡ 16 = search rules in
     let id = ap id_in is.1 ∙ id_is p.kind p.key_id p.tag p.head.now p.sealed.now long p.front in
     record {
-      there = leaf_key (key_in c.args.keys.now) c.args.levels c.args.item.now _ _ c.requires.raw is.0 p.key_id id
+      there = leaf_key (key_by_id c.args.keys.now.ids) c.args.levels c.args.item.now _ _ c.requires.raw is.0 p.key_id id
           c.requires.keyed;
     }
 
@@ -25,7 +26,7 @@ pub returns-in-Payload-clause-opened : goal.returns-in-Payload-clause-opened
 returns-in-Payload-clause-opened g c =
     let p = c.in-Payload.payload in
     let is = c.in-Payload.ensures.is in
-    let keys = key_in c.args.keys.now in
+    let keys = key_by_id c.args.keys.now.ids in
     let long : length p.key_id ≡ 16 = search rules in
     let id = ap id_in is.1 ∙ id_is p.kind p.key_id p.tag p.head.now p.sealed.now long p.front in
     let there = leaf_key keys c.args.levels c.args.item.now _ _ c.requires.raw is.0 p.key_id id c.requires.keyed in

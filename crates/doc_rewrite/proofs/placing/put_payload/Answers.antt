@@ -9,7 +9,7 @@ use Rattle.doc_rewrite.proofs.placing.put_payload.Goals as goal
 
 pub returns-clause-payload : goal.returns-clause-payload
 returns-clause-payload g c = λ block e.
-    let s = c.args.site.now in
+    let s = c.args.label.now in
     let t = c.args.item.now.tree in
     let sealed = rw (c.kind_of.ensures, c.tag.ensures.tag, c.value-2.ensures.spelling) at
     c.seal_payload_into.ensures.sealed in

@@ -8,7 +8,7 @@ use Rattle.doc_rewrite.proofs.placing.put_sealed.Goals as goal
 
 pub returns-clause-element : goal.returns-clause-element
 returns-clause-element g c = λ block e.
-    let s = c.args.site.now in
+    let s = c.args.label.now in
     let t = c.args.item.now.tree in
     let n = c.payload_len-size.result in
     let contents = payload s.algorithm s.key_id c.args.key.now (tag_of t) (value_bytes t) block in

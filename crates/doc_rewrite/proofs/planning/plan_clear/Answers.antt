@@ -1,6 +1,6 @@
 use Rattle.std.proofs.Common.{List, length, ap, subst, sym}
-use Rattle.doc_rewrite.specs.declared.site.Site.{Site}
 use Rattle.doc_rewrite.specs.Plans.{StandsFor}
+use Rattle.doc_rewrite.specs.Sites.{Site}
 use Rattle.doc_rewrite.proofs.Clear.{clear_stands}
 use Rattle.doc_rewrite.proofs.planning.plan_clear.Goals as goal
 

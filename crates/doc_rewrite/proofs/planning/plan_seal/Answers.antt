@@ -1,15 +1,14 @@
 use Rattle.std.proofs.Common.{◌≡◌, ◌+◌, ap, arith, length, List, subst, sym}
 use Rattle.bson_tree.specs.Spelling.{doc_bytes}
 use Rattle.bson_splice.specs.Whole.{StandsAt}
-use Rattle.doc_rewrite.specs.declared.site.Site.{Site}
 use Rattle.doc_rewrite.specs.Plans.{AreLong, IsSealedSize}
-use Rattle.doc_rewrite.specs.Sites.{grown, sites_of, spans_of}
+use Rattle.doc_rewrite.specs.Sites.{Site, grown, sites_of, spans_of}
 use Rattle.doc_rewrite.proofs.Growth.{sealed_long}
 use Rattle.doc_rewrite.proofs.planning.plan_seal.Goals as goal
 
 pub returns-then-size-clause-above : goal.returns-then-size-clause-above
 returns-then-size-clause-above c =
-    let ss = sites_of c.args.rows.now c.args.marks.now in
+    let ss = sites_of c.args.rows.now c.args.document.now c.args.marks.now in
     let is = c.sites_of-sites.ensures.sites in
     let size : length c.bytes.result.now + c.grown.result ≡ length (doc_bytes c.args.document.now.tree) + grown ss =
     omega (arith, ap length c.bytes.ensures.spelling, c.grown.ensures.grown, ap grown is) in
@@ -18,7 +17,7 @@ returns-then-size-clause-above c =
 
 pub returns-clause-stands : goal.returns-clause-stands
 returns-clause-stands c =
-    let ss = sites_of c.args.rows.now c.args.marks.now in
+    let ss = sites_of c.args.rows.now c.args.document.now c.args.marks.now in
     let is = c.sites_of-sites.ensures.sites in
     let size : length c.bytes.result.now + c.grown.result ≡ length (doc_bytes c.args.document.now.tree) + grown ss =
     omega (arith, ap length c.bytes.ensures.spelling, c.grown.ensures.grown, ap grown is) in

@@ -1,9 +1,8 @@
 use Rattle.std.proofs.Common.{◌≡◌, ◌∙◌, List, length, drop, arith, rules, subst, sym}
 use Rattle.bson_splice.specs.Whole.{HasRoomFor}
-use Rattle.doc_rewrite.specs.declared.site.Site.{Site}
 use Rattle.doc_rewrite.specs.Keys.{key_in}
 use Rattle.doc_rewrite.specs.Sealing.{IsSealedWhole, FellShort}
-use Rattle.doc_rewrite.specs.Sites.{spans_of, draws_of}
+use Rattle.doc_rewrite.specs.Sites.{Site, spans_of, draws_of}
 use Rattle.doc_rewrite.proofs.Growth.{room, size_is}
 use Rattle.doc_rewrite.proofs.Runs.{name_done, name_stopped, whole, short}
 use Rattle.doc_rewrite.proofs.sealing.seal_through.Goals as goal

@@ -1,6 +1,6 @@
-use Rattle.std.proofs.Common.{Ok, Err, List, ap, subst, sym}
-use Rattle.doc_rewrite.specs.declared.key_table.KeyEntry.{KeyEntry}
-use Rattle.context_machine.specs.Rings.{AreOpened, needs_in, ring}
+use Rattle.std.proofs.Common.{Ok, Err, ap, subst, sym}
+use Rattle.doc_rewrite.specs.Keys.{Table}
+use Rattle.context_machine.specs.Rings.{AreOpened, by_ids, needs_in, ring}
 use Rattle.context_machine.specs.States.{OpensWith}
 use Rattle.context_machine.proofs.Decrypting.{keyed, kept_opens}
 use Rattle.context_machine.proofs.decrypt_need_keys.DecryptNeedKeys.done.Goals as goal
@@ -14,11 +14,11 @@ new-requires-clause-keyed g c =
 
 pub returns-in-Ok-open_keys-clause-opened : goal.returns-in-Ok-open_keys-clause-opened
 returns-in-Ok-open_keys-clause-opened g c =
-    let keys = ring c.args.self.kept c.args.master.now in
+    let keys = by_ids (ring c.args.self.kept c.args.master.now) in
     let opened = kept_opens c.args.self c.self.inside.document c.self.inside.wanted.kept c.self.inside.wanted.needs
     c.args.master.now (Ok c.in-Ok-open_keys.table) c.self.view_is c.self.invariant.1
     c.in-Ok-open_keys.ensures.opened in
-    subst (λ (t : List KeyEntry). AreOpened keys (needs_in c.args.self.document) t)
+    subst (λ (t : Table). AreOpened keys (needs_in c.args.self.document) t)
     (sym (ap (λ (r : OpensWith). r.table) c.new.ensures.ready)) opened
 
 pub returns-in-Err-clause-refused : goal.returns-in-Err-clause-refused

@@ -1,6 +1,6 @@
 -- The document is opened, or isn't.
 use Rattle.std.proofs.Common.{◌∙◌, Err, Ok, ap, arith, length, take}
-use Rattle.doc_rewrite.specs.Keys.{key_in}
+use Rattle.doc_rewrite.specs.Keys.{key_by_id}
 use Rattle.doc_rewrite.specs.Opened.{ring_of}
 use Rattle.context_machine.proofs.Finishing.{filled, opened_as, opens_as, opens_asked, stays_as}
 use Rattle.context_machine.proofs.decrypt_ready.DecryptReady.finalize.Goals as goal
@@ -18,12 +18,13 @@ returns-in-Ok-clause-opened g c =
     c.self.inside.out.len (c.open_through.ensures.size ∙ ap length c.deref_mut.ensures.value)
     (omega (arith, c.deref_mut.ensures.len, ap length c.deref_mut.ensures.value))))
     (opens_asked c.asked.inside.document c.asked.inside.wanted.kept c.self.inside.asked
-    (ring_of (key_in c.self.inside.table)) c.open_through.new.out (Ok c.in-Ok.n) c.asked.view_is c.in-Ok.ensures.opened)
+    (ring_of (key_by_id c.self.inside.table.ids)) c.open_through.new.out (Ok c.in-Ok.n) c.asked.view_is
+    c.in-Ok.ensures.opened)
 
 pub returns-clause-refused : goal.returns-clause-refused
 returns-clause-refused g c =
     stays_as c.self.inside.asked.document c.self.inside.asked.kept c.self.inside.table c.open_through.new.out
     c.in-Err.spot c.args.self c.self.view_is
     (opens_asked c.asked.inside.document c.asked.inside.wanted.kept c.self.inside.asked
-    (ring_of (key_in c.self.inside.table)) c.open_through.new.out (Err c.in-Err.spot) c.asked.view_is
+    (ring_of (key_by_id c.self.inside.table.ids)) c.open_through.new.out (Err c.in-Err.spot) c.asked.view_is
     c.in-Err.ensures.opened)

@@ -1,6 +1,6 @@
 -- The command is sealed, or a block couldn't be drawn.
 use Rattle.std.proofs.Common.{◌∙◌, ap, arith, length}
-use Rattle.context_machine.proofs.Finishing.{fell_as, filled, finished_as, ready_still, sealed_as, size_as}
+use Rattle.context_machine.proofs.Finishing.{fell_as, filled, finished_as, long_as, ready_still, sealed_as, size_as}
 use Rattle.context_machine.proofs.ready.Ready.finalize.Goals as goal
 
 pub returns-in-Ok-clause-done : goal.returns-in-Ok-clause-done
@@ -50,3 +50,11 @@ returns-in-Err-clause-back g c = c.new-ready.ensures.ready ∙ c.self.view_is
 pub returns-in-Err-clause-failed : goal.returns-in-Err-clause-failed
 returns-in-Err-clause-failed g c =
     fell_as c.self.inside.waited c.self.inside.table _ _ c.args.self c.self.view_is c.in-Err.ensures.failed
+
+pub returns-in-Ok-clause-long : goal.returns-in-Ok-clause-long
+returns-in-Ok-clause-long g c =
+    long_as c.self.inside.waited c.self.inside.table c.args.self c.self.view_is c.seal_into.ensures.long
+
+pub returns-in-Err-clause-long : goal.returns-in-Err-clause-long
+returns-in-Err-clause-long g c =
+    long_as c.self.inside.waited c.self.inside.table c.args.self c.self.view_is c.seal_into.ensures.long

@@ -1,5 +1,6 @@
 -- The numbers of a key that was added, and what is answered by what the numbers tell of it.
 use Rattle.std.proofs.Common.{◌≡◌, ◌∙◌, ◌++◌, ◌∷◌, [], None, Some, length, refl, sym, rules}
+use Rattle.key_vault.proofs.Distinct.{distinct_more}
 use Rattle.key_vault.proofs.Numbered.{accepted, ids_told, is_new, kind_told, last_is, names_told, of_told, refused}
 use Rattle.key_vault.proofs.vault.Vault.add.Goals as goal
 
@@ -23,6 +24,7 @@ invariant_of-self-in-Ok-None c =
           c.in-Ok-None.ensures.of_ids,
       of_told keys c.args.key c.as_slice-keys.result.now names c.put_numbers.new.names all inv.3
           c.in-Ok-None.ensures.of_names,
+      distinct_more keys c.args.key inv.4 new.0 new.1,
     )
 
 pub returns-in-Ok-None : goal.returns-in-Ok-None
