@@ -5,11 +5,10 @@ use Rattle.std.proofs.Math.Seq.{take-append_seam}
 use Rattle.std.proofs.lemmas.List.{length-append, length-replicate, take-replicate}
 use Rattle.bson_codec.specs.Borrowed.{At}
 use Rattle.bson_tree.specs.Spelling.{doc_bytes}
-use Rattle.doc_rewrite.specs.Keys.{key_in}
+use Rattle.doc_rewrite.specs.Keys.{Table, key_in}
 use Rattle.doc_rewrite.specs.Sealed.{sealed}
 use Rattle.doc_rewrite.specs.Sealing.{IsSealedWhole}
-use Rattle.doc_rewrite.specs.declared.key_table.KeyEntry.{KeyEntry}
-use Rattle.doc_rewrite.specs.declared.site.Site.{Site}
+use Rattle.doc_rewrite.specs.Sites.{Site}
 use Rattle.fle_outside.specs.Blocks.{Block}
 use Rattle.fle_outside.specs.Seen.{EntropySeen}
 use Rattle.fle_bench.specs.Documents.{sealed_bytes}
@@ -30,7 +29,7 @@ one_same (suc n) x some =
     ap (λ (k : ℕ). x ∷ replicate k x) less
 
 -- a document sealed with blocks that are all the same
-pub sealed_same : (keys : List KeyEntry) (ss : List Site) (d : At) (before after : EntropySeen) (n : ℕ)
+pub sealed_same : (keys : Table) (ss : List Site) (d : At) (before after : EntropySeen) (n : ℕ)
     (bytes : List ℕ) → before.told ≡ Some (replicate n VECTOR) → IsSealedWhole (key_in keys) ss d before after bytes
     → bytes ≡ sealed_bytes keys ss d
 unfolding sealed_bytes

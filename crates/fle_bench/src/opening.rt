@@ -3,7 +3,7 @@
 ghost use Rattle.std.specs.Prelude.{◌≡◌, ◌<◌, ◌≤◌, length, map, take, IfSome};
 ghost use Rattle.doc_rewrite.specs.Finding.{HasKeysFor, found_at};
 ghost use Rattle.doc_rewrite.specs.Founds.{payloads_of};
-ghost use Rattle.doc_rewrite.specs.Keys.{key_in};
+ghost use Rattle.doc_rewrite.specs.Keys.{key_by_id};
 ghost use Rattle.doc_rewrite.specs.Opening.{room_to_open};
 ghost use Rattle.fle_bench.specs.Checksum.{checksum};
 ghost use Rattle.fle_bench.specs.Documents.{opened_bytes, the_keys};
@@ -48,10 +48,10 @@ struct Asking<'k> {
 
 impl<'k> Listener for Asking<'k> {
     ghost use Rattle.std.specs.Prelude.{◌≡◌, is_some, true};
-    ghost use Rattle.doc_rewrite.specs.Keys.{key_in};
+    ghost use Rattle.doc_rewrite.specs.Keys.{key_by_id};
 
     ghost tells = { λ a b f. (b.keys.now ≡ a.keys.now)
-        × (b.all ≡ true → (a.all ≡ true) × (is_some (key_in a.keys.now f.key_id) ≡ true)) };
+        × (b.all ≡ true → (a.all ≡ true) × (is_some (key_by_id a.keys.now.ids f.key_id) ≡ true)) };
 
     fn tell(&mut self, payload: FoundAt) {
         if self.keys.find(&payload.key_id).is_none() {
@@ -63,7 +63,7 @@ impl<'k> Listener for Asking<'k> {
 /// How much room it takes to open a document; `None` where the key of a payload is missing, and where one has a length
 /// that none has.
 fn keyed_room(document: &RawDoc<'_>, keys: &KeyTable) -> Option<usize>
-    ensures keyed { IfSome result (λ _. HasKeysFor (key_in keys.now) (map found_at (payloads_of document.now))) }
+    ensures keyed { IfSome result (λ _. HasKeysFor (key_by_id keys.now.ids) (map found_at (payloads_of document.now))) }
     ensures room { IfSome result (λ n. n ≡ room_to_open document.now (map found_at (payloads_of document.now))) }
 {
     let mut asking = Asking { keys, all: true };
@@ -79,7 +79,7 @@ fn keyed_room(document: &RawDoc<'_>, keys: &KeyTable) -> Option<usize>
 
 /// The same under keys that are there, in room for it.
 fn opened_sum(document: &RawDoc<'_>, keys: &KeyTable, mut out: Vec<u8>, turns: u32) -> Option<u32>
-    requires keyed { HasKeysFor (key_in keys.now) (map found_at (payloads_of document.now)) }
+    requires keyed { HasKeysFor (key_by_id keys.now.ids) (map found_at (payloads_of document.now)) }
     requires room { room_to_open document.now (map found_at (payloads_of document.now)) ≤ length out.items }
     ensures sum { IfSome result (λ sum. 0 < turns → sum ≡ checksum (opened_bytes keys.now document.now)) }
 {
@@ -99,7 +99,7 @@ fn front_sum(mut out: Vec<u8>, n: usize) -> u32
 
 /// Opens a document some times over, to the front of `out`, and says how long it was the last time.
 fn open(document: &RawDoc<'_>, keys: &KeyTable, out: &mut [u8], turns: u32) -> Option<usize>
-    requires keyed { HasKeysFor (key_in keys.now) (map found_at (payloads_of document.now)) }
+    requires keyed { HasKeysFor (key_by_id keys.now.ids) (map found_at (payloads_of document.now)) }
     requires room { room_to_open document.now (map found_at (payloads_of document.now)) ≤ length out.old }
     ensures opened { 0 < turns → IfSome result (λ n. take n out.new ≡ opened_bytes keys.now document.now) }
 {
@@ -112,7 +112,7 @@ fn open(document: &RawDoc<'_>, keys: &KeyTable, out: &mut [u8], turns: u32) -> O
 
 /// Finds the payloads of a document and opens them; `None` where one isn't opened.
 fn open_once(document: &RawDoc<'_>, keys: &KeyTable, out: &mut [u8]) -> Option<usize>
-    requires keyed { HasKeysFor (key_in keys.now) (map found_at (payloads_of document.now)) }
+    requires keyed { HasKeysFor (key_by_id keys.now.ids) (map found_at (payloads_of document.now)) }
     requires room { room_to_open document.now (map found_at (payloads_of document.now)) ≤ length out.old }
     ensures size { length out.new ≡ length out.old }
     ensures opened { IfSome result (λ n. take n out.new ≡ opened_bytes keys.now document.now) }

@@ -1,6 +1,6 @@
 //! A command sealed some times over, at marks that are made once.
 
-ghost use Rattle.std.specs.Prelude.{◌≡◌, ◌<◌, ◌≤◌, length, IfSome, IsTrue};
+ghost use Rattle.std.specs.Prelude.{◌≡◌, ◌<◌, ◌≤◌, is_some, length, IfSome, IsTrue};
 ghost use Rattle.doc_rewrite.specs.Keys.{key_in};
 ghost use Rattle.doc_rewrite.specs.Plans.{AreMarksOf};
 ghost use Rattle.doc_rewrite.specs.Sealing.{HasKeys};
@@ -8,6 +8,7 @@ ghost use Rattle.doc_rewrite.specs.Sites.{sites_of as sites_by};
 ghost use Rattle.encrypt_schema.specs.Commands.Visits.{roles};
 ghost use Rattle.fle_bench.specs.Checksum.{checksum};
 ghost use Rattle.fle_bench.specs.Documents.{sealed_bytes, sealed_command};
+ghost use Rattle.payload6.specs.Needs.{need_seen};
 
 use crate::checksum::checksum;
 use crate::documents::{SameBlock, keys};
@@ -17,6 +18,7 @@ use crypto_hooks::Tables;
 use doc_rewrite::{KeyTable, Sites, plan_seal, seal_through, sites_of};
 use encrypt_schema::{Infos, Marks, Rows};
 use fle_outside::Failed;
+use payload6::Need;
 use std::alloc::Global;
 
 /// Seals the protected values of a command, some times over, and gives the checksum of what was written last. The bytes
@@ -84,9 +86,11 @@ fn room(alloc: Global, marked: &Marked<'_>) -> Option<Vec<u8>> {
 /// Whether the key of each protected value is there.
 fn are_keyed(marked: &Marked<'_>, keys: &KeyTable) -> bool
     ensures keyed { IsTrue result → HasKeys (key_in keys.now)
-        (sites_by marked.now.rows (roles marked.now.rows marked.now.command.start marked.now.command.tree)) }
+        (sites_by marked.now.rows marked.now.command
+        (roles marked.now.rows marked.now.command.start marked.now.command.tree)) }
 {
-    sites_keyed(&sites_of(marked.marks(), marked.rows()), keys)
+    let command = marked.command();
+    sites_keyed(&sites_of(&command, marked.marks(), marked.rows()), keys)
 }
 
 /// The same of values that are to be sealed.
@@ -95,13 +99,23 @@ fn sites_keyed(sites: &Sites<'_>, keys: &KeyTable) -> bool
 {
     for i in 0..sites.len() {
         match sites.get(i) {
-            Some(site) => if keys.find(&site.key_id).is_none() {
+            Some(site) => if !has_key(keys, site.need) {
                 return false;
             },
             None => return false,
         }
     }
     true
+}
+
+/// Whether the key of a need is there.
+fn has_key(keys: &KeyTable, need: Need<'_>) -> bool
+    ensures has { result ≡ is_some (key_in keys.now (need_seen need.entry)) }
+{
+    match need {
+        Need::Id(id) => keys.find(&id).is_some(),
+        Need::Name(name) => keys.find_named(name).is_some(),
+    }
 }
 
 /// Seals a document some times over, and says whether it did the last time.
@@ -114,9 +128,9 @@ fn seal(
     turns: u32,
 ) -> bool
     requires stands { AreMarksOf rows.now marks.now document.now }
-    requires keyed { HasKeys (key_in keys.now) (sites_by rows.now marks.now) }
+    requires keyed { HasKeys (key_in keys.now) (sites_by rows.now document.now marks.now) }
     ensures sealed { 0 < turns → IsTrue result
-        → out.new ≡ sealed_bytes keys.now (sites_by rows.now marks.now) document.now }
+        → out.new ≡ sealed_bytes keys.now (sites_by rows.now document.now marks.now) document.now }
 {
     let mut done = true;
     for _turn in 0..turns {
@@ -135,8 +149,9 @@ fn seal_once(
     out: &mut [u8],
 ) -> bool
     requires stands { AreMarksOf rows.now marks.now document.now }
-    requires keyed { HasKeys (key_in keys.now) (sites_by rows.now marks.now) }
-    ensures sealed { IsTrue result → out.new ≡ sealed_bytes keys.now (sites_by rows.now marks.now) document.now }
+    requires keyed { HasKeys (key_in keys.now) (sites_by rows.now document.now marks.now) }
+    ensures sealed { IsTrue result → out.new ≡ sealed_bytes keys.now (sites_by rows.now document.now marks.now)
+        document.now }
 {
     let Ok(plan) = plan_seal(document, marks, rows) else {
         return false;

@@ -3,10 +3,9 @@ use Rattle.std.proofs.Common.{◌≡◌, ℕ, suc, min, ◌+◌, ◌-◌, ◌*�
 use Rattle.std.proofs.Common.{Option, Some, None, List, [], ◌∷◌, length, refl, sym, ap, subst, arith}
 use Rattle.bson_tree.specs.Spelling.{doc_bytes}
 use Rattle.bson_tree.specs.Tree.{Items}
-use Rattle.context_machine.specs.Rings.{first_keyless, needs_of}
-use Rattle.doc_rewrite.specs.Opened.{Keyring}
-use Rattle.doc_rewrite.specs.Sites.{draw, draws_of, grown, sealed_width, sites_of}
-use Rattle.doc_rewrite.specs.declared.site.Site.{Site}
+use Rattle.context_machine.specs.Rings.{Finder, first_keyless, needs_of}
+use Rattle.bson_codec.specs.Borrowed.{At}
+use Rattle.doc_rewrite.specs.Sites.{Site, draw, draws_of, grown, sealed_width, sites_of}
 use Rattle.encrypt_schema.proofs.Commands.Taken.{few_roles}
 use Rattle.encrypt_schema.specs.Commands.Targets.{rows_of, verdict}
 use Rattle.encrypt_schema.specs.Commands.Visits.{Refusal, roles}
@@ -36,9 +35,9 @@ small_growth : (ss : List Site) → grown ss ≤ 87 * length ss
 small_growth [] = omega arith
 small_growth (s ∷ ss) = omega (arith, grows (s.end - s.start), small_growth ss)
 
-as_many : (rows : List Row) (ms : List Mark) → length (sites_of rows ms) ≡ length ms
-as_many rows [] = refl
-as_many rows (m ∷ ms) = ap (λ (n : ℕ). suc n) (as_many rows ms)
+as_many : (rows : List Row) (d : At) (ms : List Mark) → length (sites_of rows d ms) ≡ length ms
+as_many rows d [] = refl
+as_many rows d (m ∷ ms) = ap (λ (n : ℕ). suc n) (as_many rows d ms)
 
 -- what a plan may want for a command of at most so many bytes
 pub record Wants (n : ℕ) (plan : Plan) : Type 0 where
@@ -48,12 +47,12 @@ pub record Wants (n : ℕ) (plan : Plan) : Type 0 where
 half : (n m marks : ℕ) → m ≤ n → 4 + 2 * marks ≤ m → marks ≤ (n - 4) / 2
 half n m marks le few = omega (arith, le, few)
 
-wants_at : (keys : Keyring) (rows : List Row) (c : Items) (n : ℕ) → length (doc_bytes c) ≤ n
-    → Wants n (sealed_plan keys (sites_of rows (roles rows 0 c)) c)
+wants_at : (keys : Finder) (rows : List Row) (c : Items) (n : ℕ) → length (doc_bytes c) ≤ n
+    → Wants n (sealed_plan keys (sites_of rows (at_front c) (roles rows 0 c)) c)
 wants_at keys rows c n le =
-    let ss = sites_of rows (roles rows 0 c) in
+    let ss = sites_of rows (at_front c) (roles rows 0 c) in
     let count : length ss ≤ (n - 4) / 2 =
-    subst (λ (k : ℕ). k ≤ (n - 4) / 2) (sym (as_many rows (roles rows 0 c)))
+    subst (λ (k : ℕ). k ≤ (n - 4) / 2) (sym (as_many rows (at_front c) (roles rows 0 c)))
     (half n (length (doc_bytes c)) (length (roles rows 0 c)) le (few_roles rows 0 c)) in
     record {
       room = omega (arith, le, count, small_growth ss);
@@ -75,17 +74,17 @@ made_within : (n : ℕ) (over : Bool) (plan : Plan) → Wants n plan
 made_within n true plan wants = tt
 made_within n false plan wants = wants
 
-made_under : (keys : Keyring) (infos : List Collection) (db : List ℕ) (c : Items) (n : ℕ) → length (doc_bytes c) ≤ n
+made_under : (keys : Finder) (infos : List Collection) (db : List ℕ) (c : Items) (n : ℕ) → length (doc_bytes c) ≤ n
     → Made n (seal_ruling keys infos db c)
 unfolding seal_ruling
 made_under keys infos db c n le =
-    let rows = rows_of infos c in let plan = sealed_plan keys (sites_of rows (roles rows 0 c)) c in
+    let rows = rows_of infos c in let plan = sealed_plan keys (sites_of rows (at_front c) (roles rows 0 c)) c in
     made_refusal n (verdict db infos 0 c) (seal_under keys rows c)
     (made_refusal n (first_keyless keys (needs_of rows (at_front c))) (sized_plan plan)
     (made_within n (nat_lt 48000000 plan.size) plan (wants_at keys rows c n le)))
 
 -- what a command of at most so many bytes wants, if it is sealed
-pub wants_of : (n : ℕ) (keys : Keyring) (infos : List Collection) (db : List ℕ) (c : Items) (plan : Plan)
+pub wants_of : (n : ℕ) (keys : Finder) (infos : List Collection) (db : List ℕ) (c : Items) (plan : Plan)
     → length (doc_bytes c) ≤ n → seal_ruling keys infos db c ≡ makes plan → Wants n plan
 wants_of n keys infos db c plan le is =
     subst (λ (v : Ruling). Made n v) is (made_under keys infos db c n le)

@@ -3,7 +3,7 @@ use Rattle.std.specs.Prelude.{◌≡◌, ℕ, nat_lt, Bool, true, false, List, [
 use Rattle.bson_codec.specs.Reading.{document}
 use Rattle.bson_codec.specs.declared.fault.BsonFault.{BsonFault}
 use Rattle.bson_tree.specs.Tree.{Items}
-use Rattle.context_machine.specs.Rings.{ring}
+use Rattle.context_machine.specs.Rings.{finder, ring}
 use Rattle.fle_engine.specs.Answers.{AnswerIs}
 use Rattle.fle_engine.specs.Engines.{EngineIs}
 use Rattle.fle_engine.specs.Loading.{Parts}
@@ -67,7 +67,7 @@ JudgesAs v bytes from before after told = SizedAs (nat_lt document_limit (length
 
 -- what a command comes to under an engine
 abbrev pub sealing_of : Engine → Items → Ruling
-sealing_of e c = seal_ruling (ring e.opener.keys e.opener.cache.master) e.marker.infos e.marker.db.items c
+sealing_of e c = seal_ruling (finder e.opener.keys e.opener.cache.master) e.marker.infos e.marker.db.items c
 
 -- what a document comes to under an engine
 abbrev pub opening_of : Engine → Items → Ruling

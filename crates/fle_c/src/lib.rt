@@ -14,7 +14,7 @@
 ghost use Rattle.std.specs.Prelude.{◌≡◌, ◌≤◌, ◌*◌, ℕ, List, None, length};
 ghost use Rattle.bson_tree.specs.Spelling.{doc_bytes};
 ghost use Rattle.bson_tree.specs.Tree.{Items};
-ghost use Rattle.doc_rewrite.specs.Opened.{Keyring};
+ghost use Rattle.context_machine.specs.Rings.{Finder};
 ghost use Rattle.encrypt_schema.specs.Language.Collection.{Collection};
 ghost use Rattle.fle_c.specs.Calls.{OpensAs, SealsAs, StaysIn, UnsealsAs, document_limit};
 ghost use Rattle.fle_engine.specs.Loading.{parts_in};
@@ -111,7 +111,7 @@ pub extern "C" fn fle_close(alloc: Global, slot: &mut Slot)
 /// How much room and how many random bytes a command of so many bytes may want, under any engine.
 #[unsafe(no_mangle)]
 pub extern "C" fn fle_needed(size: usize) -> Need
-    ensures enough { (keys : Keyring) (infos : List Collection) (db : List ℕ) (c : Items) (plan : Plan)
+    ensures enough { (keys : Finder) (infos : List Collection) (db : List ℕ) (c : Items) (plan : Plan)
         → length (doc_bytes c) ≤ size → length (doc_bytes c) ≤ document_limit
         → seal_ruling keys infos db c ≡ makes plan
         → (plan.size ≤ result.room) × (16 * plan.draws ≤ result.random) }

@@ -3,7 +3,7 @@
 ghost use Rattle.std.specs.Prelude.{◌≡◌, ◌≤◌, ◌*◌, ℕ, List, length};
 ghost use Rattle.bson_tree.specs.Spelling.{doc_bytes};
 ghost use Rattle.bson_tree.specs.Tree.{Items};
-ghost use Rattle.doc_rewrite.specs.Opened.{Keyring};
+ghost use Rattle.context_machine.specs.Rings.{Finder};
 ghost use Rattle.encrypt_schema.specs.Language.Collection.{Collection};
 ghost use Rattle.fle_c.specs.Calls.{document_limit};
 ghost use Rattle.fle_engine.specs.Rulings.{makes};
@@ -26,7 +26,7 @@ pub struct Need {
 /// What a command of so many bytes may want: a value takes at least two bytes beside its own, grows by at most 87, and
 /// draws a block of 16 at most.
 pub(crate) fn most_wanted(size: usize) -> Need
-    ensures enough { (keys : Keyring) (infos : List Collection) (db : List ℕ) (c : Items) (plan : Plan)
+    ensures enough { (keys : Finder) (infos : List Collection) (db : List ℕ) (c : Items) (plan : Plan)
         → length (doc_bytes c) ≤ size → length (doc_bytes c) ≤ document_limit
         → seal_ruling keys infos db c ≡ makes plan
         → (plan.size ≤ result.room) × (16 * plan.draws ≤ result.random) }

@@ -1,7 +1,7 @@
 -- Every command of the demo opens to itself.
 use Rattle.std.proofs.Common.{◌≡◌, ◌∙◌, ◌<◌, ◌≤◌, ◌+◌, ◌*◌, ◌/◌, ◌^◌, ℕ, zero, suc, Bool, true, false, cond}
 use Rattle.std.proofs.Common.{nat_lt, Some, None}
-use Rattle.std.proofs.Common.{List, [], ◌∷◌, ◌++◌, length, take, drop, Result, Ok, Err, refl, sym, ap, subst, arith}
+use Rattle.std.proofs.Common.{List, [], ◌∷◌, ◌++◌, length, take, drop, Result, Ok, refl, sym, ap, subst, arith}
 use Rattle.std.proofs.lemmas.Bool.{false≢true}
 use Rattle.std.proofs.lemmas.Bool.Decides.{nat_tests}
 use Rattle.std.proofs.lemmas.List.{length-drop, length-set, length-take-le}
@@ -15,18 +15,21 @@ use Rattle.bson_codec.specs.declared.fault.BsonFault.{BsonFault}
 use Rattle.bson_codec.proofs.Documents.{document_again}
 use Rattle.bson_tree.specs.Spelling.{doc_bytes, items_bytes}
 use Rattle.bson_tree.specs.Tree.{Items}
-use Rattle.context_machine.specs.Rings.{found_in, key_if, reasoned, ring}
+use Rattle.context_machine.specs.Rings.{by_ids, found_in, key_if, reasoned, ring, with_own}
+use Rattle.context_machine.proofs.FoundKeys.{ids_found, ids_long}
 use Rattle.doc_rewrite.specs.Founds.{is_sealed}
-use Rattle.doc_rewrite.specs.Keys.{Lookup}
-use Rattle.doc_rewrite.specs.Opened.{HasAll, Keyring, opened}
+use Rattle.doc_rewrite.specs.Keys.{Found, Lookup}
+use Rattle.doc_rewrite.specs.Opened.{Keyring, opened}
+use Rattle.payload6.specs.Needs.{Id as ById}
 use Rattle.doc_rewrite.specs.Plans.{AreLong}
 use Rattle.doc_rewrite.specs.PayloadFree.{IsPayloadFree}
 use Rattle.doc_rewrite.specs.Sealed.{sealed}
 use Rattle.doc_rewrite.specs.SealedCommand.{HasRuleKeys}
-use Rattle.doc_rewrite.specs.SealedTrees.{IsSealedByStations, IsSealedValue}
+use Rattle.doc_rewrite.specs.SealedTrees.{IsSealedByStations, IsSealedUse}
 use Rattle.doc_rewrite.specs.Sites.{grown, sites_of}
 use Rattle.doc_rewrite.proofs.FromPlaces.{by_stations}
 use Rattle.doc_rewrite.proofs.Growth.{sealed_long}
+use Rattle.doc_rewrite.proofs.Names.{ids_named}
 use Rattle.doc_rewrite.proofs.OpensAgain.{opens_again, spelled_again}
 use Rattle.doc_rewrite.proofs.SealedAsStated.{as_stated}
 use Rattle.doc_rewrite.proofs.Stands.{marks_stand}
@@ -137,22 +140,19 @@ unfolding command
 command_content id db i x = content_none id db _ _ _
 
 -- the keys of its rules are there
-had : (keys : Lookup) (id plain db : List ℕ) (i x : ℕ) → length id ≡ 16 → keys id ≡ Some plain
-    → HasRuleKeys keys (two_rules id) (roles (two_rules id) 0 (command db i x))
+had : (keys : Lookup) (id plain db : List ℕ) (i x : ℕ) → length id ≡ 16
+    → keys (ById id) ≡ Some (record { id = id; key = plain })
+    → HasRuleKeys keys (two_rules id) (alone (command db i x)) (roles (two_rules id) 0 (command db i x))
 unfolding named policy_at class is_passed command
-had keys id plain db i x long is = ((plain, is, long), ((plain, is, long), tt))
-
-found_had : (r : Result (List ℕ) Reason) (key : List ℕ) → key_if r ≡ Some key → r ≡ Ok key
-found_had (Ok other) key e = cc
-found_had (Err reason) key e = absurd cc
-
-all_had : (keys : Keyring) → HasAll keys (found_in keys)
-all_had keys id key e = found_had (keys id) key e
+had keys id plain db i x long is =
+    let key : Found = record { id = id; key = plain } in
+    ((key, is, long), ((key, is, long), tt))
 
 -- the sealed form of a command
 abbrev sealed_form : Keyring → List ℕ → Block → Items → Items
 sealed_form keys id block c =
-    sealed (found_in keys) (sites_of (two_rules id) (roles (two_rules id) 0 c)) (block ∷ []) (alone c)
+    sealed (found_in (by_ids keys)) (sites_of (two_rules id) (alone c) (roles (two_rules id) 0 c)) (block ∷ [])
+    (alone c)
 
 module _ (keys : Keyring) (id plain : List ℕ) (long : length id ≡ 16) (opens : keys id ≡ Ok plain)
     (db : List ℕ) (short : length db ≤ 63) (bytes : Bytes db) (i x : ℕ) (block : Block) (is_block : IsBlock block) where
@@ -162,30 +162,35 @@ module _ (keys : Keyring) (id plain : List ℕ) (long : length id ≡ 16) (opens
   one : AreBlocks (block ∷ [])
   one = All-cons IsBlock block [] is_block (All-nil IsBlock)
 
-  stations : IsSealedByStations (found_in keys) (two_rules id) given (sealed_form keys id block given)
+  stations : IsSealedByStations (found_in (by_ids keys)) (two_rules id) given (sealed_form keys id block given)
   stations =
-      by_stations (λ n t u. IsSealedValue (found_in keys) (policy_at n (two_rules id)) t u) (two_rules id) given
+      by_stations (IsSealedUse (found_in (by_ids keys))) (two_rules id) given
       (sealed_form keys id block given)
-      (as_stated (found_in keys) (two_rules id) (alone given) (block ∷ []) (command_bytes db i x bytes) one
-      (had (found_in keys) id plain db i x long (ap key_if opens)))
+      (as_stated (found_in (by_ids keys)) (two_rules id) (alone given) (block ∷ []) (command_bytes db i x bytes) one
+      (had (found_in (by_ids keys)) id plain db i x long
+      (ap (λ (k : Result (List ℕ) Reason). key_if (with_own id k)) opens)))
 
   sealed_size : length (doc_bytes (sealed_form keys id block given)) < 2 ^ 31
   sealed_size =
-      let ss = sites_of (two_rules id) (roles (two_rules id) 0 given) in
+      let ss = sites_of (two_rules id) (alone given) (roles (two_rules id) 0 given) in
       let sites = sites_are id db i x in
       let ids : AreLong ss = subst AreLong (sym sites) (long, (long, tt)) in
-      let stands = (marks_stand (two_rules id) (alone given)).places in
-      let size = sealed_long ss (alone given) stands _ refl ids (found_in keys) (block ∷ []) one in
+      let named = ids_named (two_rules id) (alone given) (refl, (refl, tt)) in
+      let stands = (marks_stand (two_rules id) (alone given) named).places in
+      let size = sealed_long ss (alone given) stands _ refl ids (found_in (by_ids keys)) (block ∷ []) (ids_long keys)
+      one
+      in
       omega (arith, size, short, command_size db i x, ap grown sites)
 
   back : opened keys (alone (sealed_form keys id block given)) ≡ Ok given
-  back = opens_again (found_in keys) (two_rules id) keys (alone given) (alone (sealed_form keys id block given))
-      (command_laid db i x short) (command_content id db i x) (command_free id db i x) (all_had keys) stations
+  back = opens_again (found_in (by_ids keys)) (two_rules id) keys (alone given)
+      (alone (sealed_form keys id block given))
+      (command_laid db i x short) (command_content id db i x) (command_free id db i x) (ids_found keys) stations
 
   read : document (doc_bytes (sealed_form keys id block given)) ≡ Ok (sealed_form keys id block given)
   read =
       document_again (doc_bytes (sealed_form keys id block given)) (sealed_form keys id block given)
-      (spelled_again (found_in keys) (two_rules id) given (sealed_form keys id block given)
+      (spelled_again (found_in (by_ids keys)) (two_rules id) given (sealed_form keys id block given)
       (command_laid db i x short) stations sealed_size) refl
 
   pub one_equal : equals keys (doc_bytes given) (sealed_with keys (two_rules id) block given) ≡ 1

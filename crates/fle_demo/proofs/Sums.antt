@@ -4,7 +4,7 @@ use Rattle.std.proofs.Common.{subst}
 use Rattle.bson_tree.specs.Spelling.{doc_bytes}
 use Rattle.bson_tree.specs.Tree.{Items}
 use Rattle.context_machine.specs.Ready.{values_of}
-use Rattle.context_machine.specs.Rings.{found_in, ring}
+use Rattle.context_machine.specs.Rings.{by_ids, found_in, ring}
 use Rattle.data_key.specs.declared.key_doc.KeyDoc.{KeyDoc}
 use Rattle.doc_rewrite.specs.Opened.{Keyring}
 use Rattle.doc_rewrite.specs.Sealed.{sealed}
@@ -30,11 +30,13 @@ rows_are c rows viewless is = ap (λ (v : Bool). cond v [] c.rows) viewless ∙ 
 -- a command sealed under the rules of its info
 pub sealed_is : (keys : Keyring) (info : Collection) (rows : List Row) (block : Block) (c : Items) (out : List ℕ)
     → rows_in (Some info) ≡ rows
-    → out ≡ doc_bytes (sealed (found_in keys) (values_of (Some info) (alone c)) (block ∷ []) (alone c))
+    → out ≡ doc_bytes (sealed (found_in (by_ids keys)) (values_of (Some info) (alone c)) (block ∷ []) (alone c))
     → out ≡ sealed_with keys rows block c
 unfolding sealed_with
 sealed_is keys info rows block c out are is =
-    is ∙ ap (λ (rs : List Row). doc_bytes (sealed (found_in keys) (sites_of rs (roles rs 0 c)) (block ∷ []) (alone c)))
+    is ∙ ap (λ (rs : List Row). doc_bytes (sealed (found_in (by_ids keys)) (sites_of rs (alone c) (roles rs 0 c))
+    (block ∷ [])
+    (alone c)))
     are
 
 -- what was counted is what the definition counts

@@ -34,16 +34,16 @@ use Rattle.encrypt_schema.specs.Language.Standings.{standing}
 use Rattle.encrypt_schema.specs.Language.TypeNames.{type_byte}
 use Rattle.encrypt_schema.specs.Language.Values.{find}
 use Rattle.context_machine.specs.Ready.{values_of}
-use Rattle.context_machine.specs.Rings.{first_keyless, need_of, reasoned, ring}
+use Rattle.context_machine.specs.Rings.{by_ids, first_keyless, need_at, reason_of, reasoned, ring, with_own}
 use Rattle.data_key.specs.declared.key_doc.KeyDoc.{KeyDoc}
-use Rattle.doc_rewrite.specs.Opened.{Keyring, reason_in}
-use Rattle.doc_rewrite.specs.Sites.{draws_of, grown, sites_of}
+use Rattle.doc_rewrite.specs.Opened.{Keyring}
+use Rattle.doc_rewrite.specs.Sites.{Site, draws_of, grown, sites_of}
+use Rattle.payload6.specs.Needs.{Id as ById}
 use Rattle.encrypt_schema.specs.declared.command.reason.Reason.{Reason}
 use Rattle.fle_demo.specs.Sums.{alone}
 use Rattle.fle_demo.specs.States.{IsAccepted, IsKeyed}
 use Rattle.fle_demo.proofs.Bytes.{command_size}
 use Rattle.key_vault.specs.Lookup.{key_of}
-use Rattle.doc_rewrite.specs.declared.site.Site.{Site}
 use Rattle.std.specs.Prelude.{bytes_eq}
 use Rattle.std.specs.Cmp.Lexicographic.{bytes_decides}
 
@@ -94,12 +94,12 @@ target_none db ssn salary number = target_by (bytes_eq (text_of (string_bytes db
 -- the two values that are sealed
 abbrev pub two_sites : List ℕ → List Site
 two_sites id =
-    record { start = 48; end = 64; algorithm = Deterministic; key_id = id }
-    ∷ record { start = 72; end = 76; algorithm = Random; key_id = id }
+    record { start = 48; end = 64; algorithm = Deterministic; need = ById id }
+    ∷ record { start = 72; end = 76; algorithm = Random; need = ById id }
     ∷ []
 
 pub sites_are : (id db : List ℕ) (i x : ℕ)
-    → sites_of (two_rules id) (roles (two_rules id) 0 (command db i x)) ≡ two_sites id
+    → sites_of (two_rules id) (alone (command db i x)) (roles (two_rules id) 0 (command db i x)) ≡ two_sites id
 unfolding named policy_at class is_passed command
 sites_are id db i x = refl
 
@@ -154,10 +154,10 @@ one_block id db i x c long is =
 
 -- no key is wanting of two values with one id whose key is there
 none_lacks : (keys : Keyring) (id plain : List ℕ) → keys id ≡ Ok plain
-    → first_keyless keys (map need_of (two_sites id)) ≡ None
+    → first_keyless (by_ids keys) (map need_at (two_sites id)) ≡ None
 none_lacks keys id plain is =
-    ap (λ (r : Result (List ℕ) Reason). or_else (refused_at 48 (reason_in r))
-    (or_else (refused_at 72 (reason_in r)) None)) is
+    ap (λ (r : Result (List ℕ) Reason). or_else (refused_at 48 (reason_of (with_own id r)))
+    (or_else (refused_at 72 (reason_of (with_own id r))) None)) is
 
 keyed_by : (key : KeyDoc) (master plain db : List ℕ) (i x : ℕ) → length db ≤ 63
     → key_of (key ∷ []) master key.id ≡ Ok plain
@@ -165,7 +165,7 @@ keyed_by : (key : KeyDoc) (master plain db : List ℕ) (i x : ℕ) → length db
 keyed_by key master plain db i x short is =
     let sites = sites_are key.id db i x in
     record {
-      had = ap (λ (ss : List Site). first_keyless (ring (key ∷ []) master) (map need_of ss)) sites
+      had = ap (λ (ss : List Site). first_keyless (by_ids (ring (key ∷ []) master)) (map need_at ss)) sites
           ∙ none_lacks (ring (key ∷ []) master) key.id plain (ap reasoned is);
       short = omega (arith, short, command_size db i x, ap grown sites);
     }

@@ -3,7 +3,7 @@ use Rattle.std.specs.Prelude.{◌≡◌, ◌≤◌, ℕ, Bool, true, false, List
 use Rattle.bson_codec.specs.Borrowed.{At}
 use Rattle.command_marker.specs.Commands.{collection_in, passes}
 use Rattle.context_machine.specs.Ready.{sealed_size}
-use Rattle.context_machine.specs.Rings.{AreOpened, first_keyless, needs_of}
+use Rattle.context_machine.specs.Rings.{AreOpened, by_ids, first_keyless, needs_of}
 use Rattle.context_machine.specs.States.{Readied, Waits}
 use Rattle.context_machine.specs.declared.opened_keys.KeysStop.{KeysStop}
 use Rattle.context_machine.specs.declared.opened_keys.KeysStop.TheVariants as stops
@@ -21,9 +21,9 @@ pub record IsAccepted (db : List ℕ) (info : Collection) (command : At) : Type 
   pub viewless : info.view ≡ false
   pub content : content_verdict (rows_in (Some info)) command.start command.tree ≡ None
 
--- the keys of its values are to be had, and it won't be too long
+-- the keys of its values are to be had by their ids, and it won't be too long
 pub record IsKeyed (keys : Keyring) (info : Collection) (command : At) : Type 0 where
-  pub had : first_keyless keys (needs_of (rows_in (Some info)) command) ≡ None
+  pub had : first_keyless (by_ids keys) (needs_of (rows_in (Some info)) command) ≡ None
   pub short : sealed_size (Some info) command ≤ 48000000
 
 -- a command that waits for its keys, and none is kept
@@ -34,7 +34,7 @@ waiting info command = record { command = command; info = Some info; kept = [] }
 pub record IsReadyUnder (keys : Keyring) (info : Collection) (command : At) (r : Readied) : Type 0 where
   pub command_is : r.command ≡ command
   pub info_is : r.info ≡ Some info
-  pub opened : AreOpened keys (needs_of (rows_in (Some info)) command) r.table
+  pub opened : AreOpened (by_ids keys) (needs_of (rows_in (Some info)) command) r.table
 
 -- only memory was wanting
 abbrev pub IsWant : KeysStop → Type 0

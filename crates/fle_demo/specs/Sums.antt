@@ -9,7 +9,7 @@ use Rattle.bson_tree.specs.Tree.{Items}
 use Rattle.bson_codec.specs.Borrowed.{At}
 use Rattle.bson_codec.specs.Reading.{document}
 use Rattle.bson_codec.specs.declared.fault.BsonFault.{BsonFault}
-use Rattle.context_machine.specs.Rings.{found_in, ring}
+use Rattle.context_machine.specs.Rings.{by_ids, found_in, ring}
 use Rattle.data_key.specs.declared.key_doc.KeyDoc.{KeyDoc}
 use Rattle.doc_rewrite.specs.Opened.{Keyring, opened}
 use Rattle.doc_rewrite.specs.Sealed.{sealed}
@@ -37,10 +37,10 @@ demo_key n = key_of_blocks master [] (take 8 (blocks n))
 abbrev pub alone : Items → At
 alone is = record { start = 0; tree = is }
 
--- a command sealed under these keys and rules with this block
+-- a command sealed under these keys, by their ids, and rules with this block
 unfoldable pub sealed_with : Keyring → List Row → Block → Items → List ℕ
 sealed_with keys rows block c =
-    doc_bytes (sealed (found_in keys) (sites_of rows (roles rows 0 c)) (block ∷ []) (alone c))
+    doc_bytes (sealed (found_in (by_ids keys)) (sites_of rows (alone c) (roles rows 0 c)) (block ∷ []) (alone c))
 
 -- 1 where what was opened are these bytes, else 0
 abbrev pub equal_to : List ℕ → Result Items Refusal → ℕ

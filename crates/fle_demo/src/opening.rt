@@ -3,7 +3,7 @@
 ghost use Rattle.std.specs.Prelude.{◌≡◌, ◌≤◌, ◌∷◌, [], ℕ, List, IfOk, None, length};
 ghost use Rattle.bson_codec.specs.Borrowed.{At};
 ghost use Rattle.context_machine.specs.Decrypting.{IsMisshapen};
-ghost use Rattle.context_machine.specs.Rings.{AreOpened, needs_in, ring};
+ghost use Rattle.context_machine.specs.Rings.{AreOpened, by_ids, needs_in, ring};
 ghost use Rattle.context_machine.specs.Tables.{KeysFail};
 ghost use Rattle.doc_rewrite.specs.Founds.{payloads_of};
 ghost use Rattle.doc_rewrite.specs.Opened.{Keyring, first_wrong, misshapen, opened};
@@ -103,7 +103,7 @@ fn open_with<'a, B: Block256>(
 /// A document isn't opened whose key isn't to be had.
 fn unopened(stop: KeysStop) -> Result<bool, Memory>
     ensures equal { (keys : Keyring) (d : At) (bytes : List ℕ) → first_wrong misshapen (payloads_of d) ≡ None
-        → KeysFail keys (needs_in d) stop → IfOk result (λ same. bit same ≡ equal_to bytes (opened keys d)) }
+        → KeysFail (by_ids keys) (needs_in d) stop → IfOk result (λ same. bit same ≡ equal_to bytes (opened keys d)) }
 {
     keyless_stops();
     match stop {
@@ -116,7 +116,7 @@ fn unopened(stop: KeysStop) -> Result<bool, Memory>
 /// Whether a document whose keys are there opens to these bytes.
 fn is_opened<B: Block256>(ready: DecryptReady<'_>, bytes: &[u8], hooks: &B) -> bool
     requires hooks { B.answers hooks.now }
-    ensures equal { (keys : Keyring) → AreOpened keys (needs_in ready.entry.document) ready.entry.table
+    ensures equal { (keys : Keyring) → AreOpened (by_ids keys) (needs_in ready.entry.document) ready.entry.table
         → bit result ≡ equal_to bytes.now (opened keys ready.entry.document) }
 {
     table_opens();

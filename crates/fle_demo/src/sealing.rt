@@ -4,7 +4,7 @@ ghost use Rattle.std.specs.Prelude.{◌≡◌, ◌<◌, ◌≤◌, ◌∷◌, []
 ghost use Rattle.bson_tree.specs.Spelling.{doc_bytes};
 ghost use Rattle.command_marker.specs.Commands.{collection_in, passes};
 ghost use Rattle.context_machine.specs.Ready.{sealed_size, values_of};
-ghost use Rattle.context_machine.specs.Rings.{found_in, ring};
+ghost use Rattle.context_machine.specs.Rings.{by_ids, found_in, ring};
 ghost use Rattle.context_machine.specs.Waiting.{IsRefusal};
 ghost use Rattle.doc_rewrite.specs.Keys.{key_in};
 ghost use Rattle.doc_rewrite.specs.Sealed.{sealed};
@@ -47,7 +47,7 @@ pub fn seal_command<'a, B: Block256>(
     ensures master { cache.new.master ≡ cache.old.master }
     ensures sealed { (block : Block) (rest : List Block) → blocks_behind blocks.old.left blocks.old.x ≡ block ∷ rest
         → IfOk result (λ out. out.items
-        ≡ doc_bytes (sealed (found_in (ring (key.entry.now ∷ []) cache.old.master))
+        ≡ doc_bytes (sealed (found_in (by_ids (ring (key.entry.now ∷ []) cache.old.master)))
         (values_of (Some info.entry.now) command.entry) (block ∷ []) command.entry)) }
     ensures left { (block : Block) (rest : List Block) → blocks_behind blocks.old.left blocks.old.x ≡ block ∷ rest
         → OnOk result (blocks_behind blocks.new.left blocks.new.x ≡ rest) }

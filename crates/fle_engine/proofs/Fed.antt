@@ -1,52 +1,53 @@
 -- Keys are handed in for one need after another.
-use Rattle.std.proofs.Common.{◌≡◌, ℕ, zero, suc, ◌+◌, ◌<◌, ◌||◌, Bool, true, false, List, [], ◌∷◌, ◌++◌}
-use Rattle.std.proofs.Common.{length, get_or, take, Option, Some, refl, sym, ap, subst, ◌∙◌, rules, add-one}
-use Rattle.std.proofs.Math.Seq.{take-suc}
-use Rattle.std.proofs.lemmas.Option.{get_or_from_slice_get, slice_get-get_or, slice_get_within}
-use Rattle.std.proofs.lemmas.Slice.Eq.{bytes_eq-Decides}
-use Rattle.std.specs.Prelude.{bytes_eq, slice_get}
-use Rattle.context_machine.specs.Kept.{AreFedFrom, fed_some}
-use Rattle.context_machine.specs.Needs.{is_needed}
-use Rattle.context_machine.specs.declared.need.Need.{Need}
-use Rattle.context_machine.proofs.Kept.{fed_next}
+use Rattle.std.proofs.Common.{◌≡◌, ℕ, ◌+◌, ◌<◌, List, [], ◌∷◌, ◌++◌, length, get_or, map, take, Option, refl, sym, ap}
+use Rattle.std.proofs.Common.{arith, subst, ◌∙◌}
+use Rattle.std.proofs.lemmas.List.{length-map, map-append, take-map, take_more}
+use Rattle.context_machine.specs.declared.need.NeedAt.{NeedAt as HeldNeedAt}
+use Rattle.context_machine.specs.Kept.{AreAgreed, AreFedFrom, fed_some, key_by}
+use Rattle.context_machine.specs.Needs.{NeedAt, need_at_seen, needs_seen}
+use Rattle.context_machine.proofs.Kept.{agreed_front, fed_next}
+use Rattle.context_machine.proofs.Tables.{is_asked}
 use Rattle.data_key.specs.declared.key_doc.KeyDoc.{KeyDoc}
-use Rattle.key_vault.specs.Keys.{key_by_id}
+use Rattle.payload6.specs.Needs.{need_seen}
 
-eq_yes : (xs : List ℕ) → bytes_eq xs xs ≡ true
-eq_yes xs = search (rules, bytes_eq-Decides xs xs)
+take_next : (shown : List HeldNeedAt) (i : ℕ) (d : HeldNeedAt) → i < length shown
+    → take (i + 1) (needs_seen shown) ≡ take i (needs_seen shown) ++ (need_at_seen (get_or shown i d) ∷ [])
+take_next shown i d inside =
+    take-map need_at_seen (i + 1) shown ∙ ap (map need_at_seen) (take_more shown i d inside)
+    ∙ map-append need_at_seen (take i shown) (get_or shown i d ∷ [])
+    ∙ ap (λ (ns : List NeedAt). ns ++ (need_at_seen (get_or shown i d) ∷ [])) (sym (take-map need_at_seen i shown))
 
-or_reached : (a b : Bool) → b ≡ true → (a || b) ≡ true
-or_reached true b e = refl
-or_reached false b e = e
-
--- the need of a number is needed
-is_reached : (needs : List Need) (i : ℕ) (n : Need) → slice_get needs i ≡ Some n → is_needed n.id needs ≡ true
-is_reached [] i n e = absurd cc
-is_reached (m ∷ ms) zero n e =
-    let same : m ≡ n = cc in
-    subst (λ (x : Need). (bytes_eq x.id n.id || is_needed n.id ms) ≡ true) (sym same)
-    (ap (λ (b : Bool). b || is_needed n.id ms) (eq_yes n.id))
-is_reached (m ∷ ms) (suc i) n e = or_reached (bytes_eq m.id n.id) (is_needed n.id ms) (is_reached ms i n e)
-
-take_next : (needs : List Need) (i : ℕ) (n : Need) → slice_get needs i ≡ Some n
-    → take (i + 1) needs ≡ take i needs ++ (n ∷ [])
-take_next needs i n e =
-    ap (λ (k : ℕ). take k needs) (add-one i)
-    ∙ (take-suc needs i n (slice_get_within needs i n e)
-    ∙ ap (λ (m : Need). take i needs ++ (m ∷ [])) (get_or_from_slice_get needs i n n e))
+fed_seen : (vault : List KeyDoc) (shown : List HeldNeedAt) (i : ℕ) (d : HeldNeedAt) (kept : List KeyDoc)
+    → AreAgreed vault (needs_seen shown) → i < length shown → AreFedFrom vault (take i (needs_seen shown)) kept
+    → AreFedFrom vault (take (i + 1) (needs_seen shown))
+    (fed_some (needs_seen shown) kept (key_by vault (need_seen (get_or shown i d).need)))
+fed_seen vault shown i d kept agreed inside are =
+    let needs = needs_seen shown in
+    let n = need_at_seen (get_or shown i d) in
+    let next = take_next shown i d inside in
+    subst (λ (asked : List NeedAt). AreFedFrom vault asked (fed_some needs kept (key_by vault n.need))) (sym next)
+    (fed_next vault needs (take i needs) kept n
+    (subst (λ (asked : List NeedAt). AreAgreed vault asked) next (agreed_front vault needs (i + 1) agreed)) are
+    (is_asked shown needs i d inside refl))
 
 -- a key more is handed in, that of the need of this number; `shown` and `first` are the needs as a state shows them
-pub fed_on : (vault : List KeyDoc) (needs shown first : List Need) (i : ℕ) (d : Need) (kept next : List KeyDoc)
-    (o : Option KeyDoc) → shown ≡ needs → first ≡ needs → i < length first → AreFedFrom vault (take i needs) kept
-    → o ≡ key_by_id vault (get_or shown i d).id → next ≡ fed_some needs kept o
-    → AreFedFrom vault (take (i + 1) needs) next
-fed_on vault needs shown first i d kept next o same start within are found is =
-    let n : Need = get_or needs i d in
-    let there : slice_get needs i ≡ Some n =
-    slice_get-get_or needs i d (subst (λ (ns : List Need). i < length ns) start within) in
-    let key : o ≡ key_by_id vault n.id =
-    found ∙ ap (λ (ns : List Need). key_by_id vault (get_or ns i d).id) same in
-    subst (λ (asked : List Need). AreFedFrom vault asked next) (sym (take_next needs i n there))
-    (subst (λ (ks : List KeyDoc). AreFedFrom vault (take i needs ++ (n ∷ [])) ks)
-    (sym (is ∙ ap (λ (x : Option KeyDoc). fed_some needs kept x) key))
-    (fed_next vault needs (take i needs) kept n (is_reached needs i n there) are))
+pub fed_on : (vault : List KeyDoc) (needs : List NeedAt) (shown first : List HeldNeedAt) (i : ℕ) (d : HeldNeedAt)
+    (kept next : List KeyDoc) (o : Option KeyDoc)
+    → AreAgreed vault needs → needs_seen shown ≡ needs → needs_seen first ≡ needs → i < length first
+    → AreFedFrom vault (take i needs) kept → o ≡ key_by vault (need_seen (get_or shown i d).need)
+    → next ≡ fed_some needs kept o → AreFedFrom vault (take (i + 1) needs) next
+fed_on vault needs shown first i d kept next o agreed same start within are found is =
+    let inside : i < length shown = omega (
+      arith,
+      within,
+      length-map shown need_at_seen,
+      length-map first need_at_seen,
+      ap length (same ∙ sym start),
+    ) in
+    let fed : AreFedFrom vault (take (i + 1) needs) (fed_some needs kept
+    (key_by vault (need_seen (get_or shown i d).need))) =
+    subst (λ (ns : List NeedAt). AreAgreed vault ns → AreFedFrom vault (take i ns) kept
+    → AreFedFrom vault (take (i + 1) ns) (fed_some ns kept (key_by vault (need_seen (get_or shown i d).need)))) same
+    (λ a f. fed_seen vault shown i d kept a inside f) agreed are in
+    subst (λ (ks : List KeyDoc). AreFedFrom vault (take (i + 1) needs) ks)
+    (sym (is ∙ ap (fed_some needs kept) found)) fed

@@ -12,7 +12,7 @@ use Rattle.command_marker.proofs.Unmarked.{passing_roles}
 use Rattle.context_machine.specs.Kept.{AreFedFrom}
 use Rattle.context_machine.specs.Needs.{first_needs}
 use Rattle.context_machine.specs.Ready.{StopsWaiting, readied, sealed_size, values_of}
-use Rattle.context_machine.specs.Rings.{AreOpened, first_keyless, found_in, need_of, needs_of, ring}
+use Rattle.context_machine.specs.Rings.{AreOpened, Finder, finder, first_keyless, found_in, need_at, needs_of}
 use Rattle.context_machine.specs.States.{Asks, Readied, Waits}
 use Rattle.context_machine.specs.Waiting.{IsRefusal, wanted_of}
 use Rattle.context_machine.specs.declared.opened_keys.KeysStop.{KeysStop}
@@ -20,13 +20,10 @@ use Rattle.context_machine.specs.declared.opened_keys.KeysStop.TheVariants as st
 use Rattle.context_machine.proofs.Keyed.{kept_keyless, kept_opened, opened_none}
 use Rattle.context_machine.proofs.Alike.{table_seals}
 use Rattle.data_key.specs.declared.key_doc.KeyDoc.{KeyDoc}
-use Rattle.doc_rewrite.specs.Keys.{key_in}
-use Rattle.doc_rewrite.specs.Opened.{Keyring}
+use Rattle.doc_rewrite.specs.Keys.{Table, key_in}
 use Rattle.doc_rewrite.specs.Sealed.{sealed}
 use Rattle.doc_rewrite.specs.Sealing.{FellShort, IsSealedWhole}
-use Rattle.doc_rewrite.specs.Sites.{draws_of, grown, sites_of}
-use Rattle.doc_rewrite.specs.declared.key_table.KeyEntry.{KeyEntry}
-use Rattle.doc_rewrite.specs.declared.site.Site.{Site}
+use Rattle.doc_rewrite.specs.Sites.{Site, draws_of, grown, sites_of}
 use Rattle.encrypt_schema.specs.Commands.Targets.{rows_in, rows_of}
 use Rattle.encrypt_schema.specs.Commands.Visits.{Refusal, content_verdict, roles}
 use Rattle.encrypt_schema.specs.Language.Collection.{Collection}
@@ -55,7 +52,7 @@ front_is d whole = ap (λ (n : ℕ). record { start = n; tree = d.tree }) whole
 -- ---- a command that passes
 
 -- values put in nowhere change nothing
-sealed_nowhere : (keys : Keyring) (c : Items) → sealed (found_in keys) [] [] (at_front c) ≡ c
+sealed_nowhere : (keys : Finder) (c : Items) → sealed (found_in keys) [] [] (at_front c) ≡ c
 unfolding sealed
 sealed_nowhere keys c = same (put_at []) (4 + length (items_bytes c)) (λ q u most. refl) 4 c (omega arith)
 
@@ -71,18 +68,18 @@ sized_over plan many =
     ap (λ (b : Bool). cond b too_long (makes plan)) over
 
 -- what a command comes to that isn't refused, by its marks
-abbrev by_marks : Keyring → List Row → Items → List Mark → Ruling
+abbrev by_marks : Finder → List Row → Items → List Mark → Ruling
 by_marks keys rows c ms =
-    by_refusal (first_keyless keys (map need_of (sites_of rows ms))) (sized_plan
-    (sealed_plan keys (sites_of rows ms) c))
+    by_refusal (first_keyless keys (map need_at (sites_of rows (at_front c) ms))) (sized_plan
+    (sealed_plan keys (sites_of rows (at_front c) ms) c))
 
-passed_is : (keys : Keyring) (rows : List Row) (c : Items) → passes c ≡ true → length (doc_bytes c) ≤ 48000000
+passed_is : (keys : Finder) (rows : List Row) (c : Items) → passes c ≡ true → length (doc_bytes c) ≤ 48000000
     → seal_under keys rows c ≡ makes (sealed_plan keys [] c)
 passed_is keys rows c passing few =
     ap (by_marks keys rows c) (passing_roles rows 0 c passing)
     ∙ sized_is (sealed_plan keys [] c) (omega (arith, few))
 
-pub passed_made : (keys : Keyring) (rows : List Row) (c : Items) (output : Vec ℕ Global) (e : EntropySeen)
+pub passed_made : (keys : Finder) (rows : List Row) (c : Items) (output : Vec ℕ Global) (e : EntropySeen)
     → passes c ≡ true → length (doc_bytes c) ≤ 48000000 → output.items ≡ doc_bytes c
     → AnswerIs (seal_under keys rows c) c e e (answers.Made output)
 passed_made keys rows c output e passing few is =
@@ -90,7 +87,7 @@ passed_made keys rows c output e passing few is =
     subst (λ (v : Ruling). AnswerIs v c e e (answers.Made output)) (sym (passed_is keys rows c passing few))
     ([], refl, draws_none e, is ∙ sym whole, ap length whole ∙ omega arith)
 
-pub passed_over : (keys : Keyring) (rows : List Row) (c : Items) (e : EntropySeen)
+pub passed_over : (keys : Finder) (rows : List Row) (c : Items) (e : EntropySeen)
     → passes c ≡ true → 48000000 < length (doc_bytes c) → AnswerIs (seal_under keys rows c) c e e answers.TooLong
 passed_over keys rows c e passing many =
     let is : seal_under keys rows c ≡ too_long =
@@ -104,14 +101,14 @@ contents_at : (rows : List Row) (command : At) → command.start ≡ 0
     → content_verdict rows 0 command.tree ≡ content_verdict rows command.start command.tree
 contents_at rows command whole = ap (λ (n : ℕ). content_verdict rows n command.tree) (sym whole)
 
-pub contents_accepted : (keys : Keyring) (rows : List Row) (command : At) → command.start ≡ 0
+pub contents_accepted : (keys : Finder) (rows : List Row) (command : At) → command.start ≡ 0
     → content_verdict rows command.start command.tree ≡ None
     → seal_contents keys rows command.tree ≡ seal_under keys rows command.tree
 contents_accepted keys rows command whole none =
     ap (λ (r : Option Refusal). by_refusal r (seal_under keys rows command.tree))
     (contents_at rows command whole ∙ none)
 
-pub contents_refused : (keys : Keyring) (rows : List Row) (command : At) (fault : MarkFault) → command.start ≡ 0
+pub contents_refused : (keys : Finder) (rows : List Row) (command : At) (fault : MarkFault) → command.start ≡ 0
     → IsRefusal (content_verdict rows command.start command.tree) fault
     → Tells fault (seal_contents keys rows command.tree)
 contents_refused keys rows command (faults.Refused reason at) whole is =
@@ -123,38 +120,38 @@ contents_refused keys rows command faults.Memory whole is = tt
 
 -- the values of a command whose offsets are from 0
 abbrev front_sites : Option Collection → Items → List Site
-front_sites info c = sites_of (rows_in info) (roles (rows_in info) 0 c)
+front_sites info c = sites_of (rows_in info) (at_front c) (roles (rows_in info) 0 c)
 
 sites_at : (info : Option Collection) (command : At) → command.start ≡ 0
     → values_of info command ≡ front_sites info command.tree
 sites_at info command whole =
-    ap (λ (n : ℕ). sites_of (rows_in info) (roles (rows_in info) n command.tree)) whole
+    ap (λ (d : At). sites_of (rows_in info) d (roles (rows_in info) d.start d.tree)) (front_is command whole)
 
 needs_at : (rows : List Row) (command : At) → command.start ≡ 0
     → needs_of rows (at_front command.tree) ≡ needs_of rows command
 needs_at rows command whole = ap (needs_of rows) (sym (front_is command whole))
 
-abbrev sealing_of : Keyring → Option Collection → Items → Plan
+abbrev sealing_of : Finder → Option Collection → Items → Plan
 sealing_of keys info c = sealed_plan keys (front_sites info c) c
 
 -- the keys kept are the vault's for the values of the command
 kept_first : (vault kept : List KeyDoc) (master : List ℕ) (rows : List Row) (command : At) → command.start ≡ 0
     → AreFedFrom vault (first_needs (needs_of rows command)) kept
-    → first_keyless (ring vault master) (needs_of rows (at_front command.tree))
-    ≡ first_keyless (ring kept master) (needs_of rows command)
+    → first_keyless (finder vault master) (needs_of rows (at_front command.tree))
+    ≡ first_keyless (finder kept master) (needs_of rows command)
 kept_first vault kept master rows command whole fed =
-    ap (first_keyless (ring vault master)) (needs_at rows command whole)
+    ap (first_keyless (finder vault master)) (needs_at rows command whole)
     ∙ sym (kept_keyless vault kept master (needs_of rows command) fed)
 
 pub keys_had : (vault kept : List KeyDoc) (master : List ℕ) (info : Option Collection) (command : At)
-    (table : List KeyEntry) → command.start ≡ 0
+    (table : Table) → command.start ≡ 0
     → AreFedFrom vault (first_needs (needs_of (rows_in info) command)) kept
-    → AreOpened (ring kept master) (needs_of (rows_in info) command) table
+    → AreOpened (finder kept master) (needs_of (rows_in info) command) table
     → sealed_size info command ≤ 48000000
-    → seal_under (ring vault master) (rows_in info) command.tree
-    ≡ makes (sealing_of (ring vault master) info command.tree)
+    → seal_under (finder vault master) (rows_in info) command.tree
+    ≡ makes (sealing_of (finder vault master) info command.tree)
 keys_had vault kept master info command table whole fed opened few =
-    let keys = ring vault master in
+    let keys = finder vault master in
     let c = command.tree in
     let had = kept_opened vault kept master (needs_of (rows_in info) command) table fed opened in
     let none : first_keyless keys (needs_of (rows_in info) (at_front c)) ≡ None =
@@ -167,14 +164,14 @@ keys_had vault kept master info command table whole fed opened few =
 
 pub keys_stop : (vault kept : List KeyDoc) (master : List ℕ) (w : Waits) (stop : KeysStop) → w.command.start ≡ 0
     → AreFedFrom vault (first_needs (needs_of (rows_in w.info) w.command)) kept
-    → w.kept ≡ kept → StopsWaiting (ring kept master) w stop
-    → StopsAs stop (seal_under (ring vault master) (rows_in w.info) w.command.tree)
+    → w.kept ≡ kept → StopsWaiting (finder kept master) w stop
+    → StopsAs stop (seal_under (finder vault master) (rows_in w.info) w.command.tree)
 keys_stop vault kept master w (stops.Refused reason at) whole fed is stop =
-    ap (λ (r : Option Refusal). by_refusal r (sized_plan (sealing_of (ring vault master) w.info w.command.tree)))
+    ap (λ (r : Option Refusal). by_refusal r (sized_plan (sealing_of (finder vault master) w.info w.command.tree)))
     (kept_first vault kept master (rows_in w.info) w.command whole fed ∙ stop)
 keys_stop vault kept master w stops.TooLong whole fed is stop =
     let c = w.command.tree in
-    let plan = sealing_of (ring vault master) w.info c in
+    let plan = sealing_of (finder vault master) w.info c in
     let size : 48000000 < length (doc_bytes c) + grown (front_sites w.info c) =
     subst (λ (ss : List Site). 48000000 < length (doc_bytes c) + grown ss) (sites_at w.info w.command whole) stop.1 in
     ap (λ (r : Option Refusal). by_refusal r (sized_plan plan))
@@ -185,7 +182,7 @@ keys_stop vault kept master w stops.Memory whole fed is stop = tt
 -- ---- its bytes
 
 -- what `finalize` sealed is what the command comes to
-pub sealed_made : (keys : Keyring) (info : Option Collection) (command : At) (table : List KeyEntry)
+pub sealed_made : (keys : Finder) (info : Option Collection) (command : At) (table : Table)
     (before after : EntropySeen) (bytes : List ℕ) (output : Vec ℕ Global) → command.start ≡ 0
     → AreOpened keys (needs_of (rows_in info) command) table
     → IsSealedWhole (key_in table) (values_of info command) command before after bytes
@@ -210,7 +207,7 @@ sealed_made keys info command table before after bytes output whole opened done 
       bytes = λ (blocks : List Block). doc_bytes (sealed (found_in keys) ss blocks d);
     })) c before after (answers.Made output)) (front_is command whole) fits)
 
-pub sealed_short : (keys : Keyring) (info : Option Collection) (command : At) (before after : EntropySeen)
+pub sealed_short : (keys : Finder) (info : Option Collection) (command : At) (before after : EntropySeen)
     → command.start ≡ 0 → FellShort before after (draws_of (values_of info command))
     → AnswerIs (makes (sealing_of keys info command.tree)) command.tree before after answers.Undrawn
 sealed_short keys info command before after whole short =
@@ -227,16 +224,16 @@ pub record IsFed (vault : List KeyDoc) (s w : Waits) : Type 0 where
 
 pub keys_sealed : (vault : List KeyDoc) (master : List ℕ) (s w : Waits) (r : Readied)
     (before after : EntropySeen) (a : Answer) → IsFed vault s w → r ≡ readied w r.table
-    → AreOpened (ring w.kept master) (needs_of (rows_in w.info) w.command) r.table
+    → AreOpened (finder w.kept master) (needs_of (rows_in w.info) w.command) r.table
     → sealed_size w.info w.command ≤ 48000000
-    → ((keys : Keyring) → AreOpened keys (needs_of (rows_in r.info) r.command) r.table
+    → ((keys : Finder) → AreOpened keys (needs_of (rows_in r.info) r.command) r.table
     → AnswerIs (makes (sealing_of keys r.info r.command.tree)) r.command.tree before after a)
-    → AnswerIs (seal_under (ring vault master) (rows_in s.info) s.command.tree) s.command.tree before after a
+    → AnswerIs (seal_under (finder vault master) (rows_in s.info) s.command.tree) s.command.tree before after a
 keys_sealed vault master s w r before after a is ready opened few answered =
-    let keys = ring vault master in
-    let had : AreOpened (ring w.kept master) (needs_of (rows_in s.info) s.command) r.table =
-    subst (λ (d : At). AreOpened (ring w.kept master) (needs_of (rows_in s.info) d) r.table) is.same_command
-    (subst (λ (o : Option Collection). AreOpened (ring w.kept master) (needs_of (rows_in o) w.command) r.table)
+    let keys = finder vault master in
+    let had : AreOpened (finder w.kept master) (needs_of (rows_in s.info) s.command) r.table =
+    subst (λ (d : At). AreOpened (finder w.kept master) (needs_of (rows_in s.info) d) r.table) is.same_command
+    (subst (λ (o : Option Collection). AreOpened (finder w.kept master) (needs_of (rows_in o) w.command) r.table)
     is.same_info opened) in
     let size : sealed_size s.info s.command ≤ 48000000 =
     subst (λ (d : At). sealed_size s.info d ≤ 48000000) is.same_command
@@ -253,28 +250,28 @@ keys_sealed vault master s w r before after a is ready opened few answered =
     → AnswerIs (makes (sealing_of keys o r.command.tree)) r.command.tree before after a) info (answered keys)) all)
 
 pub keys_told : (vault : List KeyDoc) (master : List ℕ) (s w : Waits) (stop : KeysStop)
-    → IsFed vault s w → StopsWaiting (ring w.kept master) w stop
-    → StopsAs stop (seal_under (ring vault master) (rows_in s.info) s.command.tree)
+    → IsFed vault s w → StopsWaiting (finder w.kept master) w stop
+    → StopsAs stop (seal_under (finder vault master) (rows_in s.info) s.command.tree)
 keys_told vault master s w stop is stops =
     let fed : AreFedFrom vault (first_needs (needs_of (rows_in w.info) w.command)) w.kept =
     subst (λ (d : At). AreFedFrom vault (first_needs (needs_of (rows_in w.info) d)) w.kept) (sym is.same_command)
     (subst (λ (o : Option Collection). AreFedFrom vault (first_needs (needs_of (rows_in o) s.command)) w.kept)
     (sym is.same_info) is.fed) in
     let start : w.command.start ≡ 0 = ap (λ (d : At). d.start) is.same_command ∙ is.whole in
-    subst (λ (d : At). StopsAs stop (seal_under (ring vault master) (rows_in s.info) d.tree)) is.same_command
-    (subst (λ (o : Option Collection). StopsAs stop (seal_under (ring vault master) (rows_in o) w.command.tree))
+    subst (λ (d : At). StopsAs stop (seal_under (finder vault master) (rows_in s.info) d.tree)) is.same_command
+    (subst (λ (o : Option Collection). StopsAs stop (seal_under (finder vault master) (rows_in o) w.command.tree))
     is.same_info (keys_stop vault w.kept master w stop start fed refl stops))
 
 -- ---- the fields of a command, and its collection
 
-pub passing_sealed : (keys : Keyring) (infos : List Collection) (db : List ℕ) (c : Items) (a : Answer) (e : EntropySeen)
+pub passing_sealed : (keys : Finder) (infos : List Collection) (db : List ℕ) (c : Items) (a : Answer) (e : EntropySeen)
     → passes c ≡ true → AnswerIs (seal_under keys (rows_of infos c) c) c e e a
     → AnswerIs (seal_ruling keys infos db c) c e e a
 unfolding seal_ruling
 passing_sealed keys infos db c a e passing answered =
     subst (λ (v : Ruling). AnswerIs v c e e a) (sym (passed_with (seal_under keys) db infos c passing)) answered
 
-pub marking_sealed : (keys : Keyring) (infos : List Collection) (db : List ℕ) (command : At) (state : Asks) (a : Answer)
+pub marking_sealed : (keys : Finder) (infos : List Collection) (db : List ℕ) (command : At) (state : Asks) (a : Answer)
     (before after : EntropySeen) → StartsAs infos db command (Ok (starts.Marking state))
     → AnswerIs (seal_contents keys (rows_in state.info) state.command.tree) state.command.tree before after a
     → AnswerIs (seal_ruling keys infos db command.tree) command.tree before after a
@@ -284,7 +281,7 @@ marking_sealed keys infos db command state a before after start answered =
     (subst (λ (d : At). AnswerIs (seal_contents keys (rows_in state.info) d.tree) d.tree before after a) start.0
     answered)
 
-pub refused_sealed : (keys : Keyring) (infos : List Collection) (db : List ℕ) (command : At) (fault : MarkFault)
+pub refused_sealed : (keys : Finder) (infos : List Collection) (db : List ℕ) (command : At) (fault : MarkFault)
     → StartsAs infos db command (Err fault) → Tells fault (seal_ruling keys infos db command.tree)
 unfolding seal_ruling
 refused_sealed keys infos db command fault start = start (seal_under keys)

@@ -5,18 +5,18 @@ use Rattle.bson_codec.specs.Borrowed.{At}
 use Rattle.context_machine.specs.Decrypting.{IsMisshapen, OpensTo, StaysSealed}
 use Rattle.context_machine.specs.Kept.{AreFedFrom}
 use Rattle.context_machine.specs.Needs.{first_needs}
-use Rattle.context_machine.specs.Rings.{AreOpened, needs_in, ring}
+use Rattle.context_machine.specs.Rings.{AreOpened, by_ids, needs_in, ring}
 use Rattle.context_machine.specs.States.{Opens, OpensWith}
 use Rattle.context_machine.specs.Tables.{KeysFail}
 use Rattle.context_machine.specs.declared.opened_keys.KeysStop.{KeysStop}
 use Rattle.context_machine.specs.declared.opened_keys.KeysStop.TheVariants as stops
 use Rattle.context_machine.proofs.Alike.{keyless_stops, misshapen_stops, table_opens}
-use Rattle.context_machine.proofs.Keyed.{kept_keyless, kept_opened}
+use Rattle.context_machine.proofs.Decrypting.{needs_ids}
+use Rattle.context_machine.proofs.Keyed.{kept_keyless_ids, kept_opened_ids}
 use Rattle.data_key.specs.declared.key_doc.KeyDoc.{KeyDoc}
 use Rattle.doc_rewrite.specs.Founds.{payloads_of}
-use Rattle.doc_rewrite.specs.Keys.{key_in}
+use Rattle.doc_rewrite.specs.Keys.{Table, key_by_id}
 use Rattle.doc_rewrite.specs.Opened.{Keyring, first_wrong, misshapen, opened, ring_of}
-use Rattle.doc_rewrite.specs.declared.key_table.KeyEntry.{KeyEntry}
 use Rattle.doc_rewrite.specs.declared.unsealing.Spot.{Spot}
 use Rattle.encrypt_schema.specs.Commands.Visits.{Refusal}
 use Rattle.encrypt_schema.specs.declared.command.marks.MarkFault.{MarkFault}
@@ -47,20 +47,21 @@ misshapen_told keys d faults.Memory whole is = tt
 -- a payload's key isn't to be had
 pub keyless_told : (vault kept : List KeyDoc) (master : List ℕ) (d : At) (stop : KeysStop) → d.start ≡ 0
     → first_wrong misshapen (payloads_of d) ≡ None
-    → AreFedFrom vault (first_needs (needs_in d)) kept → KeysFail (ring kept master) (needs_in d) stop
+    → AreFedFrom vault (first_needs (needs_in d)) kept → KeysFail (by_ids (ring kept master)) (needs_in d) stop
     → StopsAs stop (open_ruling (ring vault master) d.tree)
 keyless_told vault kept master d (stops.Refused reason at) whole shaped fed fail =
     let r : Refusal = record { reason = reason; at = at } in
     ruling_is (ring vault master) d (Err r) whole
     (keyless_stops (ring vault master) d r shaped
-    (sym (kept_keyless vault kept master (needs_in d) fed) ∙ fail))
+    (sym (kept_keyless_ids vault kept master (needs_in d) (needs_ids d) fed) ∙ fail))
 keyless_told vault kept master d stops.TooLong whole shaped fed fail = absurd fail
 keyless_told vault kept master d stops.Memory whole shaped fed fail = tt
 
 -- each payload's key is there: the document is opened, or a payload stays sealed
-pub opened_made : (keys : Keyring) (d : At) (table : List KeyEntry) (bytes : List ℕ) (output : Vec ℕ Global)
+pub opened_made : (keys : Keyring) (d : At) (table : Table) (bytes : List ℕ) (output : Vec ℕ Global)
     (e : EntropySeen) → d.start ≡ 0
-    → AreOpened keys (needs_in d) table → OpensTo (ring_of (key_in table)) d bytes → output.items ≡ bytes
+    → AreOpened (by_ids keys) (needs_in d) table → OpensTo (ring_of (key_by_id table.ids)) d bytes
+    → output.items ≡ bytes
     → AnswerIs (open_ruling keys d.tree) d.tree e e (answers.Made output)
 opened_made keys d table bytes output e whole are opens same =
     let is : opened keys d ≡ Ok opens.0 = sym (table_opens keys table d are) ∙ opens.1 in
@@ -68,8 +69,8 @@ opened_made keys d table bytes output e whole are opens same =
     (sym (ruling_is keys d (Ok opens.0) whole is))
     ([], refl, draws_none e, same ∙ opens.2, refl)
 
-pub sealed_told : (keys : Keyring) (d : At) (table : List KeyEntry) (spot : Spot) → d.start ≡ 0
-    → AreOpened keys (needs_in d) table → StaysSealed (ring_of (key_in table)) d spot
+pub sealed_told : (keys : Keyring) (d : At) (table : Table) (spot : Spot) → d.start ≡ 0
+    → AreOpened (by_ids keys) (needs_in d) table → StaysSealed (ring_of (key_by_id table.ids)) d spot
     → open_ruling keys d.tree ≡ refused (record { reason = spot.reason; at = spot.at })
 sealed_told keys d table spot whole are stays =
     ruling_is keys d (Err (record { reason = spot.reason; at = spot.at })) whole
@@ -85,27 +86,28 @@ pub record IsFedFor (vault : List KeyDoc) (d : At) (w : Opens) : Type 0 where
 
 pub keys_fail : (vault : List KeyDoc) (master : List ℕ) (d : At) (w : Opens) (stop : KeysStop)
     → first_wrong misshapen (payloads_of d) ≡ None → IsFedFor vault d w
-    → KeysFail (ring w.kept master) (needs_in w.document) stop
+    → KeysFail (by_ids (ring w.kept master)) (needs_in w.document) stop
     → StopsAs stop (open_ruling (ring vault master) d.tree)
 keys_fail vault master d w stop shaped is fail =
     keyless_told vault w.kept master d stop is.whole shaped is.fed
-    (subst (λ (x : At). KeysFail (ring w.kept master) (needs_in x) stop) is.same fail)
+    (subst (λ (x : At). KeysFail (by_ids (ring w.kept master)) (needs_in x) stop) is.same fail)
 
-pub vault_has : (vault : List KeyDoc) (master : List ℕ) (d : At) (w : Opens) (table : List KeyEntry)
-    → IsFedFor vault d w → AreOpened (ring w.kept master) (needs_in w.document) table
-    → AreOpened (ring vault master) (needs_in d) table
+pub vault_has : (vault : List KeyDoc) (master : List ℕ) (d : At) (w : Opens) (table : Table)
+    → IsFedFor vault d w → AreOpened (by_ids (ring w.kept master)) (needs_in w.document) table
+    → AreOpened (by_ids (ring vault master)) (needs_in d) table
 vault_has vault master d w table is opened =
-    kept_opened vault w.kept master (needs_in d) table is.fed
-    (subst (λ (x : At). AreOpened (ring w.kept master) (needs_in x) table) is.same opened)
+    kept_opened_ids vault w.kept master (needs_in d) table (needs_ids d) is.fed
+    (subst (λ (x : At). AreOpened (by_ids (ring w.kept master)) (needs_in x) table) is.same opened)
 
 pub keys_open : (vault : List KeyDoc) (master : List ℕ) (d : At) (w : Opens) (r : OpensWith) (e : EntropySeen)
     (a : Answer) → IsFedFor vault d w → r ≡ record { document = w.document; kept = w.kept; table = r.table }
-    → AreOpened (ring w.kept master) (needs_in w.document) r.table
-    → ((keys : Keyring) → AreOpened keys (needs_in r.document) r.table
+    → AreOpened (by_ids (ring w.kept master)) (needs_in w.document) r.table
+    → ((keys : Keyring) → AreOpened (by_ids keys) (needs_in r.document) r.table
     → AnswerIs (open_ruling keys r.document.tree) r.document.tree e e a)
     → AnswerIs (open_ruling (ring vault master) d.tree) d.tree e e a
 keys_open vault master d w r e a is ready opened answered =
     let keys = ring vault master in
     let here : r.document ≡ d = ap (λ (x : OpensWith). x.document) ready ∙ is.same in
-    subst (λ (x : At). AreOpened keys (needs_in x) r.table → AnswerIs (open_ruling keys x.tree) x.tree e e a) here
+    subst (λ (x : At). AreOpened (by_ids keys) (needs_in x) r.table
+    → AnswerIs (open_ruling keys x.tree) x.tree e e a) here
     (answered keys) (vault_has vault master d w r.table is opened)

@@ -1,7 +1,7 @@
 //! What marks, seals and opens, and keeps keys, rules and opened keys from call to call.
 
 ghost use Rattle.std.specs.Prelude.{◌≡◌, IfOk};
-ghost use Rattle.context_machine.specs.Rings.{ring};
+ghost use Rattle.context_machine.specs.Rings.{finder};
 ghost use Rattle.fle_engine.specs.Answers.{AnswerIs};
 ghost use Rattle.fle_engine.specs.Engines.{EngineIs};
 ghost use Rattle.fle_engine.specs.Loading.{parts_in};
@@ -81,7 +81,7 @@ impl Engine {
         ensures same { (self.new.opener.keys ≡ self.old.opener.keys)
             × (self.new.opener.cache.master ≡ self.old.opener.cache.master) }
         ensures answers { AnswerIs
-            (seal_ruling (ring self.old.opener.keys self.old.opener.cache.master) self.old.marker.infos
+            (seal_ruling (finder self.old.opener.keys self.old.opener.cache.master) self.old.marker.infos
             self.old.marker.db.items command.now.tree) command.now.tree (N.seen entropy.old) (N.seen entropy.new)
             result }
     {

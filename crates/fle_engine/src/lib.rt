@@ -13,6 +13,7 @@
 mod answer;
 mod checking;
 mod engine;
+mod fetching;
 mod loading;
 mod marker;
 mod opener;

@@ -44,6 +44,6 @@ impl Opener {
             → AnswerIs (open_ruling (ring self.old.keys self.old.cache.master) document.now.tree) document.now.tree e e
             result }
     {
-        open_document(alloc, &self.keys, &mut self.cache, hooks, document)
+        open_document(alloc, document.again(), &self.keys, &mut self.cache, hooks)
     }
 }

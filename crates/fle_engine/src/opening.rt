@@ -3,7 +3,7 @@
 ghost use Rattle.std.specs.Prelude.{◌≡◌, None, Some, [], option_copied};
 ghost use Rattle.context_machine.specs.Kept.{AreFedFrom, fed_some};
 ghost use Rattle.context_machine.specs.Needs.{first_needs};
-ghost use Rattle.context_machine.specs.Rings.{AreOpened, needs_in, ring};
+ghost use Rattle.context_machine.specs.Rings.{AreOpened, by_ids, needs_in, ring};
 ghost use Rattle.doc_rewrite.specs.Founds.{payloads_of};
 ghost use Rattle.doc_rewrite.specs.Opened.{Keyring, first_wrong, misshapen};
 ghost use Rattle.fle_engine.specs.Answers.{AnswerIs};
@@ -11,6 +11,7 @@ ghost use Rattle.fle_engine.specs.Opening.{open_ruling};
 ghost use Rattle.fle_outside.specs.Seen.{EntropySeen};
 
 use crate::answer::Answer;
+use crate::fetching::key_by;
 use crate::refusing::{refuse, refuse_fault, refuse_stop};
 use bson_codec::RawDoc;
 use context_machine::{DecryptNeedKeys, DecryptReady};
@@ -20,30 +21,31 @@ use key_vault::{KeyCache, Vault};
 use std::alloc::Global;
 
 /// Opens a document: the lengths of its payloads, then their keys, then each payload.
-pub fn open_document<B: Block256>(
+pub fn open_document<'a, B: Block256>(
     alloc: Global,
-    keys: &Vault,
+    document: RawDoc<'a>,
+    keys: &'a Vault,
     cache: &mut KeyCache,
     hooks: &B,
-    document: &RawDoc<'_>,
 ) -> Answer
     requires hooks { B.answers hooks.now }
-    requires whole { document.now.start ≡ 0 }
+    requires whole { document.start ≡ 0 }
     ensures master { cache.new.master ≡ cache.old.master }
     ensures answers { (e : EntropySeen)
-        → AnswerIs (open_ruling (ring keys.now cache.old.master) document.now.tree) document.now.tree e e result }
+        → AnswerIs (open_ruling (ring keys.entry.now cache.old.master) document.entry.tree) document.entry.tree e e
+        result }
 {
     match DecryptNeedKeys::begin(alloc, document.again()) {
         Ok(state) => open_shaped(alloc, state, keys, cache, hooks),
-        Err(fault) => refuse_fault(alloc, document, fault),
+        Err(fault) => refuse_fault(alloc, &document, fault),
     }
 }
 
 /// Opens a document whose payloads have the lengths of payloads.
-fn open_shaped<B: Block256>(
+fn open_shaped<'a, B: Block256>(
     alloc: Global,
-    state: DecryptNeedKeys<'_>,
-    keys: &Vault,
+    state: DecryptNeedKeys<'a>,
+    keys: &'a Vault,
     cache: &mut KeyCache,
     hooks: &B,
 ) -> Answer
@@ -53,8 +55,8 @@ fn open_shaped<B: Block256>(
     requires shaped { first_wrong misshapen (payloads_of state.document) ≡ None }
     ensures master { cache.new.master ≡ cache.old.master }
     ensures answers { (e : EntropySeen)
-        → AnswerIs (open_ruling (ring keys.now cache.old.master) state.entry.document.tree) state.entry.document.tree
-        e e result }
+        → AnswerIs (open_ruling (ring keys.entry.now cache.old.master) state.entry.document.tree)
+        state.entry.document.tree e e result }
 {
     let state = with_keys(state, keys);
     match state.done_cached(alloc, cache, hooks) {
@@ -71,8 +73,8 @@ fn with_keys<'a>(state: DecryptNeedKeys<'a>, keys: &'a Vault) -> DecryptNeedKeys
 {
     let mut state = state;
     for i in 0..state.needs().len() {
-        let id = state.needs()[i].id;
-        feed(&mut state, keys.by_id(&id));
+        let key = key_by(keys, state.needs()[i].need);
+        feed(&mut state, key);
     }
     state
 }
@@ -94,7 +96,7 @@ fn open_ready<B: Block256>(alloc: Global, state: DecryptReady<'_>, hooks: &B) ->
     requires hooks { B.answers hooks.now }
     requires whole { state.document.start ≡ 0 }
     ensures answers { (keys : Keyring) (e : EntropySeen)
-        → AreOpened keys (needs_in state.entry.document) state.entry.table
+        → AreOpened (by_ids keys) (needs_in state.entry.document) state.entry.table
         → AnswerIs (open_ruling keys state.entry.document.tree) state.entry.document.tree e e result }
 {
     let document = state.document().again();

@@ -3,19 +3,19 @@
 ghost use Rattle.std.specs.Prelude.{true, ◌≡◌, List, None, Some, [], option_copied};
 ghost use Rattle.command_marker.specs.Commands.{passes};
 ghost use Rattle.context_machine.specs.Kept.{AreFedFrom, fed_some};
-ghost use Rattle.context_machine.specs.Rings.{AreOpened, needs_of, ring};
+ghost use Rattle.context_machine.specs.Rings.{AreOpened, Finder, finder, needs_of};
 ghost use Rattle.context_machine.specs.Waiting.{wanted_of};
-ghost use Rattle.doc_rewrite.specs.Opened.{Keyring};
 ghost use Rattle.doc_rewrite.specs.Sites.{sites_of};
 ghost use Rattle.encrypt_schema.specs.Commands.Targets.{rows_in};
 ghost use Rattle.encrypt_schema.specs.Commands.Visits.{roles};
 ghost use Rattle.encrypt_schema.specs.Language.Row.{Row};
 ghost use Rattle.fle_engine.specs.Answers.{AnswerIs};
-ghost use Rattle.fle_engine.specs.Rulings.{makes};
+ghost use Rattle.fle_engine.specs.Rulings.{at_front, makes};
 ghost use Rattle.fle_engine.specs.Sealing.{seal_contents, seal_ruling, seal_under, sealed_plan};
 ghost use Rattle.fle_outside.specs.Seen.{EntropySeen};
 
 use crate::answer::Answer;
+use crate::fetching::key_by;
 use crate::marker::Marker;
 use crate::opener::Opener;
 use crate::refusing::{refuse_fault, refuse_stop};
@@ -44,7 +44,7 @@ pub fn seal_command<B: Block256, N: Entropy>(
     requires whole { command.now.start ≡ 0 }
     ensures same { (opener.new.keys ≡ opener.old.keys) × (opener.new.cache.master ≡ opener.old.cache.master) }
     ensures answers { AnswerIs
-        (seal_ruling (ring opener.old.keys opener.old.cache.master) marker.now.infos marker.now.db.items
+        (seal_ruling (finder opener.old.keys opener.old.cache.master) marker.now.infos marker.now.db.items
         command.now.tree) command.now.tree (N.seen entropy.old) (N.seen entropy.new) result }
 {
     match start(&marker.db, &marker.infos, command) {
@@ -65,7 +65,7 @@ pub fn seal_command<B: Block256, N: Entropy>(
 fn pass_command(alloc: Global, command: &RawDoc<'_>) -> Answer
     requires whole { command.now.start ≡ 0 }
     requires passes { passes command.now.tree ≡ true }
-    ensures answers { (keys : Keyring) (rows : List Row) (e : EntropySeen)
+    ensures answers { (keys : Finder) (rows : List Row) (e : EntropySeen)
         → AnswerIs (seal_under keys rows command.now.tree) command.now.tree e e result }
 {
     let bytes = command.bytes();
@@ -79,10 +79,10 @@ fn pass_command(alloc: Global, command: &RawDoc<'_>) -> Answer
 }
 
 /// Seals a command by its contents, under the rules of its collection.
-fn seal_by_contents<B: Block256, N: Entropy>(
+fn seal_by_contents<'a, B: Block256, N: Entropy>(
     alloc: Global,
-    state: NeedMarkings<'_>,
-    keys: &Vault,
+    state: NeedMarkings<'a>,
+    keys: &'a Vault,
     cache: &mut KeyCache,
     hooks: &B,
     entropy: &mut N,
@@ -91,7 +91,7 @@ fn seal_by_contents<B: Block256, N: Entropy>(
     requires whole { state.command.start ≡ 0 }
     ensures master { cache.new.master ≡ cache.old.master }
     ensures answers { AnswerIs
-        (seal_contents (ring keys.now cache.old.master) (rows_in state.entry.info) state.entry.command.tree)
+        (seal_contents (finder keys.entry.now cache.old.master) (rows_in state.entry.info) state.entry.command.tree)
         state.entry.command.tree (N.seen entropy.old) (N.seen entropy.new) result }
 {
     match state.mark_here(alloc) {
@@ -101,10 +101,10 @@ fn seal_by_contents<B: Block256, N: Entropy>(
 }
 
 /// Seals a command whose contents aren't refused: its keys and its length.
-fn seal_marked<B: Block256, N: Entropy>(
+fn seal_marked<'a, B: Block256, N: Entropy>(
     alloc: Global,
-    state: NeedKeys<'_>,
-    keys: &Vault,
+    state: NeedKeys<'a>,
+    keys: &'a Vault,
     cache: &mut KeyCache,
     hooks: &B,
     entropy: &mut N,
@@ -114,7 +114,7 @@ fn seal_marked<B: Block256, N: Entropy>(
     requires none { state.kept ≡ [] }
     ensures master { cache.new.master ≡ cache.old.master }
     ensures answers { AnswerIs
-        (seal_under (ring keys.now cache.old.master) (rows_in state.entry.info) state.entry.command.tree)
+        (seal_under (finder keys.entry.now cache.old.master) (rows_in state.entry.info) state.entry.command.tree)
         state.entry.command.tree (N.seen entropy.old) (N.seen entropy.new) result }
 {
     let state = with_keys(state, keys);
@@ -131,10 +131,11 @@ fn with_keys<'a>(state: NeedKeys<'a>, keys: &'a Vault) -> NeedKeys<'a>
     ensures info { result.info ≡ state.entry.info }
     ensures fed { AreFedFrom keys.entry.now (wanted_of state.entry.info state.entry.command) result.kept }
 {
+    let _distinct = keys.keys();
     let mut state = state;
     for i in 0..state.needs().len() {
-        let id = state.needs()[i].id;
-        feed(&mut state, keys.by_id(&id));
+        let key = key_by(keys, state.needs()[i].need);
+        feed(&mut state, key);
     }
     state
 }
@@ -156,9 +157,9 @@ fn feed<'a>(state: &mut NeedKeys<'a>, key: Option<&'a KeyDoc>)
 fn seal_ready<B: Block256, N: Entropy>(state: Ready<'_>, hooks: &B, entropy: &mut N) -> Answer
     requires hooks { B.answers hooks.now }
     requires whole { state.command.start ≡ 0 }
-    ensures answers { (keys : Keyring)
+    ensures answers { (keys : Finder)
         → AreOpened keys (needs_of (rows_in state.entry.info) state.entry.command) state.entry.table
-        → AnswerIs (makes (sealed_plan keys (sites_of (rows_in state.entry.info)
+        → AnswerIs (makes (sealed_plan keys (sites_of (rows_in state.entry.info) (at_front state.entry.command.tree)
         (roles (rows_in state.entry.info) 0 state.entry.command.tree)) state.entry.command.tree))
         state.entry.command.tree (N.seen entropy.old) (N.seen entropy.new) result }
 {

@@ -1,6 +1,6 @@
 -- What is made of the files of the words judges as the words ask.
 use Rattle.std.proofs.Common.{◌≡◌, ◌∙◌, ℕ, List, ap₂, sym}
-use Rattle.context_machine.specs.Rings.{ring}
+use Rattle.context_machine.specs.Rings.{finder, ring}
 use Rattle.data_key.specs.declared.key_doc.KeyDoc.{KeyDoc}
 use Rattle.encrypt_schema.specs.Language.Collection.{Collection}
 use Rattle.fle_engine.specs.declared.engine.Engine.{Engine}
@@ -27,21 +27,21 @@ opens_as held o made =
 pub seals_as : (held : SealingFiles) (db : List ℕ) (e : Engine)
     → (e.marker.db.items ≡ db) × (e.marker.infos ≡ held.infos)
     → (e.opener.keys ≡ held.keys) × (e.opener.cache.master ≡ held.master)
-    → each (encrypt_verdict (ring held.keys held.master) held.infos db)
-    ≡ each (encrypt_verdict (ring e.opener.keys e.opener.cache.master) e.marker.infos e.marker.db.items)
+    → each (encrypt_verdict (finder held.keys held.master) held.infos db)
+    ≡ each (encrypt_verdict (finder e.opener.keys e.opener.cache.master) e.marker.infos e.marker.db.items)
 seals_as held db e rules secrets =
-    ap₂ (λ (ks : List KeyDoc) (m : List ℕ). each (encrypt_verdict (ring ks m) held.infos db)) (sym secrets.0)
+    ap₂ (λ (ks : List KeyDoc) (m : List ℕ). each (encrypt_verdict (finder ks m) held.infos db)) (sym secrets.0)
     (sym secrets.1)
-    ∙ ap₂ (λ (is : List Collection) (name : List ℕ). each (encrypt_verdict (ring e.opener.keys e.opener.cache.master)
+    ∙ ap₂ (λ (is : List Collection) (name : List ℕ). each (encrypt_verdict (finder e.opener.keys e.opener.cache.master)
     is name)) (sym rules.1) (sym rules.0)
 
 pub answers_as : (held : SealingFiles) (db : List ℕ) (e : Engine)
     → (e.marker.db.items ≡ db) × (e.marker.infos ≡ held.infos)
     → (e.opener.keys ≡ held.keys) × (e.opener.cache.master ≡ held.master)
-    → pairs (encrypt_pairing (ring held.keys held.master) held.infos db)
-    ≡ pairs (encrypt_pairing (ring e.opener.keys e.opener.cache.master) e.marker.infos e.marker.db.items)
+    → pairs (encrypt_pairing (finder held.keys held.master) held.infos db)
+    ≡ pairs (encrypt_pairing (finder e.opener.keys e.opener.cache.master) e.marker.infos e.marker.db.items)
 answers_as held db e rules secrets =
-    ap₂ (λ (ks : List KeyDoc) (m : List ℕ). pairs (encrypt_pairing (ring ks m) held.infos db)) (sym secrets.0)
+    ap₂ (λ (ks : List KeyDoc) (m : List ℕ). pairs (encrypt_pairing (finder ks m) held.infos db)) (sym secrets.0)
     (sym secrets.1)
-    ∙ ap₂ (λ (is : List Collection) (name : List ℕ). pairs (encrypt_pairing (ring e.opener.keys e.opener.cache.master)
+    ∙ ap₂ (λ (is : List Collection) (name : List ℕ). pairs (encrypt_pairing (finder e.opener.keys e.opener.cache.master)
     is name)) (sym rules.1) (sym rules.0)

@@ -2,27 +2,30 @@
 use Rattle.std.proofs.Common.{◌≡◌, ℕ, ◌+◌, ◌^◌, ◌<◌, ◌∙◌, Bool, true, false, cond, nat_lt, Option, Some, None, Result}
 use Rattle.std.proofs.Common.{Ok, Err, List, [], ◌∷◌, ◌++◌, length, take, drop, map, refl, sym, ap, ap₂, subst, arith}
 use Rattle.std.specs.List.{All}
-use Rattle.std.specs.Prelude.{flat_map}
+use Rattle.std.specs.Prelude.{flat_map, is_some, unwrap_or}
 use Rattle.std.proofs.lemmas.List.{length-drop, length-take-le, nil_from_length, take-append-drop}
 use Rattle.std.proofs.lemmas.List.Elements.{All-drop, All-take}
 use Rattle.bson_tree.specs.Spelling.{doc_bytes, items_bytes}
 use Rattle.bson_tree.specs.Tree.{Items}
-use Rattle.encrypt_schema.specs.Commands.Targets.{rows_of, verdict}
-use Rattle.encrypt_schema.specs.Commands.Visits.{Refusal, or_else, refused_at, roles}
+use Rattle.encrypt_schema.specs.Commands.Targets.{info_of, rows_of, verdict}
+use Rattle.encrypt_schema.specs.Commands.Visits.{Refusal, command_visits, content_of, content_verdict, first_refusal}
+use Rattle.encrypt_schema.specs.Commands.Visits.{or_else, refused_at, roles, target_of, view_of}
 use Rattle.encrypt_schema.specs.declared.command.marks.Mark.{Mark}
 use Rattle.encrypt_schema.specs.declared.command.reason.Reason.{Reason}
-use Rattle.encrypt_schema.specs.Language.Policies.{policy_at}
 use Rattle.encrypt_schema.specs.Language.Row.{Row}
 use Rattle.fle_outside.specs.Blocks.{AreBlocks, Block, IsBlock}
 use Rattle.fle_outside.specs.Seen.{EntropySeen, SinkSeen}
 use Rattle.fle_outside.specs.Writing.{Gains}
-use Rattle.payload6.specs.Marking.{key_id}
-use Rattle.doc_rewrite.specs.Opened.{Keyring, reason_in}
+use Rattle.payload6.specs.Needs.{Need, Name, need_of}
+use Rattle.bson_codec.specs.Borrowed.{At}
+use Rattle.doc_rewrite.specs.Keys.{Found}
 use Rattle.doc_rewrite.specs.Sealed.{sealed}
-use Rattle.doc_rewrite.specs.SealedCommand.{HasKey, HasRuleKeys}
-use Rattle.doc_rewrite.specs.Sites.{sites_of}
+use Rattle.doc_rewrite.specs.SealedCommand.{AreNeeded, HasKey, HasNamed, HasRuleKeys}
+use Rattle.doc_rewrite.specs.Sites.{need_named, sites_of}
+use Rattle.doc_rewrite.proofs.Names.{clean_named}
+use Rattle.doc_rewrite.proofs.RuleKeys.{are_needed}
 use Rattle.doc_rewrite.proofs.SealedAsStated.{as_stated}
-use Rattle.context_machine.specs.Rings.{first_keyless, found_in, key_if, need_of, needs_of}
+use Rattle.context_machine.specs.Rings.{Finder, first_keyless, found_in, key_if, need_at, needs_of, reason_of}
 use Rattle.fle_stream.specs.Ended.{Whole}
 use Rattle.fle_stream.specs.Task.{each, outcome_of}
 use Rattle.fle_stream.specs.Outcome.{Outcome, finished, judged, outcome, rest_finish}
@@ -78,21 +81,41 @@ neither : (a b : Option Refusal) → or_else a b ≡ None → (a ≡ None) × (b
 neither None b e = (refl, e)
 neither (Some r) b e = absurd cc
 
-module _ (keys : Keyring) (uuids : AreByUuid keys) where
-  had : (id : List ℕ) (at : ℕ) (r : Result (List ℕ) Reason) → keys id ≡ r → refused_at at (reason_in r) ≡ None
-      → HasKey (found_in keys) id
-  had id at (Ok key) is e = (key, ap key_if is, uuids id key is)
-  had id at (Err reason) is e = absurd cc
+-- nothing is refused of the contents of an accepted command
+pub contents_free : (x : Setup) (c : Items) → verdict x.db x.infos 0 c ≡ None
+    → content_verdict (rows_of x.infos c) 0 c ≡ None
+contents_free x c e =
+    let rows = rows_of x.infos c in
+    let vs = command_visits rows 0 c in
+    let view = first_refusal (view_of (info_of x.infos c)) vs in
+    let content = first_refusal (content_of rows) vs in
+    (neither view content (neither (first_refusal (target_of x.db) vs) (or_else view content) e).1).1
 
-  rule_keys : (rows : List Row) (ms : List Mark) → first_keyless keys (map need_of (sites_of rows ms)) ≡ None
-      → HasRuleKeys (found_in keys) rows ms
-  rule_keys rows [] e = tt
-  rule_keys rows (m ∷ ms) e =
-      let id = key_id (policy_at m.policy rows).key in
-      let both = neither (refused_at m.start (reason_in (keys id))) (first_keyless keys (map need_of
-      (sites_of rows ms)))
-      e in
-      (had id m.start (keys id) refl both.0, rule_keys rows ms both.1)
+module _ (keys : Finder) (uuids : AreByUuid keys) where
+  had : (need : Need) (at : ℕ) (r : Result Found Reason) → keys need ≡ r → refused_at at (reason_of r) ≡ None
+      → HasKey (found_in keys) need
+  had need at (Ok found) is e = (found, ap key_if is, uuids need found is)
+  had need at (Err reason) is e = absurd cc
+
+  had_named : (o : Option Need) (at : ℕ) → is_some o ≡ true
+      → refused_at at (reason_of (keys (unwrap_or o (Name [])))) ≡ None → HasNamed (found_in keys) o
+  had_named (Some need) at some e = had need at (keys need) refl e
+  had_named None at some e = absurd cc
+
+  rule_keys : (rows : List Row) (d : At) (ms : List Mark) → AreNeeded rows d ms
+      → first_keyless keys (map need_at (sites_of rows d ms)) ≡ None → HasRuleKeys (found_in keys) rows d ms
+  rule_keys rows d [] needed e = tt
+  rule_keys rows d (m ∷ ms) needed e =
+      let both = neither (refused_at m.start (reason_of (keys (need_named rows d m))))
+      (first_keyless keys (map need_at (sites_of rows d ms))) e in
+      (had_named (need_of rows d m) m.start needed.0 both.0, rule_keys rows d ms needed.1 both.1)
+
+-- the key of each protected value of an accepted command is named
+all_needed : (x : Setup) (c : Items) → verdict x.db x.infos 0 c ≡ None
+    → AreNeeded (rows_of x.infos c) (at_front c) (roles (rows_of x.infos c) 0 c)
+all_needed x c e =
+    let rows = rows_of x.infos c in
+    are_needed rows (at_front c) (roles rows 0 c) (clean_named rows (at_front c) (contents_free x c e))
 
 -- ---- the stream
 
@@ -108,7 +131,8 @@ module _ (x : Setup) (uuids : AreByUuid x.keys) where
       → IsSealedUnder x c own (sealed (found_in x.keys) (sites_in x c) own (at_front c))
   sealed_under c plan own bytes a are count = record {
     command = as_stated (found_in x.keys) (rows_of x.infos c) (at_front c) own bytes are
-        (rule_keys x.keys uuids (rows_of x.infos c) (roles (rows_of x.infos c) 0 c) a.keyed);
+        (rule_keys x.keys uuids (rows_of x.infos c) (at_front c) (roles (rows_of x.infos c) 0 c)
+        (all_needed x c a.none) a.keyed);
     count = count ∙ ap (λ (p : Plan). p.draws) a.is;
     vectors = refl;
   }

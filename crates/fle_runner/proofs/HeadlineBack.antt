@@ -5,36 +5,24 @@ use Rattle.std.specs.List.{All}
 use Rattle.bson_codec.specs.Layout.{IsDoc}
 use Rattle.bson_tree.specs.Spelling.{doc_bytes}
 use Rattle.bson_tree.specs.Tree.{Items}
-use Rattle.encrypt_schema.specs.Commands.Targets.{info_of, rows_of, verdict}
-use Rattle.encrypt_schema.specs.Commands.Visits.{Refusal, command_visits, content_of, content_verdict, first_refusal}
-use Rattle.encrypt_schema.specs.Commands.Visits.{or_else, target_of, view_of}
-use Rattle.encrypt_schema.specs.declared.command.reason.Reason.{Reason}
-use Rattle.encrypt_schema.specs.Language.Policies.{policy_at}
+use Rattle.encrypt_schema.specs.Commands.Targets.{rows_of}
+use Rattle.encrypt_schema.specs.Commands.Visits.{Refusal}
 use Rattle.fle_outside.specs.Blocks.{Block}
-use Rattle.doc_rewrite.specs.Opened.{HasAll, Keyring, opened}
-use Rattle.doc_rewrite.specs.SealedTrees.{IsSealedByStations, IsSealedValue}
-use Rattle.doc_rewrite.proofs.FromPlaces.{by_stations}
-use Rattle.doc_rewrite.proofs.OpensAgain.{opens_again, spelled_again}
-use Rattle.context_machine.specs.Rings.{found_in, key_if}
+use Rattle.doc_rewrite.specs.Opened.{Keyring, opened}
+use Rattle.doc_rewrite.specs.SealedTrees.{IsSealedByStations}
+use Rattle.doc_rewrite.proofs.OpensAgain.{opens_again, spelled_again, stations_of}
+use Rattle.context_machine.specs.Rings.{found_in}
 use Rattle.fle_stream.specs.Plan.{Verdict, writes, refused, too_long}
 use Rattle.fle_stream.specs.Streams.{Docs, doc, documents, ends}
 use Rattle.fle_engine.specs.Opening.{open_ruling, opened_or}
 use Rattle.fle_runner.specs.Decrypt.{decrypt_verdict}
-use Rattle.fle_runner.specs.Headline.{AreOpenable, AreReadable, AreSealedUnder, Setup, accepted, if_accepted}
-use Rattle.fle_runner.specs.Headline.{verdict_of}
+use Rattle.fle_runner.specs.Headline.{AreOpenable, AreReadable, AreSealedUnder, OpensAgain, Setup, accepted}
+use Rattle.fle_runner.specs.Headline.{if_accepted, verdict_of}
 use Rattle.fle_runner.specs.ReadBack.{ComesTo}
 use Rattle.fle_runner.specs.Verdicts.{as_verdict, plain_plan}
-use Rattle.fle_runner.proofs.Headline.{is_accepted}
+use Rattle.fle_runner.proofs.Headline.{contents_free, is_accepted}
 use Rattle.fle_runner.proofs.HeadlineReads.{AreRead, documents_read}
 use Rattle.fle_runner.specs.Encrypt.{at_front}
-
--- a key that is found is had
-found_had : (r : Result (List ℕ) Reason) (key : List ℕ) → key_if r ≡ Some key → r ≡ Ok key
-found_had (Ok other) key e = cc
-found_had (Err reason) key e = absurd cc
-
-all_had : (keys : Keyring) → HasAll keys (found_in keys)
-all_had keys id key e = found_had (keys id) key e
 
 -- a document that opens comes to the bytes of what it opens to
 opens_to : (keys : Keyring) (c d : Items) → opened keys (at_front d) ≡ Ok c
@@ -42,41 +30,27 @@ opens_to : (keys : Keyring) (c d : Items) → opened keys (at_front d) ≡ Ok c
 unfolding decrypt_verdict open_ruling
 opens_to keys c d e = ap (λ (r : Result Items Refusal). as_verdict d (opened_or r)) e
 
-pub come_back : (x : Setup) (cs : List Items) (blocks : List Block) (ds : List Items) → AreSealedUnder x cs blocks ds
-    → AreReadable x cs ds → ComesTo (decrypt_verdict x.keys) cs ds
-come_back x [] blocks [] sealed readable = tt
-come_back x [] blocks (d ∷ ds) sealed readable = absurd sealed
-come_back x (c ∷ cs) blocks [] sealed readable = absurd sealed
-come_back x (c ∷ cs) blocks (d ∷ ds) sealed readable =
+pub come_back : (x : Setup) (cs : List Items) (blocks : List Block) (ds : List Items) → OpensAgain x
+    → AreSealedUnder x cs blocks ds → AreReadable x cs ds → ComesTo (decrypt_verdict x.opens) cs ds
+come_back x [] blocks [] had sealed readable = tt
+come_back x [] blocks (d ∷ ds) had sealed readable = absurd sealed
+come_back x (c ∷ cs) blocks [] had sealed readable = absurd sealed
+come_back x (c ∷ cs) blocks (d ∷ ds) had sealed readable =
     let keys = found_in x.keys in
     let rows = rows_of x.infos c in
     let stations : IsSealedByStations keys rows c d =
-    by_stations (λ i t u. IsSealedValue keys (policy_at i rows) t u) rows c d sealed.3.command in
+    stations_of keys rows c d sealed.3.command in
     let small = readable.3 in
     let long : length (doc_bytes d) < 2 ^ 31 = omega (arith, small) in
-    let back = opens_again keys rows x.keys (at_front c) (at_front d) readable.0 readable.1 readable.2
-    (all_had x.keys) stations in (
+    let back = opens_again keys rows x.opens (at_front c) (at_front d) readable.0 readable.1 readable.2 had stations
+        in (
       spelled_again keys rows c d readable.0 stations long,
       small,
-      opens_to x.keys c d back,
-      come_back x cs sealed.1 ds sealed.4 readable.4,
+      opens_to x.opens c d back,
+      come_back x cs sealed.1 ds had sealed.4 readable.4,
     )
 
 -- ---- the commands of a run
-
-either_none : (a b : Option Refusal) → or_else a b ≡ None → b ≡ None
-either_none None b e = e
-either_none (Some r) b e = absurd cc
-
--- nothing is refused of the contents of an accepted command
-contents_free : (x : Setup) (c : Items) → verdict x.db x.infos 0 c ≡ None
-    → content_verdict (rows_of x.infos c) 0 c ≡ None
-contents_free x c e =
-    let rows = rows_of x.infos c in
-    let vs = command_visits rows 0 c in
-    let view = first_refusal (view_of (info_of x.infos c)) vs in
-    let content = first_refusal (content_of rows) vs in
-    either_none view content (either_none (first_refusal (target_of x.db) vs) (or_else view content) e)
 
 one_readable : (x : Setup) (b : Bool) (w : Verdict) (c : Items) (cs ds : List Items) → verdict_of x c ≡ w → IsDoc c
     → ((es : List Items) → AreOpenable x cs es → AreReadable x cs es)
@@ -97,10 +71,10 @@ readable x taken (doc n c docs) ds read openable =
     read.0.laid (λ es rest. readable x (taken + n) docs es read.1 rest) openable
 
 -- a run of `decrypt` over what a run of `encrypt` wrote
-pub run_back : (x : Setup) (told : List ℕ) (blocks : List Block) (ds : List Items) → All (λ b. b < 256) told
-    → AreSealedUnder x (accepted (verdict_of x) 0 (documents told)) blocks ds
+pub run_back : (x : Setup) (told : List ℕ) (blocks : List Block) (ds : List Items) → OpensAgain x
+    → All (λ b. b < 256) told → AreSealedUnder x (accepted (verdict_of x) 0 (documents told)) blocks ds
     → AreOpenable x (accepted (verdict_of x) 0 (documents told)) ds
-    → ComesTo (decrypt_verdict x.keys) (accepted (verdict_of x) 0 (documents told)) ds
-run_back x told blocks ds all sealed openable =
-    come_back x (accepted (verdict_of x) 0 (documents told)) blocks ds sealed
+    → ComesTo (decrypt_verdict x.opens) (accepted (verdict_of x) 0 (documents told)) ds
+run_back x told blocks ds had all sealed openable =
+    come_back x (accepted (verdict_of x) 0 (documents told)) blocks ds had sealed
     (readable x 0 (documents told) ds (documents_read told all) openable)

@@ -6,9 +6,11 @@ use Rattle.std.specs.List.{All}
 use Rattle.std.proofs.lemmas.Bool.Decides.{nat_tests}
 use Rattle.bson_tree.specs.Tree.{Items}
 use Rattle.encrypt_schema.specs.Language.Collection.{Collection}
-use Rattle.context_machine.specs.Rings.{ring}
+use Rattle.context_machine.proofs.FoundKeys.{all_found}
+use Rattle.context_machine.proofs.Vaults.{distinct_ids, loaded_distinct}
+use Rattle.context_machine.specs.Rings.{Finder, finder, found_in, ring}
 use Rattle.data_key.specs.declared.key_doc.KeyDoc.{KeyDoc}
-use Rattle.doc_rewrite.specs.Opened.{Keyring}
+use Rattle.doc_rewrite.specs.Opened.{HasAll, Keyring}
 use Rattle.fle_outside.specs.Blocks.{Block}
 use Rattle.fle_outside.specs.Files.{Files, file_of}
 use Rattle.fle_outside.specs.Seen.{EntropySeen, SinkSeen}
@@ -24,8 +26,8 @@ use Rattle.key_vault.specs.Loading.{vault}
 use Rattle.local_kms.specs.Master.{master_in}
 use Rattle.fle_runner.specs.Decrypt.{decrypt_task, decrypt_verdict}
 use Rattle.fle_runner.specs.Encrypt.{encrypt_verdict}
-use Rattle.fle_runner.specs.Headline.{AreByUuid, AreReadable, AreSealedUnder, SealsFirst, SealsStream, Setup}
-use Rattle.fle_runner.specs.Headline.{verdict_of}
+use Rattle.fle_runner.specs.Headline.{AreByUuid, AreReadable, AreSealedUnder, OpensAgain, SealsFirst}
+use Rattle.fle_runner.specs.Headline.{SealsStream, Setup, verdict_of}
 use Rattle.fle_runner.specs.HeadlineFiles.{HoldKeys, HoldSetup, HoldsBytes, IsDecrypt, IsEncrypt, IsMark}
 use Rattle.fle_runner.specs.Mark.{mark_verdict}
 use Rattle.fle_files.specs.Infos.{infos_read}
@@ -49,15 +51,15 @@ leads number limit all name bytes next held =
     ap (λ (file : Option (List ℕ)). with_file number limit file next) held.there ∙ rw short refl
 
 -- a task by what the files hold
-pub files_lead_to : (all : Files) (keys schemas master : List ℕ) (x : Setup) (to : Keyring → List Collection → Task)
+pub files_lead_to : (all : Files) (keys schemas master : List ℕ) (x : Setup) (to : Finder → List Collection → Task)
     → HoldSetup all keys schemas master x
     → with_vault 1 (file_of all keys) (λ held. with_infos 2 (file_of all schemas) (λ infos.
-    with_master 3 (file_of all master) (λ key. to (ring held key) infos)))
+    with_master 3 (file_of all master) (λ key. to (finder held key) infos)))
     ≡ to x.keys x.infos
 files_lead_to all keys schemas master x to h =
     let k = h.held in
     let third : List KeyDoc → List Collection → List ℕ → Task =
-    λ (held : List KeyDoc) (infos : List Collection) (key : List ℕ). to (ring held key) infos in
+    λ (held : List KeyDoc) (infos : List Collection) (key : List ℕ). to (finder held key) infos in
     let second : List KeyDoc → List Collection → Task =
     λ (held : List KeyDoc) (infos : List Collection). with_master 3 (file_of all master) (third held infos) in
     let first : List KeyDoc → Task =
@@ -71,22 +73,23 @@ files_lead_to all keys schemas master x to h =
     (master_in bytes))
     k.master_file
     ∙ ap (master_or 3 (third k.vault_keys x.infos)) k.master_says
-    ∙ ap (λ (ks : Keyring). to ks x.infos) (sym k.opens)
+    ∙ ap (λ (ks : Finder). to ks x.infos) (sym k.finds)
 
 -- what each command of the run comes to
 pub files_lead : (all : Files) (keys schemas master : List ℕ) (x : Setup) → HoldSetup all keys schemas master x
     → with_vault 1 (file_of all keys) (λ held. with_infos 2 (file_of all schemas) (λ infos.
-    with_master 3 (file_of all master) (λ key. each (encrypt_verdict (ring held key) infos x.db))))
+    with_master 3 (file_of all master) (λ key. each (encrypt_verdict (finder held key) infos x.db))))
     ≡ each (verdict_of x)
 files_lead all keys schemas master x h =
     files_lead_to all keys schemas master x
-    (λ (ks : Keyring) (infos : List Collection). each (encrypt_verdict ks infos x.db)) h
+    (λ (ks : Finder) (infos : List Collection). each (encrypt_verdict ks infos x.db)) h
 
 -- the data keys are had by UUIDs
-pub held_uuids : (all : Files) (keys master : List ℕ) (opened : Keyring) → HoldKeys all keys master opened
-    → AreByUuid opened
-held_uuids all keys master opened h =
-    subst AreByUuid (sym h.opens) (vault_uuids h.vault_bytes h.master_key h.vault_keys h.vault_says)
+pub held_uuids : (all : Files) (keys schemas master : List ℕ) (x : Setup) → HoldSetup all keys schemas master x
+    → AreByUuid x.keys
+held_uuids all keys schemas master x h =
+    let k = h.held in
+    subst AreByUuid (sym k.finds) (vault_uuids k.vault_bytes k.master_key k.vault_keys k.vault_says)
 
 -- words and files ask that each command be sealed
 pub task_is : (now : ℕ) (words : List (List ℕ)) (all : Files) (x : Setup) → IsEncrypt words all x
@@ -111,7 +114,7 @@ pub encrypts : (now : ℕ) (words : List (List ℕ)) (all : Files) (told : List 
     → Whole (outcome_of (task now words all) told) entropy entropy_after out out_after
     → SealsStream x told entropy entropy_after out out_after
 encrypts now words all told x entropy entropy_after out out_after h bytes w =
-    seals_stream x told entropy entropy_after out out_after (held_uuids all h.keys h.master x.keys h.files.held) bytes
+    seals_stream x told entropy entropy_after out out_after (held_uuids all h.keys h.schemas h.master x h.files) bytes
     (subst (λ (t : Task). Whole (outcome_of t told) entropy entropy_after out out_after) (task_is now words all x h) w)
 
 -- and of one that something cut short
@@ -121,13 +124,13 @@ pub encrypts_first : (now : ℕ) (words : List (List ℕ)) (all : Files) (told :
     → Did (task now words all) told after entropy entropy_after out out_after number why
     → SealsFirst x told entropy entropy_after out out_after
 encrypts_first now words all told x h bytes did =
-    seals_first x told (held_uuids all h.keys h.master x.keys h.files.held) bytes
+    seals_first x told (held_uuids all h.keys h.schemas h.master x h.files) bytes
     (did_task (sym (task_is now words all x h)) did).ran
 
 -- words and files ask that each document be opened
-keys_lead : (all : Files) (keys master : List ℕ) (opened : Keyring) → HoldKeys all keys master opened
-    → decrypt_task (file_of all keys) (file_of all master) ≡ each (decrypt_verdict opened)
-keys_lead all keys master opened h =
+keys_lead : (all : Files) (keys master : List ℕ) (x : Setup) → HoldKeys all keys master x
+    → decrypt_task (file_of all keys) (file_of all master) ≡ each (decrypt_verdict x.opens)
+keys_lead all keys master x h =
     let second : List KeyDoc → List ℕ → Task =
     λ (held : List KeyDoc) (key : List ℕ). each (decrypt_verdict (ring held key)) in
     let first : List KeyDoc → Task =
@@ -139,20 +142,30 @@ keys_lead all keys master opened h =
     ∙ ap (master_or 2 (second h.vault_keys)) h.master_says
     ∙ ap (λ (ks : Keyring). each (decrypt_verdict ks)) (sym h.opens)
 
-opening_is : (now : ℕ) (words : List (List ℕ)) (all : Files) (opened : Keyring) → IsDecrypt words all opened
-    → task now words all ≡ each (decrypt_verdict opened)
-opening_is now words all opened h =
-    ap (λ (form : Option Form). task_of now form all) h.form ∙ keys_lead all h.keys h.master opened h.files
+opening_is : (now : ℕ) (words : List (List ℕ)) (all : Files) (x : Setup) → IsDecrypt words all x
+    → task now words all ≡ each (decrypt_verdict x.opens)
+opening_is now words all x h =
+    ap (λ (form : Option Form). task_of now form all) h.form ∙ keys_lead all h.keys h.master x h.files
+
+-- each data key that is had for sealing is had by its id for opening
+pub opens_held : (all : Files) (keys master : List ℕ) (x : Setup) → HoldKeys all keys master x → OpensAgain x
+opens_held all keys master x h =
+    let again : HasAll (ring h.vault_keys h.master_key) (found_in (finder h.vault_keys h.master_key)) =
+    all_found h.vault_keys h.master_key
+    (distinct_ids h.vault_keys (loaded_distinct h.vault_bytes h.vault_keys h.vault_says)) in
+    subst (λ (opened : Keyring). HasAll opened (found_in x.keys)) (sym h.opens)
+    (subst (λ (found : Finder). HasAll (ring h.vault_keys h.master_key) (found_in found)) (sym h.finds) again)
 
 -- what a run of `decrypt` over sealed commands comes to
 pub decrypts : (now : ℕ) (words : List (List ℕ)) (all : Files) (x : Setup) (commands : List Items)
     (blocks : List Block) (sealed : List Items)
-    → IsDecrypt words all x.keys → AreSealedUnder x commands blocks sealed → AreReadable x commands sealed
-    → length (stream sealed) < 2 ^ 40
+    → IsDecrypt words all x → AreSealedUnder x commands blocks sealed
+    → AreReadable x commands sealed → length (stream sealed) < 2 ^ 40
     → outcome_of (task now words all) (stream sealed) ≡ read_whole commands sealed
 decrypts now words all x commands blocks sealed h each_sealed readable few =
-    ap (λ (t : Task). outcome_of t (stream sealed)) (opening_is now words all x.keys h)
-    ∙ reads_back (decrypt_verdict x.keys) commands sealed (come_back x commands blocks sealed each_sealed readable) few
+    ap (λ (t : Task). outcome_of t (stream sealed)) (opening_is now words all x h)
+    ∙ reads_back (decrypt_verdict x.opens) commands sealed
+    (come_back x commands blocks sealed (opens_held all h.keys h.master x h.files) each_sealed readable) few
 
 -- opening draws no block
 no_draws : (commands sealed : List Items) → draws_of (outputs_back commands sealed) ≡ 0
@@ -169,14 +182,15 @@ no_block (b ∷ bs) none = absurd cc
 -- so the commands are what is written
 pub opened_gains : (x : Setup) (commands : List Items) (blocks : List Block) (sealed : List Items) (o : Outcome)
     (entropy entropy_after : EntropySeen) (out out_after : SinkSeen)
-    → AreSealedUnder x commands blocks sealed → AreReadable x commands sealed → o ≡ read_whole commands sealed
+    → OpensAgain x → AreSealedUnder x commands blocks sealed → AreReadable x commands sealed
+    → o ≡ read_whole commands sealed
     → Whole o entropy entropy_after out out_after → Gains out.told out_after.told (stream commands)
-opened_gains x commands blocks sealed o entropy entropy_after out out_after each_sealed readable is w =
-    let comes = come_back x commands blocks sealed each_sealed readable in
+opened_gains x commands blocks sealed o entropy entropy_after out out_after had each_sealed readable is w =
+    let comes = come_back x commands blocks sealed had each_sealed readable in
     let none : length w.drawn ≡ 0 =
     w.enough ∙ (ap (λ (p : Outcome). draws_of p.outputs) is ∙ no_draws commands sealed) in
     let bytes : written o.outputs w.drawn ≡ stream commands =
     ap (λ (p : Outcome). written p.outputs w.drawn) is
     ∙ (ap (λ (bs : List Block). written (read_whole commands sealed).outputs bs) (no_block w.drawn none)
-    ∙ writes_back (decrypt_verdict x.keys) commands sealed comes) in
+    ∙ writes_back (decrypt_verdict x.opens) commands sealed comes) in
     subst (λ (more : List ℕ). Gains out.told out_after.told more) bytes w.gains

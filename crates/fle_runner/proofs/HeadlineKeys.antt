@@ -6,7 +6,8 @@ use Rattle.std.proofs.lemmas.Slice.Eq.{bytes_eq-Decides}
 use Rattle.bson_tree.specs.Tree.{Items}
 use Rattle.bson_codec.specs.declared.fault.BsonFault.{BsonFault}
 use Rattle.bson_codec.specs.Reading.{front_document}
-use Rattle.context_machine.specs.Rings.{reasoned, ring}
+use Rattle.context_machine.specs.Kept.{key_by, meets}
+use Rattle.context_machine.specs.Rings.{by_ids, finder, found_key, reasoned, ring, with_own}
 use Rattle.data_key.specs.Key.{◌>>=◌, id_in, key_in, material_in, names_in, or_fault, provider_in}
 use Rattle.data_key.specs.Standings.{Standing, absent, once, repeated, standing}
 use Rattle.data_key.specs.Values.{contents_of, of_length}
@@ -14,7 +15,10 @@ use Rattle.data_key.specs.declared.key_doc.KeyDoc.{KeyDoc}
 use Rattle.data_key.specs.declared.key_doc.KeyFault.{KeyFault}
 use Rattle.data_key.specs.declared.key_doc.Provider.{Provider}
 use Rattle.data_key.specs.declared.key_doc.KeyFault.TheVariants as key_faults
-use Rattle.key_vault.specs.Keys.{key_by_id}
+use Rattle.doc_rewrite.specs.Keys.{Found}
+use Rattle.encrypt_schema.specs.declared.command.reason.Reason.{Reason}
+use Rattle.key_vault.specs.Keys.{first_key, has_id, key_by_id}
+use Rattle.payload6.specs.Needs.{Need, Id, Name}
 use Rattle.key_vault.specs.Loading.{Faulty, and_others, are_new, front_key, in_front, is_id_known, is_name_known}
 use Rattle.key_vault.specs.Loading.{judged, key_behind, key_limit, keys_from, vault, with_rest}
 use Rattle.key_vault.specs.Lookup.{key_of, opened_key}
@@ -73,6 +77,12 @@ key_long is key e =
     (or_fault key_faults.Material (material_in (standing (codes "keyMaterial") is)))
     (or_fault key_faults.Provider (provider_in (standing (codes "masterKey") is))) key e in
     id_long s key.id (said key_faults.Id (id_in s) key.id first)
+
+abbrev found_made : Found → Result Found Reason
+found_made found = Ok found
+
+found_is : (a b : Found) → found_made a ≡ found_made b → a ≡ b
+found_is a b e = cc
 
 -- ---- the keys of a file
 
@@ -146,18 +156,51 @@ vault_long : (bytes : List ℕ) (keys : List KeyDoc) → vault bytes ≡ Ok keys
 unfolding vault
 vault_long bytes keys e = from_long (length bytes) [] bytes keys tt e
 
--- ---- the key of an id
+-- ---- the key of a need
+
+first_by : (b : Bool) (k key : KeyDoc) (others : Option KeyDoc) → cond b (Some k) others ≡ Some key
+    → length k.id ≡ 16 → (others ≡ Some key → length key.id ≡ 16) → length key.id ≡ 16
+first_by true k key others e long behind =
+    let same : k ≡ key = cc in
+    sym (ap (λ (d : KeyDoc). length d.id) same) ∙ long
+first_by false k key others e long behind = behind e
+
+first_long : (test : KeyDoc → Bool) (keys : List KeyDoc) (key : KeyDoc) → AreLong keys → first_key test keys ≡ Some key
+    → length key.id ≡ 16
+first_long test [] key long e = absurd cc
+first_long test (k ∷ ks) key long e =
+    first_by (test k) k key (first_key test ks) e long.0 (λ behind. first_long test ks key long.1 behind)
 
 found_by : (b : Bool) (k key : KeyDoc) (id : List ℕ) (others : Option KeyDoc) → bytes_eq k.id id ≡ b
-    → cond b (Some k) others ≡ Some key → length k.id ≡ 16 → (others ≡ Some key → length id ≡ 16) → length id ≡ 16
-found_by true k key id others is e long behind = sym (ap length ((bytes_eq-Decides k.id id).0 is)) ∙ long
-found_by false k key id others is e long behind = behind e
+    → cond b (Some k) others ≡ Some key → (others ≡ Some key → key.id ≡ id) → key.id ≡ id
+found_by true k key id others is e behind =
+    let same : k ≡ key = cc in
+    sym (ap (λ (d : KeyDoc). d.id) same) ∙ (bytes_eq-Decides k.id id).0 is
+found_by false k key id others is e behind = behind e
 
-found_long : (keys : List KeyDoc) (id : List ℕ) (key : KeyDoc) → AreLong keys → key_by_id keys id ≡ Some key
-    → length id ≡ 16
-found_long [] id key long e = absurd cc
-found_long (k ∷ ks) id key long e =
-    found_by (bytes_eq k.id id) k key id (key_by_id ks id) refl e long.0 (λ behind. found_long ks id key long.1 behind)
+-- the key of an id has it
+has_it : (keys : List KeyDoc) (id : List ℕ) (key : KeyDoc) → key_by_id keys id ≡ Some key → key.id ≡ id
+has_it [] id key e = absurd cc
+has_it (k ∷ ks) id key e =
+    found_by (bytes_eq k.id id) k key id (key_by_id ks id) refl e (λ behind. has_it ks id key behind)
+
+own_id : (id : List ℕ) (r : Result (List ℕ) Reason) (found : Found) → with_own id r ≡ Ok found → found.id ≡ id
+own_id id (Ok key) found e =
+    let same : found_made (record { id = id; key = key }) ≡ found_made found = e in
+    sym (ap (λ (f : Found). f.id) (found_is (record { id = id; key = key }) found same))
+own_id id (Err reason) found e = absurd cc
+
+key_had : (master : List ℕ) (keys : List KeyDoc) (o : Option KeyDoc) (found : Found)
+    → ((key : KeyDoc) → o ≡ Some key → length key.id ≡ 16) → found_key master o ≡ Ok found → length found.id ≡ 16
+key_had master keys None found long e = absurd cc
+key_had master keys (Some key) found long e =
+    ap length (own_id key.id (reasoned (opened_key master (Some key))) found e) ∙ long key refl
+
+-- the data keys of a vault are had by UUIDs alone, by whatever they are looked up
+pub vault_uuids : (bytes master : List ℕ) (keys : List KeyDoc) → vault bytes ≡ Ok keys → AreByUuid (finder keys master)
+vault_uuids bytes master keys e need found is =
+    key_had master keys (key_by keys need) found
+    (λ key at. first_long (meets need) keys key (vault_long bytes keys e) at) is
 
 opened_is : (master : List ℕ) (o : Option KeyDoc) (key : List ℕ) → opened_key master o ≡ Ok key
     → (k : KeyDoc) × (o ≡ Some k)
@@ -168,13 +211,23 @@ reasoned_is : (r : Result (List ℕ) Keyless) (key : List ℕ) → reasoned r �
 reasoned_is (Ok k) key e = cc
 reasoned_is (Err why) key e = absurd cc
 
-had_long : (keys : List KeyDoc) (master id key : List ℕ) → AreLong keys → key_of keys master id ≡ Ok key
+id_long_by : (keys : List KeyDoc) (master id key : List ℕ) → AreLong keys → key_of keys master id ≡ Ok key
     → length id ≡ 16
 unfolding key_of
-had_long keys master id key long e =
+id_long_by keys master id key long e =
     let found = opened_is master (key_by_id keys id) key e in
-    found_long keys id found.0 long found.1
+    sym (ap length (has_it keys id found.0 found.1)) ∙ first_long (has_id id) keys found.0 long found.1
 
-pub vault_uuids : (bytes master : List ℕ) (keys : List KeyDoc) → vault bytes ≡ Ok keys → AreByUuid (ring keys master)
-vault_uuids bytes master keys e id key is =
-    had_long keys master id key (vault_long bytes keys e) (reasoned_is (key_of keys master id) key is)
+own_had : (id : List ℕ) (r : Result (List ℕ) Reason) (found : Found) → with_own id r ≡ Ok found
+    → (key : List ℕ) × (r ≡ Ok key)
+own_had id (Ok key) found e = (key, refl)
+own_had id (Err reason) found e = absurd cc
+
+-- and so are those that are looked up by ids alone
+pub vault_ids : (bytes master : List ℕ) (keys : List KeyDoc) → vault bytes ≡ Ok keys
+    → AreByUuid (by_ids (ring keys master))
+vault_ids bytes master keys e (Id id) found is =
+    let had = own_had id (ring keys master id) found is in
+    ap length (own_id id (ring keys master id) found is)
+    ∙ id_long_by keys master id had.0 (vault_long bytes keys e) (reasoned_is (key_of keys master id) had.0 had.1)
+vault_ids bytes master keys e (Name name) found is = absurd cc

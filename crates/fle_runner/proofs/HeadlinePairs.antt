@@ -6,8 +6,7 @@ use Rattle.std.proofs.lemmas.List.{length-drop, length-take-le, nil_from_length,
 use Rattle.std.proofs.lemmas.List.Elements.{All-drop, All-take}
 use Rattle.bson_tree.specs.Spelling.{items_bytes}
 use Rattle.bson_tree.specs.Tree.{Items}
-use Rattle.context_machine.specs.Rings.{found_in}
-use Rattle.doc_rewrite.specs.Opened.{Keyring}
+use Rattle.context_machine.specs.Rings.{Finder, found_in}
 use Rattle.doc_rewrite.specs.Sealed.{sealed}
 use Rattle.encrypt_schema.specs.Language.Collection.{Collection}
 use Rattle.fle_outside.specs.Blocks.{AreBlocks, Block, IsBlock}
@@ -197,7 +196,7 @@ pub pairs_task : (now : ℕ) (words : List (List ℕ)) (all : Files) (x : Setup)
 pairs_task now words all x h =
     ap (λ (form : Option Form). task_of now form all) h.form
     ∙ files_lead_to all h.keys h.schemas h.master x
-    (λ (ks : Keyring) (infos : List Collection). pairs (encrypt_pairing ks infos x.db)) h.files
+    (λ (ks : Finder) (infos : List Collection). pairs (encrypt_pairing ks infos x.db)) h.files
 
 pub encrypts_pairs : (now : ℕ) (words : List (List ℕ)) (all : Files) (told : List ℕ) (x : Setup)
     (entropy entropy_after : EntropySeen) (out out_after : SinkSeen)
@@ -205,7 +204,7 @@ pub encrypts_pairs : (now : ℕ) (words : List (List ℕ)) (all : Files) (told :
     → Whole (outcome_of (task now words all) told) entropy entropy_after out out_after
     → SealsAllOf x (commands_in x told) entropy entropy_after out out_after
 encrypts_pairs now words all told x entropy entropy_after out out_after h bytes w =
-    pairs_sealed x told entropy entropy_after out out_after (held_uuids all h.keys h.master x.keys h.files.held) bytes
+    pairs_sealed x told entropy entropy_after out out_after (held_uuids all h.keys h.schemas h.master x h.files) bytes
     (subst (λ (t : Task). Whole (outcome_of t told) entropy entropy_after out out_after) (pairs_task now words all x h)
     w)
 
@@ -215,5 +214,5 @@ pub encrypts_pairs_first : (now : ℕ) (words : List (List ℕ)) (all : Files) (
     → Did (task now words all) told after entropy entropy_after out out_after number why
     → SealsFirstOf x (commands_in x told) entropy entropy_after out out_after
 encrypts_pairs_first now words all told x h bytes did =
-    pairs_first x told (held_uuids all h.keys h.master x.keys h.files.held) bytes
+    pairs_first x told (held_uuids all h.keys h.schemas h.master x h.files) bytes
     (did_task (sym (pairs_task now words all x h)) did).ran

@@ -1,7 +1,7 @@
 -- What commands with equal skeletons come to: alike outputs, or the same refusal at the same place.
 use Rattle.std.proofs.Common.{◌≡◌, ℕ, ◌+◌, ◌∙◌, Bool, true, false, cond, nat_lt, Option, Some, None, List, [], ◌∷◌}
 use Rattle.std.proofs.Common.{◌++◌}
-use Rattle.std.proofs.Common.{length, map, option_and_then, refl, sym, ap, subst, arith}
+use Rattle.std.proofs.Common.{length, map, option_and_then, option_map, refl, sym, ap, subst, arith}
 use Rattle.bson_tree.specs.Places.{place_of, places}
 use Rattle.bson_tree.specs.Spelling.{doc_bytes, items_bytes}
 use Rattle.bson_tree.specs.Tree.{Items}
@@ -13,9 +13,9 @@ use Rattle.encrypt_schema.specs.Commands.Skeletons.{skeleton, widths_of}
 use Rattle.encrypt_schema.specs.Commands.Stations.{Station, Store, Compare, Outside, has_role, station}
 use Rattle.encrypt_schema.specs.Commands.Targets.{info_of, rows_of, verdict}
 use Rattle.encrypt_schema.specs.Commands.Visits.{Refusal, Visit, command_entry, command_visits, first_refusal, mark_at}
-use Rattle.encrypt_schema.specs.Commands.Visits.{marks, or_else, refused_at, roles, station_of}
+use Rattle.encrypt_schema.specs.Commands.Pointers.{Targets, nth_target}
+use Rattle.encrypt_schema.specs.Commands.Visits.{marks, or_else, refused_at, roles, station_of, text_at, texts}
 use Rattle.encrypt_schema.specs.Language.Collection.{Collection}
-use Rattle.encrypt_schema.specs.Language.Policies.{policy_at}
 use Rattle.encrypt_schema.specs.Language.Row.{Row}
 use Rattle.encrypt_schema.proofs.Commands.ByPlace.{refusal_by_place}
 use Rattle.encrypt_schema.proofs.Commands.Refused.{equal_refusal_at, found, refused_shown}
@@ -24,18 +24,19 @@ use Rattle.encrypt_schema.proofs.Commands.Tables.{station_without, without}
 use Rattle.encrypt_schema.proofs.Commands.TwoWorlds.{equal_roles, equal_rows, equal_verdicts}
 use Rattle.encrypt_schema.proofs.Commands.Widths.{widths_kept}
 use Rattle.encrypt_schema.proofs.Commands.Worlds.{IsVeiled}
-use Rattle.payload6.specs.Marking.{key_id}
 use Rattle.command_marker.specs.Marked.{marked}
 use Rattle.command_marker.specs.Reply.{is_ruled, reply_limit, reply_to}
 use Rattle.command_marker.specs.Splices.{added}
 use Rattle.command_marker.specs.Written.{IsPlan, growth_by}
+use Rattle.command_marker.proofs.EqualGrowth.{equal_growth}
 use Rattle.command_marker.proofs.Planned.{planned}
 use Rattle.command_marker.proofs.Replies.{reply_size}
 use Rattle.command_marker.proofs.ToldPlaces.{equal_told, told_there}
-use Rattle.context_machine.specs.Rings.{first_keyless, need_of, needs_of}
-use Rattle.doc_rewrite.specs.Opened.{Keyring, reason_in}
+use Rattle.context_machine.specs.Needs.{NeedAt}
+use Rattle.context_machine.specs.Rings.{Finder, first_keyless, needs_of, reason_of}
+use Rattle.context_machine.proofs.EqualNeeds.{equal_draws, equal_needs, equal_sizes, named_by, needs_by_texts, told_by}
 use Rattle.doc_rewrite.specs.SealedTrees.{rule_of}
-use Rattle.doc_rewrite.specs.Sites.{draws_of, grown, sites_of}
+use Rattle.doc_rewrite.specs.Sites.{sites_of}
 use Rattle.fle_engine.specs.Replies.{mark_ruling, replies}
 use Rattle.fle_engine.specs.Rulings.{Ruling, at_front, by_refusal, makes, plain_plan, ruling_with, sized_plan, too_long}
 use Rattle.fle_engine.specs.Sealing.{seal_ruling, seal_under, sealed_plan}
@@ -60,13 +61,13 @@ equal_lengths rows c d e =
     omega (arith, items_equal rows c d e, framed_size (items_bytes c), framed_size (items_bytes d))
 
 marked_size : (rows : List Row) (c : Items) → IsPlan rows (at_front c) (roles rows 0 c)
-    → length (doc_bytes (marked rows c)) ≡ length (doc_bytes c) + added (growth_by rows) (roles rows 0 c)
+    → length (doc_bytes (marked rows c)) ≡ length (doc_bytes c) + added (growth_by rows (at_front c)) (roles rows 0 c)
 marked_size rows c plan =
     let same = ap (λ (is : Items). length (items_bytes is)) plan.made in
     omega (arith, same, plan.size, framed_size (items_bytes c), framed_size (items_bytes (marked rows c)))
 
 reply_long : (rows : List Row) (c : Items)
-    → length (reply_to rows c) ≡ length (doc_bytes c) + added (growth_by rows) (roles rows 0 c) + 80
+    → length (reply_to rows c) ≡ length (doc_bytes c) + added (growth_by rows (at_front c)) (roles rows 0 c) + 80
 unfolding reply_to
 reply_long rows c =
     omega (
@@ -79,51 +80,54 @@ reply_long rows c =
 reply_equal : (rows : List Row) (c d : Items) → skeleton rows c ≡ skeleton rows d
     → length (reply_to rows c) ≡ length (reply_to rows d)
 reply_equal rows c d e =
-    let same = ap (added (growth_by rows)) (equal_roles rows 0 c d e) in
-    omega (arith, reply_long rows c, reply_long rows d, equal_lengths rows c d e, same)
+    omega (arith, reply_long rows c, reply_long rows d, equal_lengths rows c d e, equal_growth rows 0 c d e)
 
 -- ---- the first value whose key isn't to be had, as a pass over the places of a command
 
-module _ (keys : Keyring) (rows : List Row) where
-  abbrev key_reason : ℕ → Option Reason
-  key_reason i = reason_in (keys (key_id (policy_at i rows).key))
+module _ (keys : Finder) (rows : List Row) where
+  -- among these targets
+  abbrev key_reason : Targets → ℕ → Option Reason
+  key_reason ts i = reason_of (keys (named_by rows i (option_map (λ t. t.text) (nth_target i ts))))
 
-  abbrev station_reason : Station → Option Reason
-  station_reason s = option_and_then key_reason (rule_of s)
+  abbrev station_reason : Targets → Station → Option Reason
+  station_reason ts s = option_and_then (key_reason ts) (rule_of s)
 
   abbrev keyless_of : Visit → Option Reason
-  keyless_of v = station_reason (station_of rows v)
+  keyless_of v = station_reason v.targets (station_of rows v)
 
   keyless_quiet : IsQuiet keyless_of
-  keyless_quiet = record { clear = λ v h. ap station_reason (child_passed rows v.parent v.entry h) }
+  keyless_quiet = record { clear = λ v h. ap (station_reason v.targets) (child_passed rows v.parent v.entry h) }
 
   keyless_by : (v : Visit) (b : Bool) → has_role (station_of rows v) ≡ b
-      → station_reason (station rows v.parent (cond b (without v.entry) v.entry)) ≡ keyless_of v
-  keyless_by v true h = ap station_reason (station_without rows v.parent v.entry h)
+      → station_reason v.targets (station rows v.parent (cond b (without v.entry) v.entry)) ≡ keyless_of v
+  keyless_by v true h = ap (station_reason v.targets) (station_without rows v.parent v.entry h)
   keyless_by v false h = refl
 
   keyless_veiled : IsVeiled keyless_of rows
   keyless_veiled = record { read = λ v. keyless_by v (has_role (station_of rows v)) refl }
 
-  keyless_next : (v : Visit) (s : Station) (ms : List Mark) (later : Option Refusal)
-      → first_keyless keys (map need_of (sites_of rows ms)) ≡ later
-      → first_keyless keys (map need_of (sites_of rows (mark_at s v ++ ms)))
-      ≡ or_else (refused_at v.start (station_reason s)) later
-  keyless_next v (Store i) ms later e = ap (or_else (refused_at v.start (key_reason i))) e
-  keyless_next v (Compare i) ms later e = ap (or_else (refused_at v.start (key_reason i))) e
-  keyless_next v _ ms later e = e
+  keyless_next : (v : Visit) (s : Station) (ms : List Mark) (xs : List (Option (List ℕ))) (later : Option Refusal)
+      → first_keyless keys (told_by rows ms xs) ≡ later
+      → first_keyless keys (told_by rows (mark_at s v ++ ms) (text_at s v ++ xs))
+      ≡ or_else (refused_at v.start (station_reason v.targets s)) later
+  keyless_next v (Store i) ms xs later e = ap (or_else (refused_at v.start (key_reason v.targets i))) e
+  keyless_next v (Compare i) ms xs later e = ap (or_else (refused_at v.start (key_reason v.targets i))) e
+  keyless_next v _ ms xs later e = e
 
   keyless_pass : (vs : List Visit)
-      → first_keyless keys (map need_of (sites_of rows (marks rows vs))) ≡ first_refusal keyless_of vs
+      → first_keyless keys (told_by rows (marks rows vs) (texts rows vs)) ≡ first_refusal keyless_of vs
   keyless_pass [] = refl
   keyless_pass (v ∷ vs) =
-      keyless_next v (station_of rows v) (marks rows vs) (first_refusal keyless_of vs) (keyless_pass vs)
+      keyless_next v (station_of rows v) (marks rows vs) (texts rows vs) (first_refusal keyless_of vs)
+      (keyless_pass vs)
 
   -- of two commands with equal skeletons it is told at one place
   keyless_told : (c d : Items) (r : Refusal) → skeleton rows c ≡ skeleton rows d
       → first_keyless keys (needs_of rows (at_front c)) ≡ Some r → place_of r.at c ≡ place_of r.at d
   keyless_told c d r e h =
-      let first = sym (refusal_by_place keyless_of rows 0 c) ∙ (sym (keyless_pass (command_visits rows 0 c)) ∙ h) in
+      let first = sym (refusal_by_place keyless_of rows 0 c)
+      ∙ (sym (keyless_pass (command_visits rows 0 c))
+      ∙ (sym (ap (first_keyless keys) (needs_by_texts rows (at_front c))) ∙ h)) in
       let at = found (refusal_at keyless_of rows 0 c) (places c) r first in
       let shown = refused_shown keyless_of rows c at.place r keyless_quiet at.is in
       let there = sym (equal_refusal_at keyless_of rows c d at.place keyless_veiled e shown) ∙ at.is in
@@ -176,23 +180,21 @@ mark_alike infos db c d e =
     (sized_alike c d (plain_plan (reply_to rows c)) (plain_plan (reply_to rows d))
     (record { draws = refl; size = reply_equal rows c d e }))
 
-seal_alike : (keys : Keyring) (rows : List Row) (c d : Items) → skeleton rows c ≡ skeleton rows d
+seal_alike : (keys : Finder) (rows : List Row) (c d : Items) → skeleton rows c ≡ skeleton rows d
     → AreAlike c d (seal_under keys rows c) (seal_under keys rows d)
 seal_alike keys rows c d e =
-    let same = equal_roles rows 0 c d e in
-    let p = sealed_plan keys (sites_of rows (roles rows 0 c)) c in
-    let q = sealed_plan keys (sites_of rows (roles rows 0 d)) d in
-    let more = ap (λ (ms : List Mark). grown (sites_of rows ms)) same in
+    let p = sealed_plan keys (sites_of rows (at_front c) (roles rows 0 c)) c in
+    let q = sealed_plan keys (sites_of rows (at_front d) (roles rows 0 d)) d in
     let plans : ArePlansAlike p q = record {
-      draws = ap (λ (ms : List Mark). draws_of (sites_of rows ms)) same;
-      size = omega (arith, equal_lengths rows c d e, more);
+      draws = equal_draws rows (at_front c) (at_front d) refl e;
+      size = equal_sizes rows (at_front c) (at_front d) refl e;
     } in
-    subst (λ (ms : List Mark). AreAlike c d (seal_under keys rows c)
-    (by_refusal (first_keyless keys (map need_of (sites_of rows ms))) (sized_plan q))) same
+    subst (λ (ns : List NeedAt). AreAlike c d (seal_under keys rows c)
+    (by_refusal (first_keyless keys ns) (sized_plan q))) (equal_needs rows (at_front c) (at_front d) refl e)
     (by_alike c d (first_keyless keys (needs_of rows (at_front c))) (sized_plan p) (sized_plan q)
     (λ r is. keyless_told keys rows c d r e is) (sized_alike c d p q plans))
 
-pub encrypt_alike : (keys : Keyring) (infos : List Collection) (db : List ℕ) (c d : Items)
+pub encrypt_alike : (keys : Finder) (infos : List Collection) (db : List ℕ) (c d : Items)
     → skeleton (rows_of infos c) c ≡ skeleton (rows_of infos c) d
     → AreVerdictsAlike (encrypt_verdict keys infos db c) (encrypt_verdict keys infos db d)
 unfolding encrypt_verdict seal_ruling

@@ -21,7 +21,7 @@ use Rattle.fle_files.proofs.InfosRead.{bson_is, json_is}
 use Rattle.fle_stream.specs.Task.{Task, each, fails}
 use Rattle.fle_stream.specs.declared.why.Finish.TheVariants as finishes
 use Rattle.fle_stream.specs.declared.why.SetupFault.TheVariants as setups
-use Rattle.context_machine.specs.Rings.{ring}
+use Rattle.context_machine.specs.Rings.{finder}
 use Rattle.fle_runner.specs.Encrypt.{encrypt_task, encrypt_verdict}
 use Rattle.fle_runner.specs.Mark.{mark_task, mark_verdict}
 
@@ -121,4 +121,4 @@ pub json_seals : (db : List ℕ) (vault master : Option (List ℕ)) (json bson :
     → encrypt_task db vault (Some json) master ≡ encrypt_task db vault (Some bson) master
 json_seals db vault master json bson fits fits2 is gives =
     λ i. with_vault 1 vault (λ keys. json_leads 2 (λ infos. with_master 3 master
-    (λ key. each (encrypt_verdict (ring keys key) infos db))) json bson fits fits2 is gives i)
+    (λ key. each (encrypt_verdict (finder keys key) infos db))) json bson fits fits2 is gives i)

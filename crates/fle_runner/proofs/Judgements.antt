@@ -1,6 +1,7 @@
 -- What an engine answers is what a judge says.
 use Rattle.std.proofs.Common.{ℕ, List, Vec, Global, sym, ap}
 use Rattle.bson_tree.specs.Tree.{Items}
+use Rattle.context_machine.specs.Rings.{Finder}
 use Rattle.doc_rewrite.specs.Opened.{Keyring}
 use Rattle.encrypt_schema.specs.Language.Collection.{Collection}
 use Rattle.fle_outside.specs.Seen.{EntropySeen}
@@ -68,7 +69,7 @@ pub marks : (infos : List Collection) (db : List ℕ) (c : Items) (before after 
 unfolding mark_verdict
 marks infos db c before after j is = is
 
-pub seals : (keys : Keyring) (infos : List Collection) (db : List ℕ) (c : Items) (before after : EntropySeen)
+pub seals : (keys : Finder) (infos : List Collection) (db : List ℕ) (c : Items) (before after : EntropySeen)
     (j : Judged) → JudgeIs (as_verdict c (seal_ruling keys infos db c)) before after j
     → JudgeIs (encrypt_verdict keys infos db c) before after j
 unfolding encrypt_verdict

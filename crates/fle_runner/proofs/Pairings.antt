@@ -1,7 +1,7 @@
 -- What an engine answers of a pair is what is said of it in a stream.
 use Rattle.std.proofs.Common.{◌≡◌, ℕ, List, Option, Some, None, Err, refl, sym, subst}
 use Rattle.bson_tree.specs.Tree.{Items}
-use Rattle.doc_rewrite.specs.Opened.{Keyring}
+use Rattle.context_machine.specs.Rings.{Finder}
 use Rattle.encrypt_schema.specs.Commands.Targets.{verdict}
 use Rattle.encrypt_schema.specs.Commands.Visits.{Refusal}
 use Rattle.encrypt_schema.specs.Language.Collection.{Collection}
@@ -56,7 +56,7 @@ untaken_refused wrong r told place says =
 
 -- ---- the pairing of the verb
 
-module _ (keys : Keyring) (infos : List Collection) (db : List ℕ) where
+module _ (keys : Finder) (infos : List Collection) (db : List ℕ) where
   pub missing_is : missing_number ≡ (encrypt_pairing keys infos db).missing
   unfolding encrypt_pairing
   missing_is = refl

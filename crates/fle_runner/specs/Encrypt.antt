@@ -1,8 +1,7 @@
 -- `encrypt DB KEYS SCHEMAS MASTER`: each command with its protected values sealed.
 use Rattle.std.specs.Prelude.{ℕ, Option, List}
 use Rattle.bson_tree.specs.Tree.{Items}
-use Rattle.context_machine.specs.Rings.{ring}
-use Rattle.doc_rewrite.specs.Opened.{Keyring}
+use Rattle.context_machine.specs.Rings.{Finder, finder}
 use Rattle.encrypt_schema.specs.Language.Collection.{Collection}
 use Rattle.fle_engine.specs.Sealing.{seal_ruling}
 use Rattle.fle_stream.specs.Plan.{Verdict}
@@ -13,7 +12,7 @@ use Rattle.fle_runner.specs.Verdicts.{as_verdict}
 pub use Rattle.fle_engine.specs.Rulings.{at_front}
 
 -- what a command of this database comes to under these keys and infos
-unfoldable pub encrypt_verdict : Keyring → List Collection → List ℕ → Items → Verdict
+unfoldable pub encrypt_verdict : Finder → List Collection → List ℕ → Items → Verdict
 encrypt_verdict keys infos db c = as_verdict c (seal_ruling keys infos db c)
 
 -- the key vault, the collection infos and the master key are the files of the words, in order
@@ -25,4 +24,4 @@ with_sealing keys schemas master next =
 -- each command is sealed
 abbrev pub encrypt_task : List ℕ → Option (List ℕ) → Option (List ℕ) → Option (List ℕ) → Task
 encrypt_task db keys schemas master =
-    with_sealing keys schemas master (λ held. each (encrypt_verdict (ring held.keys held.master) held.infos db))
+    with_sealing keys schemas master (λ held. each (encrypt_verdict (finder held.keys held.master) held.infos db))

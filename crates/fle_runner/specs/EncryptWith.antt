@@ -3,8 +3,7 @@
 use Rattle.std.specs.Prelude.{ℕ, Option, option_map, List}
 use Rattle.bson_tree.specs.Places.{place_of}
 use Rattle.bson_tree.specs.Tree.{Items}
-use Rattle.context_machine.specs.Rings.{ring}
-use Rattle.doc_rewrite.specs.Opened.{Keyring}
+use Rattle.context_machine.specs.Rings.{Finder, finder}
 use Rattle.encrypt_schema.specs.Commands.Targets.{verdict}
 use Rattle.encrypt_schema.specs.Commands.Visits.{Refusal}
 use Rattle.encrypt_schema.specs.Language.Collection.{Collection}
@@ -36,7 +35,7 @@ wrong_as r wrong = option_map (λ w. (wrong_number w, place_of (offset_of w) r))
 
 -- a command is refused by itself as `encrypt` refuses it; its reply where it isn't the right one; else the command
 -- comes to what it comes to with `encrypt`
-unfoldable pub encrypt_pairing : Keyring → List Collection → List ℕ → Pairing
+unfoldable pub encrypt_pairing : Finder → List Collection → List ℕ → Pairing
 encrypt_pairing keys infos db = record {
   opens = λ c. refused_as c (verdict db infos 0 c);
   answers = λ c r. wrong_as r (wrong_to infos c r);
@@ -47,4 +46,4 @@ encrypt_pairing keys infos db = record {
 -- each command is sealed, once its reply is right
 abbrev pub encrypt_with_task : List ℕ → Option (List ℕ) → Option (List ℕ) → Option (List ℕ) → Task
 encrypt_with_task db keys schemas master =
-    with_sealing keys schemas master (λ held. pairs (encrypt_pairing (ring held.keys held.master) held.infos db))
+    with_sealing keys schemas master (λ held. pairs (encrypt_pairing (finder held.keys held.master) held.infos db))

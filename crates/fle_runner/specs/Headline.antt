@@ -8,24 +8,27 @@ use Rattle.bson_codec.specs.Layout.{IsDoc}
 use Rattle.encrypt_schema.specs.Commands.Targets.{rows_of}
 use Rattle.encrypt_schema.specs.Commands.Visits.{content_verdict, roles}
 use Rattle.encrypt_schema.specs.Language.Collection.{Collection}
-use Rattle.context_machine.specs.Rings.{found_in}
-use Rattle.doc_rewrite.specs.Opened.{Keyring}
+use Rattle.context_machine.specs.Rings.{Finder, found_in}
+use Rattle.doc_rewrite.specs.Keys.{Found}
+use Rattle.doc_rewrite.specs.Opened.{HasAll, Keyring}
 use Rattle.doc_rewrite.specs.PayloadFree.{IsPayloadFree}
 use Rattle.doc_rewrite.specs.Sealed.{sealed}
 use Rattle.doc_rewrite.specs.SealedCommand.{IsSealedCommand}
-use Rattle.doc_rewrite.specs.Sites.{draws_of, sites_of}
-use Rattle.doc_rewrite.specs.declared.site.Site.{Site}
+use Rattle.doc_rewrite.specs.Sites.{Site, draws_of, sites_of}
 use Rattle.fle_outside.specs.Blocks.{Block}
 use Rattle.fle_outside.specs.Drawing.{Draws}
 use Rattle.fle_outside.specs.Seen.{EntropySeen, SinkSeen}
 use Rattle.fle_outside.specs.Writing.{Gains}
+use Rattle.payload6.specs.Needs.{Need}
 use Rattle.fle_stream.specs.Plan.{Verdict, writes, refused, too_long}
 use Rattle.fle_stream.specs.Streams.{Docs, doc, documents, ends}
 use Rattle.fle_runner.specs.Encrypt.{at_front, encrypt_verdict}
 
--- what commands are sealed under: which data key an id has, the rules of the collections, the database
+-- what commands are sealed under: to which data key an id or an alternate name leads, the rules of the collections, the
+-- database; and which data key an id has, under which they are opened
 pub record Setup : Type 0 where
-  pub keys : Keyring
+  pub keys : Finder
+  pub opens : Keyring
   pub infos : List Collection
   pub db : List ℕ
 
@@ -34,8 +37,12 @@ abbrev pub verdict_of : Setup → Items → Verdict
 verdict_of x c = encrypt_verdict x.keys x.infos x.db c
 
 -- data keys are had by UUIDs alone, ids of 16 bytes
-abbrev pub AreByUuid : Keyring → Type 0
-AreByUuid keys = (id key : List ℕ) → keys id ≡ Ok key → length id ≡ 16
+abbrev pub AreByUuid : Finder → Type 0
+AreByUuid keys = (need : Need) (found : Found) → keys need ≡ Ok found → length found.id ≡ 16
+
+-- a data key that is had for sealing is had by its id for opening
+abbrev pub OpensAgain : Setup → Type 0
+OpensAgain x = HasAll x.opens (found_in x.keys)
 
 -- a command that is accepted, before these; one that isn't ends the run
 abbrev pub if_accepted : Verdict → Items → List Items → List Items
@@ -51,7 +58,7 @@ accepted v taken (doc n c docs) =
 
 -- the values of a command that its rules protect
 abbrev pub sites_in : Setup → Items → List Site
-sites_in x c = sites_of (rows_of x.infos c) (roles (rows_of x.infos c) 0 c)
+sites_in x c = sites_of (rows_of x.infos c) (at_front c) (roles (rows_of x.infos c) 0 c)
 
 -- a command and its sealed form: exactly its protected values are payloads of them under their rules' policies, and
 -- nothing else changed; its random payloads have these blocks as vectors, in reading order

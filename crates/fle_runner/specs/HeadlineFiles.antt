@@ -3,10 +3,9 @@
 use Rattle.std.specs.Prelude.{◌≡◌, ℕ, ◌<◌, ◌≤◌, ◌^◌, Some, Ok, List, length}
 use Rattle.std.specs.List.{All}
 use Rattle.bson_tree.specs.Tree.{Items}
-use Rattle.context_machine.specs.Rings.{ring}
+use Rattle.context_machine.specs.Rings.{finder, ring}
 use Rattle.data_key.specs.declared.key_doc.KeyDoc.{KeyDoc}
 use Rattle.encrypt_schema.specs.Language.Collection.{Collection}
-use Rattle.doc_rewrite.specs.Opened.{Keyring}
 use Rattle.fle_outside.specs.Blocks.{Block}
 use Rattle.fle_outside.specs.Files.{Files, file_of}
 use Rattle.fle_outside.specs.Writing.{Gains}
@@ -26,8 +25,9 @@ pub record HoldsBytes (all : Files) (name : List ℕ) (limit : ℕ) (bytes : Lis
   pub there : file_of all name ≡ Some bytes
   pub within : length bytes ≤ limit
 
--- the files of these names hold a key vault and a master key: they say which data key an id has
-pub record HoldKeys (all : Files) (keys master : List ℕ) (opened : Keyring) : Type 0 where
+-- the files of these names hold a key vault and a master key: they say to which data key an id or an alternate name
+-- leads, and which data key an id has
+pub record HoldKeys (all : Files) (keys master : List ℕ) (x : Setup) : Type 0 where
   pub vault_bytes : List ℕ
   pub vault_file : HoldsBytes all keys vault_limit vault_bytes
   pub vault_keys : List KeyDoc
@@ -36,11 +36,12 @@ pub record HoldKeys (all : Files) (keys master : List ℕ) (opened : Keyring) : 
   pub master_file : HoldsBytes all master master_limit master_bytes
   pub master_key : List ℕ
   pub master_says : master_in master_bytes ≡ Ok master_key
-  pub opens : opened ≡ ring vault_keys master_key
+  pub finds : x.keys ≡ finder vault_keys master_key
+  pub opens : x.opens ≡ ring vault_keys master_key
 
 -- beside them one holds collection infos: the rules of the collections
 pub record HoldSetup (all : Files) (keys schemas master : List ℕ) (x : Setup) : Type 0 where
-  pub held : HoldKeys all keys master x.keys
+  pub held : HoldKeys all keys master x
   pub schemas_bytes : List ℕ
   pub schemas_file : HoldsBytes all schemas infos_limit schemas_bytes
   pub schemas_say : infos_read schemas_bytes ≡ Ok x.infos
@@ -62,15 +63,14 @@ pub record IsMark (words : List (List ℕ)) (all : Files) (db : List ℕ) (infos
   pub schemas_say : infos_read schemas_bytes ≡ Ok infos
 
 -- the words are `decrypt KEYS MASTER`, and the files are there, within their limits, and say this
-pub record IsDecrypt (words : List (List ℕ)) (all : Files) (opened : Keyring) : Type 0 where
+pub record IsDecrypt (words : List (List ℕ)) (all : Files) (x : Setup) : Type 0 where
   pub keys : List ℕ
   pub master : List ℕ
   pub form : form_of words ≡ Some (decrypt keys master)
-  pub files : HoldKeys all keys master opened
+  pub files : HoldKeys all keys master x
 
 -- `encrypt`: the first of the accepted commands were sealed and written, whatever cut the run short; and where no
--- object
--- failed and memory lasted, every accepted command was sealed, and nothing else changed
+-- object failed and memory lasted, every accepted command was sealed, and nothing else changed
 abbrev pub SealsAll : List (List ℕ) → World → World → Status → Type 0
 SealsAll words before after status =
     (all : Files) (told : List ℕ) (x : Setup) → before.files.told ≡ Some all → before.input.told ≡ Some told
@@ -79,12 +79,11 @@ SealsAll words before after status =
     × (IsSettled status → SealsStream x told before.entropy after.entropy before.out after.out)
 
 -- `decrypt` over sealed commands: the first of the commands were written, byte for byte, whatever cut the run short;
--- and
--- where no object failed and memory lasted, all of them
+-- and where no object failed and memory lasted, all of them
 abbrev pub OpensAll : List (List ℕ) → World → World → Status → Type 0
 OpensAll words before after status =
     (all : Files) (x : Setup) (commands : List Items) (blocks : List Block) (sealed : List Items)
-    → before.files.told ≡ Some all → before.input.told ≡ Some (stream sealed) → IsDecrypt words all x.keys
+    → before.files.told ≡ Some all → before.input.told ≡ Some (stream sealed) → IsDecrypt words all x
     → AreSealedUnder x commands blocks sealed → AreReadable x commands sealed → length (stream sealed) < 2 ^ 40
     → OpensFirst commands before.out after.out
     × (IsSettled status → (status ≡ statuses.Done) × Gains before.out.told after.out.told (stream commands))

@@ -2,7 +2,7 @@
 
 ghost use Rattle.std.specs.Prelude.{◌≡◌, ⊤, Option};
 ghost use Rattle.bson_tree.specs.Tree.{Items};
-ghost use Rattle.context_machine.specs.Rings.{ring};
+ghost use Rattle.context_machine.specs.Rings.{finder, ring};
 ghost use Rattle.encrypt_schema.specs.Commands.Visits.{Refusal};
 ghost use Rattle.fle_engine.specs.Answers.{AnswerIs};
 ghost use Rattle.fle_engine.specs.Checking.{AcceptsAs, TakesAs};
@@ -67,7 +67,7 @@ pub struct Sealing<'a, B> {
 }
 
 impl<B: Block256> Judge for Sealing<'_, B> {
-    ghost verdict = { λ s command. encrypt_verdict (ring s.engine.opener.keys s.engine.opener.cache.master)
+    ghost verdict = { λ s command. encrypt_verdict (finder s.engine.opener.keys s.engine.opener.cache.master)
         s.engine.marker.infos s.engine.marker.db.items command };
 
     ghost ready = { λ s. B.answers s.hooks.now };
@@ -92,7 +92,7 @@ pub struct Answering<'a, B> {
 }
 
 impl<B: Block256> PairJudge for Answering<'_, B> {
-    ghost pairing = { λ s. encrypt_pairing (ring s.engine.opener.keys s.engine.opener.cache.master)
+    ghost pairing = { λ s. encrypt_pairing (finder s.engine.opener.keys s.engine.opener.cache.master)
         s.engine.marker.infos s.engine.marker.db.items };
 
     ghost ready = { λ s. B.answers s.hooks.now };

@@ -3,9 +3,9 @@
 ghost use Rattle.std.specs.Prelude.{◌≡◌, ◌<◌, ◌≤◌, ◌^◌, List, ℕ, [], length, true, Option, Some, Ok, Err};
 ghost use Rattle.std.specs.List.{All};
 ghost use Rattle.bson_tree.specs.Tree.{Items};
-ghost use Rattle.context_machine.specs.Rings.{ring};
+ghost use Rattle.context_machine.specs.Rings.{Finder, by_ids, finder, found_in, ring};
 ghost use Rattle.data_key.specs.declared.key_doc.KeyDoc.{KeyDoc};
-ghost use Rattle.doc_rewrite.specs.Opened.{Keyring};
+ghost use Rattle.doc_rewrite.specs.Opened.{HasAll, Keyring};
 ghost use Rattle.encrypt_schema.specs.Language.Collection.{Collection};
 ghost use Rattle.ext_json.specs.Infos.{json_infos};
 ghost use Rattle.fle_outside.specs.Blocks.{Block};
@@ -13,9 +13,8 @@ ghost use Rattle.fle_outside.specs.Files.{Files};
 ghost use Rattle.fle_outside.specs.Seen.{EntropySeen, SinkSeen};
 ghost use Rattle.fle_runner.specs.Decrypt.{decrypt_verdict};
 ghost use Rattle.fle_runner.specs.Encrypt.{encrypt_task, encrypt_verdict};
-ghost use Rattle.fle_runner.specs.Headline.{AreByUuid, AreOpenable, AreReadable, AreSealedUnder, SealsStream, Setup};
-ghost use Rattle.fle_runner.specs.Headline.{SealsAllOf};
-ghost use Rattle.fle_runner.specs.Headline.{accepted, verdict_of};
+ghost use Rattle.fle_runner.specs.Headline.{AreByUuid, AreOpenable, AreReadable, AreSealedUnder, OpensAgain, Setup};
+ghost use Rattle.fle_runner.specs.Headline.{SealsAllOf, SealsStream, accepted, verdict_of};
 ghost use Rattle.fle_runner.specs.HeadlineFiles.{IsEncrypt, IsMark};
 ghost use Rattle.fle_runner.specs.HeadlinePairs.{AreRightPairs, IsEncryptWith, commands_in, pairing_of};
 ghost use Rattle.fle_files.specs.Infos.{infos_read, is_json};
@@ -75,19 +74,24 @@ pub fn accepted_commands_are_sealed()
 
 /// `decrypt` over sealed commands reads them to their end and writes the commands: where each of these has a spelling,
 /// isn't refused by its contents and has no payload outside its protected values, and where the sealed ones are no
-/// longer than an input may be.
+/// longer than an input may be. A data key that they were sealed under is had by its id for that.
 pub fn sealed_commands_are_read_back()
     ensures outcome { (x : Setup) (cs : List Items) (blocks : List Block) (ds : List Items)
-        → AreSealedUnder x cs blocks ds → AreReadable x cs ds → length (stream ds) < 2 ^ 40
-        → outcome_of (each (decrypt_verdict x.keys)) (stream ds) ≡ read_whole cs ds }
+        → OpensAgain x → AreSealedUnder x cs blocks ds → AreReadable x cs ds → length (stream ds) < 2 ^ 40
+        → outcome_of (each (decrypt_verdict x.opens)) (stream ds) ≡ read_whole cs ds }
     ensures bytes { (x : Setup) (cs : List Items) (blocks : List Block) (ds : List Items)
-        → AreSealedUnder x cs blocks ds → AreReadable x cs ds → written (read_whole cs ds).outputs [] ≡ stream cs }
+        → OpensAgain x → AreSealedUnder x cs blocks ds → AreReadable x cs ds → written (read_whole cs ds).outputs []
+        ≡ stream cs }
     // What a run of `encrypt` wrote that nothing cut short.
     ensures run { (x : Setup) (told : List ℕ) (entropy entropy_after : EntropySeen) (out out_after : SinkSeen)
-        → All (λ b. b < 256) told → (s : SealsStream x told entropy entropy_after out out_after)
+        → OpensAgain x → All (λ b. b < 256) told → (s : SealsStream x told entropy entropy_after out out_after)
         → AreOpenable x (accepted (verdict_of x) 0 (documents told)) s.sealed → length (stream s.sealed) < 2 ^ 40
-        → outcome_of (each (decrypt_verdict x.keys)) (stream s.sealed)
+        → outcome_of (each (decrypt_verdict x.opens)) (stream s.sealed)
         ≡ read_whole (accepted (verdict_of x) 0 (documents told)) s.sealed }
+    // Keys looked up by ids alone, and those of a vault.
+    ensures by_ids { (keys : Keyring) → HasAll keys (found_in (by_ids keys)) }
+    ensures vault { (bytes master : List ℕ) (keys : List KeyDoc) → vault bytes ≡ Ok keys
+        → HasAll (ring keys master) (found_in (finder keys master)) }
 {}
 
 /// Under the same words and files, streams of commands with equal skeletons come to one end: how and where a run of
@@ -107,7 +111,7 @@ pub fn two_streams()
     ensures marking { (infos : List Collection) (db told other : List ℕ) → All (λ b. b < 256) told
         → All (λ b. b < 256) other → HaveEqualSkeletons infos (documents told) (documents other)
         → EndAlike (outcome_of (each (mark_verdict infos db)) told) (outcome_of (each (mark_verdict infos db)) other) }
-    ensures sealing { (keys : Keyring) (infos : List Collection) (db told other : List ℕ) → All (λ b. b < 256) told
+    ensures sealing { (keys : Finder) (infos : List Collection) (db told other : List ℕ) → All (λ b. b < 256) told
         → All (λ b. b < 256) other → HaveEqualSkeletons infos (documents told) (documents other)
         → EndAlike (outcome_of (each (encrypt_verdict keys infos db)) told)
         (outcome_of (each (encrypt_verdict keys infos db)) other) }
@@ -151,8 +155,10 @@ pub fn right_replies_change_nothing()
         → (outcome_of (pairs (pairing_of x)) told).finish ≡ (outcome_of (each (verdict_of x)) other).finish }
 {}
 
-/// The data keys of a vault are had by UUIDs alone, whatever the master key.
+/// The data keys of a vault are had by UUIDs alone, whatever the master key, and by whatever they are looked up.
 pub fn keys_of_a_vault_have_uuids()
     ensures uuids { (bytes master : List ℕ) (keys : List KeyDoc) → vault bytes ≡ Ok keys
-        → AreByUuid (ring keys master) }
+        → AreByUuid (finder keys master) }
+    ensures by_ids { (bytes master : List ℕ) (keys : List KeyDoc) → vault bytes ≡ Ok keys
+        → AreByUuid (by_ids (ring keys master)) }
 {}

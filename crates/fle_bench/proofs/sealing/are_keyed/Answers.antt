@@ -1,9 +1,9 @@
-use Rattle.std.proofs.Common.{refl}
+use Rattle.std.proofs.Common.{sym}
 use Rattle.fle_bench.proofs.Sealable.{marked_stand}
 use Rattle.fle_bench.proofs.sealing.are_keyed.Goals as goal
 
 pub sites_of-requires : goal.sites_of-requires
 sites_of-requires c = record {
-  ruled = (marked_stand c.args.marked.now c.rows.result.now c.marks.result.now c.args.marked.now.command refl
-      c.rows.ensures.rows c.marks.ensures.marks).ruled;
+  ruled = (marked_stand c.args.marked.now c.rows.result.now c.marks.result.now c.command.result
+      (sym c.command.ensures.command) c.rows.ensures.rows c.marks.ensures.marks c.marks.ensures.accepted).ruled;
 }

@@ -5,4 +5,5 @@ use Rattle.fle_bench.specs.Documents.{sealed_bytes}
 use Rattle.fle_bench.proofs.sealing.seal.Given as goal
 
 abbrev pub invariant-loop-turn : goal.invariant-loop-turn
-invariant-loop-turn l = 0 < l._turn → IsTrue l.done → l.out ≡ sealed_bytes l.keys (sites_of l.rows l.marks) l.document
+invariant-loop-turn l = 0 < l._turn → IsTrue l.done → l.out ≡ sealed_bytes l.keys
+    (sites_of l.rows l.document l.marks) l.document

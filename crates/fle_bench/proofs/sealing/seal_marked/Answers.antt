@@ -5,4 +5,4 @@ use Rattle.fle_bench.proofs.sealing.seal_marked.Goals as goal
 pub seal-requires-clause-stands : goal.seal-requires-clause-stands
 seal-requires-clause-stands c =
     marked_stand c.args.marked.now c.rows.result.now c.marks.result.now c.command.result
-    (sym c.command.ensures.command) c.rows.ensures.rows c.marks.ensures.marks
+    (sym c.command.ensures.command) c.rows.ensures.rows c.marks.ensures.marks c.marks.ensures.accepted

@@ -3,7 +3,7 @@ use Rattle.std.proofs.Common.{◌≡◌, ◌∙◌, ◌+◌, ◌-◌, ◌∷◌,
 use Rattle.bson_codec.specs.Borrowed.{At}
 use Rattle.bson_tree.specs.Spelling.{doc_bytes}
 use Rattle.context_machine.specs.Ready.{values_of}
-use Rattle.context_machine.specs.Rings.{found_in, ring}
+use Rattle.context_machine.specs.Rings.{by_ids, found_in, ring}
 use Rattle.doc_rewrite.specs.Sealed.{sealed}
 use Rattle.doc_rewrite.specs.Sites.{draws_of}
 use Rattle.fle_demo.specs.Sums.{alone, equals}
@@ -80,11 +80,11 @@ returns-clause-reached g c = λ all reaches.
     (c.deref.ensures.value ∙ c.in_ok-command.ensures.command) in
     let accepted = c.commands_are_accepted.ensures.accepted key.id db (c.args.i + 1) c.args.x info known.long
     known.states in
-    let made : c.in_ok-sealed.sealed.items ≡ doc_bytes (sealed (found_in keys)
+    let made : c.in_ok-sealed.sealed.items ≡ doc_bytes (sealed (found_in (by_ids keys))
     (values_of (Some info) (alone (command db (c.args.i + 1) c.args.x))) (block ∷ [])
     (alone (command db (c.args.i + 1) c.args.x))) =
     c.in_ok-sealed.ensures.sealed block rest first
-    ∙ ap (λ (d : At). doc_bytes (sealed (found_in keys) (values_of (Some info) d) (block ∷ []) d)) here in
+    ∙ ap (λ (d : At). doc_bytes (sealed (found_in (by_ids keys)) (values_of (Some info) d) (block ∷ []) d)) here in
     let counted : IsCounted keys rows block (command db (c.args.i + 1) c.args.x) c.args.totals.now c.add.new.self =
     record {
       bytes = c.deref-4.result.now;

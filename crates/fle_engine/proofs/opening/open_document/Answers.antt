@@ -1,5 +1,5 @@
 -- A payload may have a length that none has.
-use Rattle.std.proofs.Common.{subst}
+use Rattle.std.proofs.Common.{◌≡◌, rules, subst}
 use Rattle.bson_codec.specs.Borrowed.{At}
 use Rattle.context_machine.specs.Decrypting.{IsMisshapen}
 use Rattle.context_machine.specs.Rings.{ring}
@@ -10,6 +10,8 @@ use Rattle.fle_engine.proofs.opening.open_document.Goals as goal
 pub returns-in-Err-clause-answers : goal.returns-in-Err-clause-answers
 returns-in-Err-clause-answers g c = λ e.
     let keys = ring c.args.keys.now c.args.cache.now.master in
-    let is = subst (λ (d : At). IsMisshapen d c.in-Err.fault) c.again.ensures.same c.in-Err.ensures.refused in
-    c.refuse_fault.ensures.answers (open_ruling keys c.args.document.now.tree) e
-    (misshapen_told keys c.args.document.now c.in-Err.fault c.requires.whole is)
+    let d = c.args.document in
+    let same : c.again.result ≡ d = search rules in
+    let is = subst (λ (x : At). IsMisshapen x c.in-Err.fault) same c.in-Err.ensures.refused in
+    c.refuse_fault.ensures.answers (open_ruling keys d.tree) e
+    (misshapen_told keys d c.in-Err.fault c.requires.whole is)

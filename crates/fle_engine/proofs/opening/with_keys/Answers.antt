@@ -3,10 +3,11 @@ use Rattle.std.proofs.Common.{◌≡◌, ◌∙◌, List, ap}
 use Rattle.std.specs.Prelude.{option_copied}
 use Rattle.bson_codec.specs.Borrowed.{At}
 use Rattle.context_machine.specs.Kept.{fed_some}
-use Rattle.context_machine.specs.Needs.{first_needs}
+use Rattle.context_machine.specs.Needs.{NeedAt, first_needs}
 use Rattle.context_machine.specs.Rings.{needs_in}
 use Rattle.context_machine.specs.States.{Opens}
-use Rattle.context_machine.specs.declared.need.Need.{Need}
+use Rattle.context_machine.proofs.Decrypting.{first_ids}
+use Rattle.context_machine.proofs.Kept.{ids_agree}
 use Rattle.fle_engine.proofs.Fed.{fed_on}
 use Rattle.fle_engine.proofs.opening.with_keys.Goals as goal
 
@@ -19,8 +20,9 @@ loop-i-preserved c =
     record {
       document = ap (λ (w : Opens). w.document) c.feed.ensures.fed ∙ inv.document;
       fed = fed_on c.args.keys.now needs c.needs.result.now c.needs-i-end.result.now c.loop-i.i _ c.loop-i.state.kept
-          c.feed.new.state.kept _ (c.needs.ensures.needs ∙ stay) c.needs-i-end.ensures.needs c.loop-i-test.true inv.fed
-          c.by_id.ensures.found
+          c.feed.new.state.kept _ (ids_agree c.args.keys.now needs (first_ids c.args.state.document))
+          (c.needs.ensures.needs ∙ stay) c.needs-i-end.ensures.needs c.loop-i-test.true inv.fed
+          c.key_by-key.ensures.found
           (ap (λ (w : Opens). w.kept) c.feed.ensures.fed
-          ∙ ap (λ (ns : List Need). fed_some ns c.loop-i.state.kept (option_copied c.by_id.result)) stay);
+          ∙ ap (λ (ns : List NeedAt). fed_some ns c.loop-i.state.kept (option_copied c.key_by-key.result)) stay);
     }

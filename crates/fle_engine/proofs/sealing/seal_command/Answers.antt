@@ -1,6 +1,6 @@
 -- What a command starts as says what it comes to.
 use Rattle.std.proofs.Common.{List, subst, ℕ}
-use Rattle.context_machine.specs.Rings.{ring}
+use Rattle.context_machine.specs.Rings.{finder}
 use Rattle.encrypt_schema.specs.Commands.Targets.{rows_of}
 use Rattle.fle_engine.specs.Answers.{AnswerIs}
 use Rattle.fle_engine.specs.Rulings.{Tells}
@@ -10,7 +10,7 @@ use Rattle.fle_engine.proofs.sealing.seal_command.Goals as goal
 
 pub returns-in-Ok-Passing-clause-answers : goal.returns-in-Ok-Passing-clause-answers
 returns-in-Ok-Passing-clause-answers g c =
-    let keys = ring c.args.opener.now.keys c.args.opener.now.cache.master in
+    let keys = finder c.args.opener.now.keys c.args.opener.now.cache.master in
     let infos = c.args.marker.now.infos in
     let tree = c.args.command.now.tree in
     let seen = g.N.Entropy.seen c.args.entropy.now in
@@ -20,7 +20,7 @@ returns-in-Ok-Passing-clause-answers g c =
 
 pub returns-in-Ok-Marking-clause-answers : goal.returns-in-Ok-Marking-clause-answers
 returns-in-Ok-Marking-clause-answers g c =
-    let keys = ring c.args.opener.now.keys c.args.opener.now.cache.master in
+    let keys = finder c.args.opener.now.keys c.args.opener.now.cache.master in
     let infos = c.args.marker.now.infos in
     let command = c.args.command.now in
     let before = g.N.Entropy.seen c.args.entropy.now in
@@ -35,7 +35,7 @@ returns-in-Ok-Marking-clause-answers g c =
 
 pub returns-in-Err-clause-answers : goal.returns-in-Err-clause-answers
 returns-in-Err-clause-answers g c =
-    let keys = ring c.args.opener.now.keys c.args.opener.now.cache.master in
+    let keys = finder c.args.opener.now.keys c.args.opener.now.cache.master in
     let infos = c.args.marker.now.infos in
     let command = c.args.command.now in
     c.refuse_fault.ensures.answers (seal_ruling keys infos c.args.marker.now.db.items command.tree)

@@ -1,7 +1,7 @@
 -- The keys kept are the vault's for the command's values.
 use Rattle.std.proofs.Common.{◌≡◌, ◌∙◌, ap, subst}
 use Rattle.bson_codec.specs.Borrowed.{At}
-use Rattle.context_machine.specs.Rings.{ring}
+use Rattle.context_machine.specs.Rings.{finder}
 use Rattle.context_machine.specs.States.{Waits}
 use Rattle.encrypt_schema.specs.Commands.Targets.{rows_in}
 use Rattle.fle_engine.specs.Answers.{AnswerIs}
@@ -26,7 +26,7 @@ pub returns-in-Err-clause-answers : goal.returns-in-Err-clause-answers
 returns-in-Err-clause-answers g c =
     let seen = g.N.Entropy.seen c.args.entropy.now in
     let state = c.args.state in
-    let v = seal_under (ring c.args.keys.now c.args.cache.now.master) (rows_in state.info) state.command.tree in
+    let v = seal_under (finder c.args.keys.now c.args.cache.now.master) (rows_in state.info) state.command.tree in
     let here : c.command.result.now ≡ state.command =
     c.command.ensures.command
     ∙ (ap (λ (w : Waits). w.command) c.in-Err.ensures.back ∙ c.with_keys-state.ensures.command) in

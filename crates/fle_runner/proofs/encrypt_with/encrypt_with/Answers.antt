@@ -1,6 +1,6 @@
 -- The files are loaded, and then the stream is judged pair by pair.
 use Rattle.std.proofs.Common.{◌∙◌, refl, subst, sym}
-use Rattle.context_machine.specs.Rings.{ring}
+use Rattle.context_machine.specs.Rings.{finder}
 use Rattle.fle_outside.specs.Files.{Files, file_of}
 use Rattle.fle_stream.specs.Files.{IsOfFiles}
 use Rattle.fle_stream.specs.Task.{pairs}
@@ -20,7 +20,7 @@ returns-in-Err g c =
       run =
           acts_stop (λ (all : Files). with_sealing (file_of all words.keys.now) (file_of all words.schemas.now)
           (file_of all words.master.now)) (λ held. pairs (encrypt_pairing
-          (ring held.keys held.master) held.infos words.db.now)) c.in-Err.why c.in-Err.ensures.kind
+          (finder held.keys held.master) held.infos words.db.now)) c.in-Err.why c.in-Err.ensures.kind
           c.in-Err.ensures.leads c.in-Err.ensures.cause c.in-Err.ensures.sure;
       formed = λ at. subst IsOfFiles at c.in-Err.ensures.kind;
       untouched = λ _. (refl, refl, refl);
@@ -36,9 +36,9 @@ returns-in-Ok-of g c =
     let same = answers_as held db engine (rules.0 ∙ c.as_bytes.ensures.value, rules.1) c.in-Ok-of.ensures.secrets in
     record {
       run =
-          acts_behind (pairs (encrypt_pairing (ring engine.opener.keys engine.opener.cache.master) engine.marker.infos
+          acts_behind (pairs (encrypt_pairing (finder engine.opener.keys engine.opener.cache.master) engine.marker.infos
           engine.marker.db.items)) (λ all has. c.in-Ok.ensures.leads all has (λ held. pairs (encrypt_pairing
-          (ring held.keys held.master) held.infos db)) ∙ same) (folder_no _ ends.kind) ends.run;
+          (finder held.keys held.master) held.infos db)) ∙ same) (folder_no _ ends.kind) ends.run;
       formed = λ at. subst IsOfStream at ends.kind;
       untouched = λ none. absurd (stream_reads _ ends.kind none);
     }

@@ -10,7 +10,7 @@ use Rattle.fle_stream.specs.Outcome.{Outcome}
 use Rattle.fle_stream.proofs.Endings.{settled_of, settled_status, whole_of}
 use Rattle.fle_words.specs.Words.{form_of}
 use Rattle.fle_runner.specs.ReadBack.{stream}
-use Rattle.fle_runner.proofs.HeadlineFiles.{decrypts, encrypts, encrypts_first, opened_gains}
+use Rattle.fle_runner.proofs.HeadlineFiles.{decrypts, encrypts, encrypts_first, opened_gains, opens_held}
 use Rattle.fle_runner.proofs.HeadlineFronts.{opens_first}
 use Rattle.fle_runner.proofs.HeadlinePairs.{encrypts_pairs, encrypts_pairs_first}
 use Rattle.fle_runner.proofs.Rewraps.{rewrap_unread, rewrites}
@@ -80,7 +80,8 @@ returns-clause-decrypts g c = λ all x commands blocks sealed has is asks each r
           let ended = subst (λ (s : Status). IsSettled s) c.report.ensures.status settled in (
             c.report.ensures.status
                 ∙ (settled_status ran ended ∙ ap (λ (o : Outcome). status_of_finish o.finish) back),
-            opened_gains x commands blocks sealed _ _ _ _ _ each readable back (whole_of ran ended),
+            opened_gains x commands blocks sealed _ _ _ _ _ (opens_held all asks.keys asks.master x asks.files) each
+                readable back (whole_of ran ended),
           ),
     )
 

@@ -1,5 +1,5 @@
 -- The sealed command is what the verb says.
-use Rattle.context_machine.specs.Rings.{ring}
+use Rattle.context_machine.specs.Rings.{finder}
 use Rattle.fle_engine.specs.Sealing.{seal_ruling}
 use Rattle.fle_runner.proofs.Pairings.{comes_is}
 use Rattle.fle_runner.proofs.judging.AnsweringPairJudge.judge.Goals as goal
@@ -7,7 +7,7 @@ use Rattle.fle_runner.proofs.judging.AnsweringPairJudge.judge.Goals as goal
 pub returns-clause-judged : goal.returns-clause-judged
 returns-clause-judged g c =
     let engine = c.args.self.now.engine in
-    let keys = ring engine.opener.keys engine.opener.cache.master in
+    let keys = finder engine.opener.keys engine.opener.cache.master in
     let tree = c.args.document.now.tree in
     let before = g.N.Entropy.seen c.args.entropy.now in
     let after = g.N.Entropy.seen c.seal.new.entropy in

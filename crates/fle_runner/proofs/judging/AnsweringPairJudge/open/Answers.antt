@@ -1,5 +1,5 @@
 -- A command is refused by itself as the verb says.
-use Rattle.context_machine.specs.Rings.{ring}
+use Rattle.context_machine.specs.Rings.{finder}
 use Rattle.encrypt_schema.specs.Commands.Targets.{verdict}
 use Rattle.fle_runner.proofs.Pairings.{opens_is}
 use Rattle.fle_runner.proofs.judging.AnsweringPairJudge.open.Goals as goal
@@ -11,6 +11,6 @@ returns g c =
     let infos = engine.marker.infos in
     let db = engine.marker.db.items in
     record {
-      checked = opens_is (ring engine.opener.keys engine.opener.cache.master) infos db d c.opening_check.result
+      checked = opens_is (finder engine.opener.keys engine.opener.cache.master) infos db d c.opening_check.result
           (c.opening_check.ensures.checks (verdict db infos 0 d) d c.accept.ensures.accepts);
     }
