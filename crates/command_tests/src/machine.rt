@@ -4,6 +4,8 @@ mod decrypting_samples;
 mod decrypting_tests;
 mod fed_keys;
 mod filters;
+mod named_samples;
+mod named_tests;
 mod refusal_tests;
 mod sealing_samples;
 mod sealing_tests;

@@ -1,6 +1,7 @@
 //! Schemas, files of infos, paths and types (`encrypt_schema`).
 
 mod collections_tests;
+mod pointer_tests;
 mod rows_tests;
 mod rules_tests;
 mod schema_tests;

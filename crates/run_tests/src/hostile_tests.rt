@@ -131,7 +131,7 @@ fn a_turned_bit_is_told_or_leaves_a_document(rt: HostRuntime) {
 }
 
 /// This many documents named `a`, each in the one before.
-fn nested(rt: &impl Abort, alloc: Global, levels: usize) -> Vec<u8> {
+pub(crate) fn nested(rt: &impl Abort, alloc: Global, levels: usize) -> Vec<u8> {
     let mut inner = document(rt, alloc, &[]);
     for _ in 1..levels {
         inner = document(rt, alloc, &[b"\x03a\x00", &inner]);

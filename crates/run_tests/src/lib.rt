@@ -26,9 +26,31 @@ mod opening_tests;
 #[cfg(test)]
 mod other_names_tests;
 #[cfg(test)]
+mod pair_bson_tests;
+#[cfg(test)]
+mod pair_device_tests;
+#[cfg(test)]
+mod pair_key_tests;
+#[cfg(test)]
+mod pair_limit_tests;
+#[cfg(test)]
+mod pair_marking_tests;
+#[cfg(test)]
+mod pair_passing_tests;
+#[cfg(test)]
+mod pair_reply_tests;
+#[cfg(test)]
+mod pair_samples;
+#[cfg(test)]
 mod pair_tests;
 #[cfg(test)]
 mod placing_tests;
+#[cfg(test)]
+mod pointer_refusal_tests;
+#[cfg(test)]
+mod pointer_samples;
+#[cfg(test)]
+mod pointer_tests;
 #[cfg(test)]
 mod rewrap_samples;
 #[cfg(test)]

@@ -17,19 +17,25 @@ const FRONT: &[u8] =
 /// Its end.
 const BACK: &[u8] = b"\x00\x00\x02$db\x00\x03\x00\x00\x00hr\x00\x00";
 
+/// The command that begins and ends so.
+pub(crate) fn largest(rt: &impl Abort, alloc: Global) -> Vec<u8> {
+    let mut largest = Vec::with_capacity(alloc, 16_777_216).expect(rt, "memory");
+    largest.extend_from_slice(FRONT).expect(rt, "memory");
+    largest.resize(16_777_201, 0x5a).expect(rt, "memory");
+    largest.extend_from_slice(BACK).expect(rt, "memory");
+    largest
+}
+
 #[test]
 fn a_document_has_at_most_16_mebibytes(rt: HostRuntime) {
     let alloc = rt.alloc();
-    let mut largest = Vec::with_capacity(alloc, 16_777_216).expect(&rt, "memory");
-    largest.extend_from_slice(FRONT).expect(&rt, "memory");
-    largest.resize(16_777_201, 0x5a).expect(&rt, "memory");
-    largest.extend_from_slice(BACK).expect(&rt, "memory");
+    let command = largest(&rt, alloc);
     let run = Run {
         step: 1_000_000,
         room: 16_777_216,
-        ..sealing(&largest)
+        ..sealing(&command)
     };
-    writes(&rt, alloc, run, &largest);
+    writes(&rt, alloc, run, &command);
     let run = sealing(b"\x01\x00\x00\x01rest");
     stops(&rt, alloc, run, Status::Limit, "fle: 9 1 1 -\n");
 }

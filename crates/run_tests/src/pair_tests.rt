@@ -8,10 +8,10 @@ use std::alloc::Global;
 use std::process::Abort;
 
 /// The words of `encrypt-with`.
-const ENCRYPT_WITH: [&str; 5] = ["encrypt-with", "hr", "keys", "infos", "master"];
+pub(crate) const ENCRYPT_WITH: [&str; 5] = ["encrypt-with", "hr", "keys", "infos", "master"];
 
 /// The block of sixteen bytes 01.
-const BLOCKS: [[u8; 16]; 1] = [[1; 16]];
+pub(crate) const BLOCKS: [[u8; 16]; 1] = [[1; 16]];
 
 /// The reply to `INSERT` with the second flag not set.
 const SECOND_OFF: &[u8] =
@@ -51,7 +51,7 @@ const EMPTY: &[u8] = b"\x05\x00\x00\x00\x00";
 const HUGE: &[u8] = b"\x01l\xdc\x02";
 
 /// A run of `encrypt-with` over this input, in which nothing fails and no block is drawn.
-fn answering(input: &[u8]) -> Run<'_> {
+pub(crate) fn answering(input: &[u8]) -> Run<'_> {
     Run {
         words: &ENCRYPT_WITH,
         ..sealing(input)
@@ -59,7 +59,7 @@ fn answering(input: &[u8]) -> Run<'_> {
 }
 
 /// The run over these documents must write this, and end with this line, which is empty where it ends well.
-fn answers(
+pub(crate) fn answers(
     rt: &impl Abort,
     alloc: Global,
     pieces: &[&[u8]],

@@ -115,7 +115,7 @@ pub(crate) fn joined(rt: &impl Abort, alloc: Global, pieces: &[&[u8]]) -> Vec<u8
 /// The document of these elements.
 pub(crate) fn document(rt: &impl Abort, alloc: Global, elements: &[&[u8]]) -> Vec<u8> {
     let inside = joined(rt, alloc, elements);
-    assert!(rt; inside.len() <= 20_000_000, "a test's document is too long");
+    assert!(rt; inside.len() <= 50_000_000, "a test's document is too long");
     let size = (inside.len() as u32 + 5).to_le_bytes();
     joined(rt, alloc, &[&size, &inside, b"\x00"])
 }

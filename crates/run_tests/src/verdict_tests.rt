@@ -2,6 +2,7 @@
 //! are refused.
 
 use crate::runs::{accepts, document, refuses};
+use sample_documents::reply_parts::FIRST_OFF;
 use sample_documents::{
     ARRAY, INTO_UNKNOWN, INTO_VIEW, NESTED, NESTED_REPLY, NO_DOCUMENTS, NULL, NUMBER, OTHER_DB,
     PING,
@@ -57,7 +58,7 @@ pub(crate) fn unmarked(rt: &impl Abort, alloc: Global, ruled: &[u8], command: &[
         rt,
         alloc,
         &[
-            b"\x08hasEncryptionPlaceholders\x00\x00",
+            FIRST_OFF,
             b"\x08schemaRequiresEncryption\x00",
             ruled,
             b"\x03result\x00",

@@ -11,6 +11,7 @@
 mod commands;
 mod infos;
 mod replies;
+pub mod reply_parts;
 mod sealed;
 mod vaults;
 
@@ -18,7 +19,7 @@ pub use commands::{
     ARRAY, BOTH, INSERT, INTO_UNKNOWN, INTO_VIEW, NESTED, NO_DOCUMENTS, NOTES, NULL, NUMBER,
     OTHER_DB, PING, SET,
 };
-pub use infos::{PEOPLE, PEOPLE_SCHEMA, STAFF};
+pub use infos::{CLIENTS, PEOPLE, PEOPLE_SCHEMA, STAFF};
 pub use replies::{NESTED_REPLY, NOTES_REPLY, REPLY};
 pub use sealed::{SEALED_BOTH, SEALED_INSERT};
 pub use vaults::TWO_KEYS;

@@ -2,12 +2,12 @@
 use bson_codec::{RawDoc, check_bson};
 use bson_tree::Bytes;
 use crypto_hooks::Tables;
-use encrypt_schema::{Info, Infos};
+use encrypt_schema::{Algorithm, Info, Infos, KeyRef};
 use fle_aead::DataKey;
 use fle_vectors::DATA_KEY;
 use payload6::{
-    DETERMINISTIC, PartsFault, PayloadFault, RANDOM, det_iv, marking, open_payload_into, parts,
-    payload_len, seal_payload_into,
+    DETERMINISTIC, PartsFault, PayloadFault, RANDOM, det_iv, marking, marking_named,
+    open_payload_into, parts, payload_len, seal_payload_into,
 };
 use std::alloc::Global;
 use std::process::Abort;
@@ -156,7 +156,10 @@ fn marked(rt: &impl Abort, alloc: Global, info: &Info, document: &RawDoc<'_>) ->
     let policy = info.rows().policy(0).expect(rt, "a policy");
     let item = document.items().next().expect(rt, "an element");
     assert!(rt; item.value().len() < 100, "a test's value is too long");
-    marking(alloc, &item, policy).expect(rt, "memory")
+    match &policy.key {
+        KeyRef::Id(_) => marking(alloc, &item, policy).expect(rt, "memory"),
+        KeyRef::Pointer(_) => panic!(rt; "a test's rule has a pointer"),
+    }
 }
 
 #[test]
@@ -166,4 +169,21 @@ fn a_string_is_marked(rt: HostRuntime) {
     let document = check_bson(PERSON).expect(&rt, "a document");
     let bytes = marked(&rt, rt.alloc(), info, &document);
     assert!(rt; bytes.as_slice() == MARKING);
+}
+
+/// `{note: 7}`.
+const NOTE: &[u8] = b"\x0f\x00\x00\x00\x10note\x00\x07\x00\x00\x00\x00";
+
+/// The marking of `note` for the key `hr-key`, 35 bytes.
+const NAMED_MARKING: &[u8] =
+    b"\x00\"\x00\x00\x00\x10v\x00\x07\x00\x00\x00\x10a\x00\x02\x00\x00\x00\x02ka\x00\
+     \x07\x00\x00\x00hr-key\x00\x00";
+
+#[test]
+fn an_int_is_marked_for_a_key_by_its_alternate_name(rt: HostRuntime) {
+    let document = check_bson(NOTE).expect(&rt, "a document");
+    let item = document.items().next().expect(&rt, "an element");
+    assert!(rt; item.value().len() < 100, "a test's value is too long");
+    let bytes = marking_named(rt.alloc(), &item, Algorithm::Random, b"hr-key");
+    assert!(rt; bytes.expect(&rt, "memory").as_slice() == NAMED_MARKING);
 }

@@ -1,8 +1,9 @@
 //! Markings in a reply: a binary of subtype 06 of 00 and a document of three fields, in whatever order.
 
 use crate::checking::reply_samples::{
-    A, KI, V, differs_at, document_with, insert_with, is_right, reply_with,
+    A, V, differs_at, document_with, insert_with, is_right, reply_with,
 };
+use sample_documents::reply_parts::{KI, KJ, OLD_KI, OTHER_KI, SHORT_KI};
 use std::alloc::Global;
 
 /// What a marking begins with: its subtype and 00.
@@ -113,26 +114,10 @@ fn it_holds_the_algorithm_of_the_rule(rt: HostRuntime) {
 #[test]
 fn it_holds_the_key_of_the_rule(rt: HostRuntime) {
     let markings: &[&[&[u8]]] = &[
-        &[
-            V,
-            A,
-            b"\x05ki\x00\x10\x00\x00\x00\x04\x00\x11\"3DUFw\x88\x99\xaa\xbb\xcc\xdd\xee\xfe",
-        ],
-        &[
-            V,
-            A,
-            b"\x05ki\x00\x10\x00\x00\x00\x03\x00\x11\"3DUFw\x88\x99\xaa\xbb\xcc\xdd\xee\xff",
-        ],
-        &[
-            V,
-            A,
-            b"\x05ki\x00\x0f\x00\x00\x00\x04\x00\x11\"3DUFw\x88\x99\xaa\xbb\xcc\xdd\xee",
-        ],
-        &[
-            V,
-            A,
-            b"\x05kj\x00\x10\x00\x00\x00\x04\x00\x11\"3DUFw\x88\x99\xaa\xbb\xcc\xdd\xee\xff",
-        ],
+        &[V, A, OTHER_KI],
+        &[V, A, OLD_KI],
+        &[V, A, SHORT_KI],
+        &[V, A, KJ],
         &[V, A, b"\x02ka\x00\x07\x00\x00\x00hr-key\x00"],
     ];
     for fields in markings {

@@ -9,28 +9,11 @@ use reply_check::{WrongReply, check_reply};
 use sample_documents::{INSERT, PEOPLE_SCHEMA};
 use std::alloc::Global;
 
-/// The first flag, set.
-pub(crate) const FIRST: &[u8] = b"\x08hasEncryptionPlaceholders\x00\x01";
-
-/// The second flag, set.
-pub(crate) const SECOND: &[u8] = b"\x08schemaRequiresEncryption\x00\x01";
-
 /// The first flag without its value.
 pub(crate) const FIRST_NAME: &[u8] = b"\x08hasEncryptionPlaceholders\x00";
 
 /// The value of a flag that isn't set.
 pub(crate) const OFF: &[u8] = b"\x00";
-
-/// The second flag, not set.
-pub(crate) const SECOND_OFF: &[u8] = b"\x08schemaRequiresEncryption\x00\x00";
-
-/// The right result of `INSERT` where `people` has those rules, 142 bytes: a marking stands for `ssn`.
-pub(crate) const RESULT: &[u8] =
-    b"\x03result\x00\x86\x00\x00\x00\x02insert\x00\x07\x00\x00\x00people\x00\x04documents\x00W\
-    \x00\x00\x00\x030\x00O\x00\x00\x00\x05ssn\x009\x00\x00\x00\x06\x008\x00\x00\x00\x02v\x00\
-    \x0c\x00\x00\x00123-45-6789\x00\x10a\x00\x01\x00\x00\x00\x05ki\x00\x10\x00\x00\x00\x04\x00\
-    \x11\"3DUFw\x88\x99\xaa\xbb\xcc\xdd\xee\xff\x00\x10n\x00\x01\x00\x00\x00\x00\x00\x02$db\
-    \x00\x03\x00\x00\x00hr\x00\x00";
 
 /// That insert as it is, as a result, 96 bytes.
 pub(crate) const PLAIN: &[u8] =
@@ -41,12 +24,6 @@ pub(crate) const PLAIN: &[u8] =
 /// `ok: 1.0`
 pub(crate) const OK: &[u8] = b"\x01ok\x00\x00\x00\x00\x00\x00\x00\xf0?";
 
-/// `ssn` with its marking, 67 bytes.
-pub(crate) const SSN: &[u8] =
-    b"\x05ssn\x009\x00\x00\x00\x06\x008\x00\x00\x00\x02v\x00\x0c\x00\x00\x00123-45-6789\x00\x10a\
-    \x00\x01\x00\x00\x00\x05ki\x00\x10\x00\x00\x00\x04\x00\x11\"3DUFw\x88\x99\xaa\xbb\xcc\xdd\
-    \xee\xff\x00";
-
 /// `n: int 1`
 pub(crate) const N: &[u8] = b"\x10n\x00\x01\x00\x00\x00";
 
@@ -55,10 +32,6 @@ pub(crate) const V: &[u8] = b"\x02v\x00\x0c\x00\x00\x00123-45-6789\x00";
 
 /// Its algorithm.
 pub(crate) const A: &[u8] = b"\x10a\x00\x01\x00\x00\x00";
-
-/// The id of its key.
-pub(crate) const KI: &[u8] =
-    b"\x05ki\x00\x10\x00\x00\x00\x04\x00\x11\"3DUFw\x88\x99\xaa\xbb\xcc\xdd\xee\xff";
 
 /// A document or an array of these elements, and those before and behind them.
 pub(crate) fn document(

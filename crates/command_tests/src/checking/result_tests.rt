@@ -1,11 +1,12 @@
 //! The result of a reply: the command, but for its protected values.
 
 use crate::checking::reply_samples::{
-    N, SSN, differs_at, document_with, found_under, insert_with, is_right, reply_with,
+    N, differs_at, document_with, found_under, insert_with, is_right, reply_with,
 };
 use crate::documents::whole;
 use reply_check::WrongReply;
 use sample_documents::PEOPLE_SCHEMA;
+use sample_documents::reply_parts::{MARKED_SALARY, MARKED_SSN};
 use std::alloc::Global;
 
 /// `ssn: "123-45-6789"`
@@ -23,11 +24,6 @@ const SSN_TURNED: &[u8] =
 /// `ssn` with the marking of `salary`.
 const SSN_AS_SALARY: &[u8] =
     b"\x05ssn\x00-\x00\x00\x00\x06\x00,\x00\x00\x00\x10v\x00\x07\x00\x00\x00\x10a\x00\x02\x00\
-    \x00\x00\x05ki\x00\x10\x00\x00\x00\x04\x00\x11\"3DUFw\x88\x99\xaa\xbb\xcc\xdd\xee\xff\x00";
-
-/// `salary` with its marking, under the random algorithm.
-const SALARY_MARKED: &[u8] =
-    b"\x05salary\x00-\x00\x00\x00\x06\x00,\x00\x00\x00\x10v\x00\x07\x00\x00\x00\x10a\x00\x02\x00\
     \x00\x00\x05ki\x00\x10\x00\x00\x00\x04\x00\x11\"3DUFw\x88\x99\xaa\xbb\xcc\xdd\xee\xff\x00";
 
 /// `salary` with its marking, of which the algorithm stands first.
@@ -141,12 +137,12 @@ fn is_another(alloc: Global, elements: &[&[u8]]) -> bool {
 #[test]
 fn a_marking_stands_for_each_protected_value(rt: HostRuntime) {
     let cases: &[(&[&[u8]], &[&[u8]])] = &[
-        (&[SSN_PLAIN, N], &[SSN, N]),
-        (&[SSN_PLAIN, SALARY], &[SSN, SALARY_MARKED]),
-        (&[SSN_PLAIN, SALARY], &[SSN, SALARY_TURNED]),
+        (&[SSN_PLAIN, N], &[MARKED_SSN, N]),
+        (&[SSN_PLAIN, SALARY], &[MARKED_SSN, MARKED_SALARY]),
+        (&[SSN_PLAIN, SALARY], &[MARKED_SSN, SALARY_TURNED]),
         (&[SSN_PLAIN, SALARY], &[SSN_TURNED, SALARY_TURNED]),
-        (&[SALARY, N, SSN_PLAIN], &[SALARY_MARKED, N, SSN_TURNED]),
-        (&[SSN_PLAIN, SSN_PLAIN], &[SSN, SSN_TURNED]),
+        (&[SALARY, N, SSN_PLAIN], &[MARKED_SALARY, N, SSN_TURNED]),
+        (&[SSN_PLAIN, SSN_PLAIN], &[MARKED_SSN, SSN_TURNED]),
         (&[SALARY_DOCUMENT, N], &[DOCUMENT_MARKED, N]),
     ];
     for (values, elements) in cases {
@@ -157,16 +153,16 @@ fn a_marking_stands_for_each_protected_value(rt: HostRuntime) {
 #[test]
 fn a_value_that_is_left_plain_or_marked_otherwise_differs(rt: HostRuntime) {
     let cases: &[(&[&[u8]], &[&[u8]])] = &[
-        (&[SSN_PLAIN, SALARY], &[SSN_PLAIN, SALARY_MARKED]),
-        (&[SSN_PLAIN, SALARY], &[SSN, SALARY]),
-        (&[SSN_PLAIN, SSN_PLAIN], &[SSN, SSN_PLAIN]),
+        (&[SSN_PLAIN, SALARY], &[SSN_PLAIN, MARKED_SALARY]),
+        (&[SSN_PLAIN, SALARY], &[MARKED_SSN, SALARY]),
+        (&[SSN_PLAIN, SSN_PLAIN], &[MARKED_SSN, SSN_PLAIN]),
         (&[SSN_PLAIN, SALARY], &[SSN_AS_SALARY, SALARY_AS_SSN]),
-        (&[SSN_PLAIN, SALARY], &[SALARY_MARKED, SSN]),
+        (&[SSN_PLAIN, SALARY], &[MARKED_SALARY, MARKED_SSN]),
         (&[SALARY, N], &[SALARY_DETERMINISTIC, N]),
         (&[SALARY_DOCUMENT, N], &[LIST_MARKED, N]),
         (&[SALARY_DOCUMENT, N], &[DOCUMENT_MARKED_INSIDE, N]),
-        (&[SSN_PLAIN, N], &[SSN, N_MARKED]),
-        (&[N, SSN_PLAIN], &[N_MARKED, SSN]),
+        (&[SSN_PLAIN, N], &[MARKED_SSN, N_MARKED]),
+        (&[N, SSN_PLAIN], &[N_MARKED, MARKED_SSN]),
     ];
     for (values, elements) in cases {
         assert!(rt; differs(rt.alloc(), values, elements));
@@ -176,14 +172,14 @@ fn a_value_that_is_left_plain_or_marked_otherwise_differs(rt: HostRuntime) {
 #[test]
 fn an_unprotected_value_is_the_same(rt: HostRuntime) {
     let results: &[&[&[u8]]] = &[
-        &[SSN],
-        &[N, SSN],
-        &[SSN, N, N],
-        &[SSN, b"\x10n\x00\x02\x00\x00\x00"],
-        &[SSN, b"\x10m\x00\x01\x00\x00\x00"],
-        &[SSN, b"\x10nn\x00\x01\x00\x00\x00"],
-        &[SSN, b"\x0an\x00"],
-        &[SSN, b"\x12n\x00\x01\x00\x00\x00\x00\x00\x00\x00"],
+        &[MARKED_SSN],
+        &[N, MARKED_SSN],
+        &[MARKED_SSN, N, N],
+        &[MARKED_SSN, b"\x10n\x00\x02\x00\x00\x00"],
+        &[MARKED_SSN, b"\x10m\x00\x01\x00\x00\x00"],
+        &[MARKED_SSN, b"\x10nn\x00\x01\x00\x00\x00"],
+        &[MARKED_SSN, b"\x0an\x00"],
+        &[MARKED_SSN, b"\x12n\x00\x01\x00\x00\x00\x00\x00\x00\x00"],
     ];
     for elements in results {
         assert!(rt; differs(rt.alloc(), &[SSN_PLAIN, N], elements));
@@ -195,17 +191,17 @@ fn the_type_of_an_unprotected_value_is_the_same(rt: HostRuntime) {
     let cases: &[(&[&[u8]], &[&[u8]])] = &[
         (
             &[b"\x02t\x00\x02\x00\x00\x00x\x00", SSN_PLAIN],
-            &[b"\x0et\x00\x02\x00\x00\x00x\x00", SSN],
+            &[b"\x0et\x00\x02\x00\x00\x00x\x00", MARKED_SSN],
         ),
         (
             &[b"\x03t\x00\x05\x00\x00\x00\x00", SSN_PLAIN],
-            &[b"\x04t\x00\x05\x00\x00\x00\x00", SSN],
+            &[b"\x04t\x00\x05\x00\x00\x00\x00", MARKED_SSN],
         ),
         (
             &[SSN_PLAIN, b"\x09t\x00\x01\x00\x00\x00\x00\x00\x00\x00"],
-            &[SSN, b"\x12t\x00\x01\x00\x00\x00\x00\x00\x00\x00"],
+            &[MARKED_SSN, b"\x12t\x00\x01\x00\x00\x00\x00\x00\x00\x00"],
         ),
-        (&[SSN_PLAIN, b"\x0at\x00"], &[SSN, b"\xfft\x00"]),
+        (&[SSN_PLAIN, b"\x0at\x00"], &[MARKED_SSN, b"\xfft\x00"]),
     ];
     for (values, elements) in cases {
         assert!(rt; differs(rt.alloc(), values, elements));

@@ -1,22 +1,12 @@
 //! The three elements of a reply that are read: each exactly once, of its type, in any order.
 
 use crate::checking::reply_samples::{
-    FIRST, FIRST_NAME, OFF, OK, PLAIN, RESULT, SECOND, SECOND_OFF, differs_at, document_with,
-    is_misshapen_at, is_right,
+    FIRST_NAME, OFF, OK, PLAIN, differs_at, document_with, is_misshapen_at, is_right,
+};
+use sample_documents::reply_parts::{
+    FIRST, FIRST_CUT, FIRST_INT, FIRST_NULL, RESULT, SECOND, SECOND_INT, SECOND_OFF, SECOND_TEXT,
 };
 use std::alloc::Global;
-
-/// `hasEncryptionPlaceholders: int 1`
-const FIRST_INT: &[u8] = b"\x10hasEncryptionPlaceholders\x00\x01\x00\x00\x00";
-
-/// `hasEncryptionPlaceholders: null`
-const FIRST_NULL: &[u8] = b"\x0ahasEncryptionPlaceholders\x00";
-
-/// `schemaRequiresEncryption: int 1`
-const SECOND_INT: &[u8] = b"\x10schemaRequiresEncryption\x00\x01\x00\x00\x00";
-
-/// `schemaRequiresEncryption: "y"`
-const SECOND_TEXT: &[u8] = b"\x02schemaRequiresEncryption\x00\x02\x00\x00\x00y\x00";
 
 /// `result: true`
 const RESULT_BOOL: &[u8] = b"\x08result\x00\x01";
@@ -91,12 +81,7 @@ fn other_elements_are_not_read(rt: HostRuntime) {
             SECOND,
             RESULT,
         ],
-        &[
-            b"\x08hasEncryptionPlaceholder\x00\x00",
-            FIRST,
-            SECOND,
-            RESULT,
-        ],
+        &[FIRST_CUT, FIRST, SECOND, RESULT],
         &[
             FIRST,
             SECOND,

@@ -6,7 +6,7 @@ use crate::machine::decrypting_samples::{
 };
 use crate::machine::fed_keys::{Fed, keys};
 use crate::machine::filters::is_filter_of_one;
-use context_machine::{DecryptNeedKeys, DecryptReady, KeysStop};
+use context_machine::{DecryptNeedKeys, DecryptReady, KeysStop, Need};
 use crypto_hooks::Tables;
 use data_key::KeyDoc;
 use doc_rewrite::Spot;
@@ -65,7 +65,8 @@ fn stops(alloc: Global, bytes: &[u8], fed_keys: &[Fed], reason: Reason, at: u32)
 /// Whether the keys of these ids are asked for, in this order, and no others.
 fn needs(asking: &DecryptNeedKeys<'_>, ids: &[[u8; 16]]) -> bool {
     for i in 0..ids.len() {
-        if asking.needed(i) != Some(ids[i]) {
+        let found = matches!(asking.needed(i), Some(Need::Id(id)) if id == ids[i]);
+        if !found {
             return false;
         }
     }

@@ -1,6 +1,7 @@
 //! The keys that the tests feed.
 
 use crate::machine::decrypting_samples::{ID, OTHER_ID, material, other_material};
+use crate::machine::named_samples::{NAME, OLD_NAME};
 use crate::machine::sealing_samples::SECOND_ID;
 use bson_tree::{Bytes, Names};
 use data_key::{KeyDoc, Provider};
@@ -15,6 +16,8 @@ pub(crate) enum Fed {
     Damaged,
     /// The same, but a key service holds its master key.
     Foreign,
+    /// The same, with two alternate names.
+    Named,
     /// A key of `SECOND_ID`, with the same material.
     Second,
     /// The key of `OTHER_ID`.
@@ -54,12 +57,22 @@ impl Fed {
         }
     }
 
+    /// Its alternate names; `None` where there was no memory.
+    fn names(&self, alloc: Global) -> Option<Names> {
+        let mut names = Names::new(alloc);
+        if matches!(self, Fed::Named) {
+            names.push(Bytes::from_slice(alloc, OLD_NAME).ok()?).ok()?;
+            names.push(Bytes::from_slice(alloc, NAME).ok()?).ok()?;
+        }
+        Some(names)
+    }
+
     /// The key that a vault has of it; `None` where there was no memory.
     fn key(&self, alloc: Global) -> Option<KeyDoc> {
         let material = Vec::from_slice(alloc, &self.material()).ok()?;
         Some(KeyDoc {
             id: self.id(),
-            names: Names::new(alloc),
+            names: self.names(alloc)?,
             material: Bytes::from_vec(material),
             provider: self.provider(),
         })

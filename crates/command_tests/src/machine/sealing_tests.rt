@@ -8,7 +8,7 @@ use crate::machine::sealing_samples::{
     SECOND_ID, infos, is_one_string_sealed, is_two_documents_sealed, is_two_keys_sealed,
     one_string, ping, two_documents, unknown,
 };
-use context_machine::{Begun, EncryptStart, NeedCollInfo, NeedKeys, NeedMarkings, Ready};
+use context_machine::{Begun, EncryptStart, Need, NeedCollInfo, NeedKeys, NeedMarkings, Ready};
 use crypto_hooks::Tables;
 use data_key::KeyDoc;
 use encrypt_schema::{Infos, MarkFault};
@@ -53,11 +53,15 @@ pub(crate) struct Held {
     keys: Vec<KeyDoc>,
 }
 
-/// Infos, where the key of `salary` has this id, and these keys; `None` where there was no memory.
-pub(crate) fn having(alloc: Global, id: [u8; 16], fed: &[Fed]) -> Option<Held> {
-    let infos = infos(alloc, id)?;
+/// These infos, and these keys; `None` where there was no memory.
+pub(crate) fn holding(alloc: Global, infos: Infos, fed: &[Fed]) -> Option<Held> {
     let keys = keys(alloc, fed)?;
     Some(Held { infos, keys })
+}
+
+/// Infos, where the key of `salary` has this id, and these keys; `None` where there was no memory.
+pub(crate) fn having(alloc: Global, id: [u8; 16], fed: &[Fed]) -> Option<Held> {
+    holding(alloc, infos(alloc, id)?, fed)
 }
 
 /// The state in which the keys of a command are asked for, with all that a caller has fed; `None` where it isn't
@@ -113,14 +117,19 @@ fn the_collection_is_asked_for_by_its_name(rt: HostRuntime) {
     assert!(rt; matches!(&asks.op(rt.alloc()), Ok(f) if is_filter_of_people(f)));
 }
 
+/// Whether what is needed is this id.
+fn is_id(need: Option<Need<'_>>, id: [u8; 16]) -> bool {
+    matches!(need, Some(Need::Id(found)) if found == id)
+}
+
 /// Whether the key of this id alone is asked for, first at this offset.
 fn needs_alone(waits: &NeedKeys<'_>, id: [u8; 16], at: u32) -> bool {
-    for need in waits.needs() {
-        if need.id != id || need.at != at {
+    for n in waits.needs() {
+        if !is_id(Some(n.need), id) || n.at != at {
             return false;
         }
     }
-    waits.needed(0) == Some(id) && waits.needed(1).is_none()
+    is_id(waits.needed(0), id) && waits.needed(1).is_none()
 }
 
 #[test]
@@ -190,7 +199,7 @@ fn keys_are_fed_in_any_order_and_number(rt: HostRuntime) {
     let fed_keys = &[Fed::Unneeded, Fed::Right, Fed::Second, Fed::Right];
     let held = having(rt.alloc(), SECOND_ID, fed_keys).expect(&rt, "no memory");
     let waits = fed(rt.alloc(), &held, two_documents()).expect(&rt, "no keys are asked for");
-    assert!(rt; waits.needed(0) == Some(SECOND_ID) && waits.needed(1) == Some(ID));
+    assert!(rt; is_id(waits.needed(0), SECOND_ID) && is_id(waits.needed(1), ID));
     assert!(rt; matches!(&sealed(rt.alloc(), waits), Some(b) if is_two_keys_sealed(b)));
 }
 

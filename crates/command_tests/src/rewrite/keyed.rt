@@ -2,7 +2,7 @@
 
 ghost use Rattle.std.specs.Prelude.{◌≡◌, ◌+◌, ◌∷◌, [], drop, IsTrue, MatchOption};
 ghost use Rattle.doc_rewrite.specs.Finding.{HasKeysFor};
-ghost use Rattle.doc_rewrite.specs.Keys.{key_in};
+ghost use Rattle.doc_rewrite.specs.Keys.{key_by_id};
 
 use doc_rewrite::{Found, FoundAt, KeyTable};
 
@@ -15,7 +15,7 @@ fn payload_at(found: &Found<'_>, i: usize) -> Option<FoundAt>
 
 /// Whether the key of each payload is there.
 pub(crate) fn has_keys(found: &Found<'_>, keys: &KeyTable) -> bool
-    ensures keyed { IsTrue result → HasKeysFor (key_in keys.now) found.now }
+    ensures keyed { IsTrue result → HasKeysFor (key_by_id keys.now.ids) found.now }
 {
     for i in 0..found.len() {
         match payload_at(found, i) {

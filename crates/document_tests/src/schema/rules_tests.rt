@@ -1,7 +1,7 @@
 //! The rules that schemas state.
 
 use crate::schema::test_documents::{
-    DETERMINISTIC, INT, KEY_1, KEY_2, RANDOM, has_fault, joined, rules, within,
+    DETERMINISTIC, INT, KEY_1, KEY_2, RANDOM, has_fault, joined, many_fields, rules, within,
 };
 use encrypt_schema::{Algorithm, Class, KeyRef, Policy, Rows, SchemaFault};
 use std::alloc::Global;
@@ -114,20 +114,6 @@ fn metadata_of_a_sibling_is_not_in_force(rt: HostRuntime) {
     let a = within(alloc, &[b"a", b"encryptMetadata"], &[KEY_1, RANDOM]).expect(&rt, "no field");
     let b = within(alloc, &[b"b", b"encrypt"], &[]).expect(&rt, "no field");
     assert!(rt; has_fault(alloc, &[b"properties"], &[&a, &b], Some(SchemaFault::NoKey)));
-}
-
-/// So many protected fields, of names of two bytes.
-fn many_fields(alloc: Global, count: u32) -> Option<Vec<u8>> {
-    let mut fields = Vec::new(alloc);
-    for i in 0..count {
-        let name = [
-            b'a'.wrapping_add((i % 64) as u8),
-            0x80 | ((i / 64) % 128) as u8,
-        ];
-        let field = within(alloc, &[&name, b"encrypt"], &[])?;
-        fields.extend_from_slice(&field).ok()?;
-    }
-    Some(fields)
 }
 
 /// The rules of `{encryptMetadata: {keyId: [K1], algorithm: RAND}, properties: {..}}` with so many such fields.

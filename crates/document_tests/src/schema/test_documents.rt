@@ -84,6 +84,20 @@ pub(crate) fn within(alloc: Global, path: &[&[u8]], parts: &[&[u8]]) -> Option<V
     Some(inner)
 }
 
+/// So many protected fields, of names of two bytes.
+pub(crate) fn many_fields(alloc: Global, count: u32) -> Option<Vec<u8>> {
+    let mut fields = Vec::new(alloc);
+    for i in 0..count {
+        let name = [
+            b'a'.wrapping_add((i % 64) as u8),
+            0x80 | ((i / 64) % 128) as u8,
+        ];
+        let field = within(alloc, &[&name, b"encrypt"], &[])?;
+        fields.extend_from_slice(&field).ok()?;
+    }
+    Some(fields)
+}
+
 /// The rules of the schema of these elements, or why it is refused; `None` where it can't be made.
 pub(crate) fn rules(alloc: Global, elements: &[u8]) -> Option<Result<Rows, SchemaFault>> {
     let mut schema = Vec::new(alloc);

@@ -1,5 +1,6 @@
 use Rattle.std.proofs.Common.{◌+◌, ap, arith, length, drop, rules}
 use Rattle.bson_tree.specs.Tree.{items_size}
+use Rattle.doc_rewrite.specs.Sites.{site_seen}
 use Rattle.doc_rewrite.specs.Standing.{empties}
 use Rattle.doc_rewrite.proofs.Judged.{none_in, own_site, inside_told, goes_on, ended}
 use Rattle.command_tests.proofs.rewrite.standing.+stand.Goals as goal
@@ -19,7 +20,7 @@ stand_at-returns-in-None t c = record {
 pub stand_at-returns-then-site-end : goal.stand_at-returns-then-site-end
 stand_at-returns-then-site-end t c = record {
   taken = own_site c.args.item.now (drop c.args.next c.args.sites.now)
-      (drop (c.args.next + 1) c.args.sites.now) c.in-Some.site c.in-Some.ensures.first
+      (drop (c.args.next + 1) c.args.sites.now) (site_seen c.in-Some.site) c.in-Some.ensures.first
       (omega (arith, c.if-site-start.true, c.start-start.ensures.start))
       (omega (arith, c.if-site-end.true, c.start-start.ensures.start, ap length c.value.ensures.spelling));
 }

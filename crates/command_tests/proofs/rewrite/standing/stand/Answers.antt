@@ -6,5 +6,5 @@ pub returns-in-Some : goal.returns-in-Some
 returns-in-Some c = record {
   stand = λ all. all_told c.args.rows.now c.args.marks.now c.args.document.now c.sites_of-sites.result
       c.sites_of-sites.result c.in-Some.n c.len.result (search rules) c.sites_of-sites.ensures.sites (search rules)
-      c.in-Some.ensures.taken (search rules) (search (rules, all));
+      (search rules) c.in-Some.ensures.taken (search rules) (search (rules, all));
 }
