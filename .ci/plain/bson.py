@@ -14,11 +14,12 @@ def spell(value):
 
 
 def text(words):
-    return struct.pack("<i", len(words.encode()) + 1) + words.encode() + b"\0"
+    spelled = words.encode("utf-8", "surrogateescape")
+    return struct.pack("<i", len(spelled) + 1) + spelled + b"\0"
 
 
 def words_of(value):
-    return value[4:-1].decode()
+    return value[4:-1].decode("utf-8", "surrogateescape")
 
 
 def binary(subtype, contents):

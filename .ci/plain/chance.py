@@ -1,8 +1,8 @@
-"""Random schemas and commands, most of them near to what the rules accept."""
+"""Random commands, most of them near to what the rules accept."""
 import struct
 
-from plain.bson import ARRAY, BINARY, DOCUMENT, INT, REGEX, STRING, array, binary, spell, text
-from plain.rules import MARKED, PASSING, rule_at
+from plain.bson import ARRAY, BINARY, DOCUMENT, INT, REGEX, STRING, binary, spell, text
+from plain.rules import MARKED, PASSING, Contents, rule_at
 
 ALGORITHMS = {"D": "AEAD_AES_256_CBC_HMAC_SHA_512-Deterministic", "R": "AEAD_AES_256_CBC_HMAC_SHA_512-Random"}
 # Names of types that a rule may state, with their type bytes; the deterministic algorithm may take the first eleven.
@@ -12,6 +12,8 @@ TYPES = [("string", 2), ("binData", 5), ("objectId", 7), ("date", 9), ("regex", 
 RAW = [1, 2, 5, 6, 7, 8, 9, 10, 11, 12, 13, 14, 15, 16, 17, 18, 19, 127, 255]
 NAMES = ["a", "b", "c", "d", "ssn", "0", "$x", "a.b", "", "documents"]
 OTHERS = ["d", "e", "x", "7", "_id", "", "a", "$x"]  # names that a schema lists seldom
+KEY_NAMES = ["hr", "pay/roll", "x", "", "k\0n", "\u00e9"]  # those that keys have, in any order
+NO_NAMES = ["none", "h", "k", "hr "]  # those that no key has
 UNREAD = ["ordered", "lsid", "comment", "writeConcern", "hint", "limit", "sort", "collation"]
 
 
@@ -38,66 +40,42 @@ def some_element(chance, name, depth):
     return (tag, name, some_raw(chance, tag))
 
 
-# ---- collection infos
+# ---- texts that name keys
 
-def some_rule(chance, key, algorithm):
-    """The elements of `encrypt` under a key and an algorithm that may be in force, and the rule that they make."""
-    own_key, own, rule = key, algorithm, []
-    if key is None or chance.random() < 0.3:
-        own_key = chance.randbytes(16)
-        rule.append((ARRAY, "keyId", [(BINARY, "0", binary(4, own_key))]))
-    if algorithm is None or chance.random() < 0.3:
-        own = chance.choice("DR")
-        rule.append((STRING, "algorithm", text(ALGORITHMS[own])))
-    types = chance.sample(TYPES[:11] if own == "D" else TYPES, 1 if own == "D" else chance.randrange(1, 4))
-    if own == "R" and chance.random() < 0.5:
-        types = TYPES
-    elif len(types) == 1:
-        rule.append((STRING, "bsonType", text(types[0][0])))
+def some_name(chance):
+    return chance.choice(NO_NAMES if chance.random() < 0.01 else KEY_NAMES)
+
+
+def spoiled_target(chance, name):
+    """What stands in the place of a field that names a key, and names none; or one that does so by its type."""
+    good = STRING, name, text(some_name(chance))
+    other = chance.choice([(14, name, text("hr")), (INT, name, bytes(4)), (ARRAY, name, [(STRING, "0", text("hr"))]),
+                           (DOCUMENT, name, []), (10, name, b"")])
+    return chance.choice([[], [good, good], [good, other], [other]])
+
+
+def with_target(chance, elements, names):
+    """The elements with a text where these names lead to, but for chance."""
+    name, *inner = names
+    others, mine = ([one for one in elements if (one[1] == name) == same] for same in (False, True))
+    if inner:
+        within = next((value for tag, _, value in mine if tag == DOCUMENT), [])
+        made = [(DOCUMENT, name, with_target(chance, within, inner))]
+        made = made if chance.random() < 0.99 else chance.choice([made + made, [(ARRAY, *made[0][1:])]])
     else:
-        rule.append((ARRAY, "bsonType", array(STRING, [text(name) for name, _ in types])))
-    return rule, (own, own_key, [tag for _, tag in types])
+        made = [(STRING, name, text(some_name(chance)))]
+        made = made if chance.random() < 0.98 else spoiled_target(chance, name)
+    at = chance.randrange(len(others) + 1)
+    return others[:at] + made + others[at:]
 
 
-def some_schema(chance, rules, path, key, algorithm, depth):
-    """The elements of a schema; its rules, by their paths, are added to the dictionary in their order."""
-    elements, fields = [], []
-    if chance.random() < 0.4:
-        key, algorithm = chance.randbytes(16), chance.choice("DR")
-        elements.append((DOCUMENT, "encryptMetadata", [(ARRAY, "keyId", [(BINARY, "0", binary(4, key))]),
-                                                       (STRING, "algorithm", text(ALGORITHMS[algorithm]))]))
-    for name in chance.sample(["a", "b", "c", "ssn", "0"], chance.randrange(4) if path else 3):
-        if depth and chance.random() < 0.4:
-            fields.append((DOCUMENT, name, some_schema(chance, rules, path + (name,), key, algorithm, depth - 1)))
-        elif chance.random() < 0.8:
-            rule, rules[path + (name,)] = some_rule(chance, key, algorithm)
-            fields.append((DOCUMENT, name, [(DOCUMENT, "encrypt", rule)]))
-        elif chance.random() < 0.5:
-            fields.append((DOCUMENT, name, []))
-    if fields:
-        elements.append((DOCUMENT, "properties", fields))
-    if chance.random() < (0.25 if path else 0.05):
-        listed = frozenset(name for _, name, _ in fields)
-        rule, rules[path + (listed,)] = some_rule(chance, key, algorithm)
-        others = (DOCUMENT, "additionalProperties", [(DOCUMENT, "encrypt", rule)])
-        elements.insert(chance.randrange(len(elements) + 1), others)
-    elif chance.random() < 0.1:
-        elements.append((DOCUMENT, "additionalProperties", [(STRING, "bsonType", text("int"))]))
+def some_stored(chance, rules):
+    """A stored document as a whole that these rules accept, mostly."""
+    elements = suited(chance, rules, (), 3)
+    for names in dict.fromkeys(key for _, key, _ in rules.values() if isinstance(key, tuple)):
+        if Contents(rules).standing(names) == "clear" or chance.random() < 0.1:
+            elements = with_target(chance, elements, names)
     return elements
-
-
-def some_infos(chance):
-    infos, file = {}, b""
-    for name in ["people", "staff", "notes", "v"]:
-        rules, view = {}, name == "v"
-        options = []
-        if name != "notes":
-            schema = some_schema(chance, rules, (), None, None, 3)
-            options = [(DOCUMENT, "validator", [(DOCUMENT, "$jsonSchema", schema)])]
-        file += spell([(STRING, "name", text(name)), (STRING, "type", text("view" if view else "collection")),
-                       (DOCUMENT, "options", options)])
-        infos[name] = ({} if view else rules, view)
-    return infos, file
 
 
 # ---- values under rules
@@ -150,7 +128,7 @@ def some_compared(chance, rules, path, name):
     rule = rules.get(rule_at(rules, path))
     if rule and chance.random() < 0.98:
         return suited_value(chance, rule, name)
-    return some_element(chance, name, 1 if rule or chance.random() < 0.3 else 0)
+    return some_element(chance, name, 1 if rule or chance.random() < 0.5 else 0)
 
 
 def some_operators(chance, rules, path, depth):
@@ -193,7 +171,9 @@ def some_filter(chance, rules, depth):
 
 
 def some_argument(chance, rules, operator):
-    """An element of the document behind an operator of an update."""
+    """An element of the document behind an operator of an update, where no pointer can be read."""
+    if chance.random() < 0.97:
+        rules = {path: rule for path, rule in rules.items() if isinstance(rule[1], bytes)}
     path = some_dotted(chance, rules)
     name = ".".join(path)
     if operator == "$rename" and chance.random() < 0.95:
@@ -205,7 +185,7 @@ def some_argument(chance, rules, operator):
 
 def some_update(chance, rules):
     if chance.random() < 0.25:
-        return suited(chance, rules, (), 3)
+        return some_stored(chance, rules)
     elements = []
     for _ in range(chance.randrange(1, 4)):
         operator = chance.choices(["$set", "$setOnInsert", "$unset", "$rename", "$inc", "$push", "a"],
@@ -238,7 +218,7 @@ def some_item(chance, rules, verb):
 
 def some_contents(chance, rules, verb):
     if verb == "insert":
-        documents = [(DOCUMENT, str(at), suited(chance, rules, (), 3)) for at in range(chance.randrange(1, 4))]
+        documents = [(DOCUMENT, str(at), some_stored(chance, rules)) for at in range(chance.randrange(1, 4))]
         return [(ARRAY, "documents", documents)]
     if verb in ("update", "delete"):
         items = [(DOCUMENT, str(at), some_item(chance, rules, verb)) for at in range(chance.randrange(1, 4))]
@@ -262,7 +242,7 @@ def some_command(chance, infos):
         first = some_element(chance, chance.choice(PASSING), 1)
         return [first] + [(STRING, "$db", text("admin"))] * (chance.random() < 0.8)
     contents = some_contents(chance, infos.get(name, ({}, False))[0], verb)
-    command = [(STRING, verb, text(name))] + contents + [(STRING, "$db", text("hr"))]
+    command = [(STRING, verb, text(name))] + contents + [(STRING, "$db", text("hr" if chance.random() < 0.99 else "x"))]
     if chance.random() < 0.3:
         command.insert(chance.randrange(1, len(command) + 1), some_element(chance, chance.choice(UNREAD), 1))
     while chance.random() < 0.05:

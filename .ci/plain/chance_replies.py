@@ -3,10 +3,11 @@ one that is spoiled in one of many ways, of which some leave it right."""
 import struct
 
 from plain.bson import ARRAY, BINARY, DOCUMENT, INT, binary, places_of, spell, with_values
-from plain.chance import NAMES, RAW, some_element, some_raw
+from plain.chance import KEY_NAMES, NAMES, RAW, some_element, some_raw
+from plain.marking import key_field, marks_of, reply
 from plain.reading import LEVELS, document_at, documents_of
 from plain.replies import ORDER, READ
-from plain.rules import marks_of, reply, rules_of
+from plain.rules import rules_of
 
 OTHERS = ["ok", "Result", "results", "resul", "hasEncryptionPlaceholder", "schemaRequiresEncryption ", ""]  # unread
 FORMS = [(2, 13, 14), (1, 9, 17, 18), (6, 10, 127, 255), (DOCUMENT, ARRAY)]  # types whose values have one form
@@ -92,12 +93,18 @@ def shuffled(chance, elements):
     return chance.sample(elements, len(elements))
 
 
+def some_need(chance, rules):
+    """A key's name, or the id of a rule's key where one is named so."""
+    ids = [key for _, key, _ in rules.values() if isinstance(key, bytes)]
+    return ("ki", chance.choice(ids)) if ids and chance.random() < 0.5 else ("ka", chance.choice(KEY_NAMES))
+
+
 def under_another(chance, fields, rules):
-    """A marking under the other algorithm, or under the key of another rule."""
+    """A marking under the other algorithm, or under another key, or one that is named otherwise."""
     if chance.random() < 0.5:
         return [(tag, name, struct.pack("<i", 3 - value[0]) if name == "a" else value) for tag, name, value in fields]
-    _, key, _ = chance.choice(list(rules.values()))
-    return [(tag, name, binary(4, key) if name == "ki" else value) for tag, name, value in fields]
+    key = key_field(some_need(chance, rules))
+    return [key if field[1] in ("ki", "ka") else field for field in fields]
 
 
 def in_another_frame(chance, fields):
@@ -136,15 +143,13 @@ def reordered(chance, elements, marks):
 def marked_too_much(chance, result, rules):
     """A marking in the place of one more value."""
     place, tag, value = chance.choice(list(places_of(result)))
-    algorithm, key, _ = chance.choice(list(rules.values()) or [("D", bytes(16), [])])
-    rest = [(INT, "a", struct.pack("<i", "DR".index(algorithm) + 1)), (BINARY, "ki", binary(4, key))]
+    rest = [(INT, "a", struct.pack("<i", chance.choice([1, 2]))), key_field(some_need(chance, rules))]
     return with_values(result, {place: marking([(tag, "v", value), *rest])})
 
 
 def spoiled(chance, elements, infos, command, others):
     """A right reply that is changed once, in its own elements, in its result or in one of its markings."""
-    rules = rules_of(infos, command)
-    marks = marks_of(rules, command)
+    rules, marks = rules_of(infos, command), marks_of(infos, command)
     way = chance.choice([0, 0, 1, 2, 3, 4, 5, 5, 5])
     if way == 0:
         return edited(chance, elements)
@@ -170,7 +175,7 @@ def of_right(infos, command):
 def some_right_reply(chance, infos, command):
     """The elements of a right reply to a command that isn't refused, in the form of `fle mark` or in another one."""
     elements = of_right(infos, command)
-    marks = marks_of(rules_of(infos, command), command)
+    marks = marks_of(infos, command)
     return reordered(chance, elements, marks) if chance.random() < 0.5 else elements
 
 

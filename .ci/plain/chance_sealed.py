@@ -3,7 +3,7 @@ changed."""
 import base64
 
 from plain.bson import ARRAY, BINARY, DATE, DOCUMENT, INT, STRING, array, binary, spell, text
-from plain.chance import NAMES, RAW, TYPES, some_raw
+from plain.chance import KEY_NAMES, NAMES, RAW, TYPES, some_raw
 from plain.sealing import Vault, derived_vector, padded, sealed
 
 FOREIGN = ["aws", "azure", "gcp", "kmip", "Local", "local:a", "loca", ""]
@@ -46,32 +46,40 @@ def some_dates(chance):
     return [(tag, "updateDate", chance.randbytes(8)) for tag in tags]
 
 
-def key_document(chance, number, key_id, provider, material):
+def some_ids(chance, infos):
+    """The ids that rules name, each once, and a few more."""
+    named = [key for rules, _ in infos.values() for _, key, _ in rules.values() if isinstance(key, bytes)]
+    return list(dict.fromkeys(named)) + [chance.randbytes(16) for _ in range(3)]
+
+
+def key_document(chance, key_id, names, provider, material):
     inner = some_dates(chance) if chance.random() < 0.1 else []
     fields = [(BINARY, "_id", binary(4, key_id)), (BINARY, "keyMaterial", binary(0, material)),
               (DATE, "creationDate", chance.randbytes(8)), *some_dates(chance), (INT, "status", bytes(4)),
               (DOCUMENT, "masterKey", [(STRING, "provider", text(provider)), *inner])]
-    names = [text(f"key-{number}-{at}") for at in range(chance.randrange(3))]
     if names or chance.random() < 0.5:
-        fields.append((ARRAY, "keyAltNames", array(STRING, names)))
+        fields.append((ARRAY, "keyAltNames", array(STRING, map(text, names))))
     if chance.random() < 0.3:
         chance.shuffle(fields)
     return spell(fields)
 
 
 def some_vault(chance, ids):
-    """A vault for these ids, where in four of ten one in four keys is spoiled; its file, and that of the master key."""
+    """A vault for these ids, where in four of ten one in four keys is spoiled, and where each name is that of some key;
+    its file, and that of the master key."""
     master, keys, file = chance.randbytes(96), {}, b""
     spoiled = 0.25 if chance.random() < 0.4 else 0
-    for number, key_id in enumerate(chance.sample(ids, len(ids)) + [chance.randbytes(16)]):
+    owners = {name: chance.choice(ids) for name in chance.sample(KEY_NAMES, len(KEY_NAMES))}
+    for key_id in chance.sample(ids, len(ids)) + [chance.randbytes(16)]:
         way = chance.choice(["missing", "foreign", "damaged"]) if chance.random() < spoiled else ""
         if way != "missing":
             provider = chance.choice(FOREIGN) if way == "foreign" else "local"
             material = some_material(chance, master, way == "damaged")
-            file += key_document(chance, number, key_id, provider, material)
+            names = [name for name, owner in owners.items() if owner == key_id]
+            file += key_document(chance, key_id, names, provider, material)
             keys[key_id] = provider, material
     text_of_master = base64.b64encode(master)
-    return Vault(master, keys), file, chance.choice([master, text_of_master, text_of_master + b"\n"])
+    return Vault(master, keys, owners), file, chance.choice([master, text_of_master, text_of_master + b"\n"])
 
 
 # ---- documents to be opened

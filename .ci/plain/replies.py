@@ -1,24 +1,26 @@
 """Marking replies from a service that isn't trusted, judged plainly: which reply is the right one to a command, and how
 far a row of pairs, each a command and the reply to it, is accepted."""
 from plain.bson import BINARY, DOCUMENT, binary, places_of, spell, with_values
+from plain.marking import marks_of, reply
 from plain.reading import LEVELS, document_at, documents_of
-from plain.rules import judge, marks_of, reply, rules_of
+from plain.rules import judge
 
 READ = {"hasEncryptionPlaceholders": 8, "schemaRequiresEncryption": 8, "result": DOCUMENT}  # what is read, its type
-ORDER = ["v", "a", "ki"]  # of the fields of a marking
+ORDER = ["v", "a", "ki", "ka"]  # of the fields of a marking, which has one of the last two
 WITHOUT = ()  # the place of a refusal that has none
 SHAPE, DIFFERS, MISSING = 25, 26, 27
 
 
 def in_order(tag, value):
-    """A value, with its fields in their order where it is a marking: 00, and a document of these fields, each once."""
+    """A value, with its fields in their order where it is a marking: 00, and a document of three of these fields, each
+    once."""
     if tag != BINARY or value[4] != 6 or value[5:6] != b"\0":
         return tag, value
     try:
         fields, behind = document_at(value, 6, len(value), LEVELS)
     except ValueError:
         return tag, value
-    if behind < len(value) or sorted(name for _, name, _ in fields) != sorted(ORDER):
+    if behind < len(value) or sorted(name for _, name, _ in fields) not in (["a", "ki", "v"], ["a", "ka", "v"]):
         return tag, value
     return tag, binary(6, b"\0" + spell(sorted(fields, key=lambda field: ORDER.index(field[1]))))
 
@@ -40,7 +42,7 @@ def judge_reply(infos, command, elements):
     if len(found) < len(READ):
         return WITHOUT, SHAPE
     [(right, _)] = documents_of(reply(infos, command))
-    marks = marks_of(rules_of(infos, command), command)
+    marks = marks_of(infos, command)
     for _, name, wanted in right[:len(READ)]:
         _, _, value = elements[found[name]]
         if (ordered(value, marks) if name == "result" else value) != wanted:

@@ -1,14 +1,14 @@
 """The rules on commands, plainly. Rules are a dictionary from paths (tuples of names) to (algorithm, key, type bytes).
-The last component of a path may be a set of names: it stands for each name that isn't among them.
+The last component of a path may be a set of names: it stands for each name that isn't among them. A key is an id, 16
+bytes, or the names of a JSON pointer, a tuple. What a key is asked for by, a need, is a field of a marking and its
+value: `ki` and an id, or `ka` and a name.
 
 A command's offences are pairs of a place and a reason, in no order: the one that counts is the first place in reading
 order, which is the order of tuples of child numbers, and at one place the least reason.
 """
 import re
-import struct
 
-from plain.bson import (ARRAY, BINARY, DOCUMENT, INT, REGEX, STRING, binary, places_of, spell, text, with_values,
-                        words_of)
+from plain.bson import ARRAY, BINARY, DOCUMENT, REGEX, STRING, text, words_of
 
 PASSING = ["ping", "hello", "getMore", "killCursors", "endSessions", "listCollections", "commitTransaction",
            "abortTransaction"]
@@ -21,13 +21,31 @@ def is_part(part, name):
     return name not in part if isinstance(part, frozenset) else name == part
 
 
+def only(name, tag, elements):
+    """The value of the only element of this name, where it has this type; else None."""
+    found = [(inner, value) for inner, other, value in elements if other == name]
+    return found[0][1] if len(found) == 1 and found[0][0] == tag else None
+
+
+def target_of(names, elements):
+    """The text to which a pointer's names lead in a document, or None."""
+    *outer, last = names
+    for name in outer:
+        elements = only(name, DOCUMENT, elements)
+        if elements is None:
+            return None
+    value = only(last, STRING, elements)
+    return None if value is None else words_of(value)
+
+
 def rule_at(rules, path):
     """The path of the rule that protects the field at this one, or None."""
     return next((rule for rule in rules if len(rule) == len(path) and all(map(is_part, rule, path))), None)
 
 
 class Contents:
-    """One walk over a command's contents: its offences, and the rule of each place that has one."""
+    """One walk over a command's contents: its offences, and the algorithm and the need of each place that has a rule.
+    A root is the elements of a stored document as a whole, where pointers are read from one."""
 
     def __init__(self, rules):
         self.rules, self.offences, self.marks = rules, [], {}
@@ -58,23 +76,40 @@ class Contents:
 
     # ---- stored values
 
-    def stored(self, path, place, tag, value):
-        self.marks[place] = rule_at(self.rules, path)
-        if tag in UNSTORABLE or tag not in self.rule(path)[2]:
+    def need(self, key, root):
+        """What a rule's key is asked for by, or None where its pointer leads to no text."""
+        if isinstance(key, bytes):
+            return "ki", key
+        name = target_of(key, root) if root is not None and self.standing(key) == "clear" else None
+        return None if name is None else ("ka", name)
+
+    def protected(self, path, place, tag, value, root=None):
+        algorithm, key, types = self.rule(path)
+        self.marks[place] = algorithm, self.need(key, root)
+        if tag in UNSTORABLE or tag not in types:
             self.refuse(place, 5)
         if tag == BINARY and value[4] == 6:
             self.refuse(place, 6)
 
-    def document(self, path, place, elements):
+    def stored(self, path, place, tag, value, root):
+        self.protected(path, place, tag, value, root)
+        if self.marks[place][1] is None:
+            self.refuse(place, 23)
+
+    def document(self, path, place, elements, root):
         for number, (tag, name, value) in enumerate(elements):
             below, here = path + (name,), place + (number,)
             standing = self.standing(below)
             if standing == "protected":
-                self.stored(below, here, tag, value)
+                self.stored(below, here, tag, value, root)
             elif standing == "above" and tag == ARRAY:
                 self.refuse(here, 7)
             elif standing == "above" and tag == DOCUMENT:
-                self.document(below, here, value)
+                self.document(below, here, value, root)
+
+    def whole(self, place, elements):
+        """A stored document as a whole."""
+        self.document((), place, elements, elements)
 
     # ---- filters
 
@@ -83,7 +118,7 @@ class Contents:
             if tag in (DOCUMENT, ARRAY):
                 self.refuse(place, 12)
             return
-        self.stored(path, place, tag, value)
+        self.protected(path, place, tag, value)
         if self.rule(path)[0] == "R":
             self.refuse(place, 10)
         if tag == REGEX:
@@ -149,7 +184,7 @@ class Contents:
 
     def update(self, place, elements):
         if not elements or not elements[0][1].startswith("$"):
-            self.document((), place, elements)
+            self.whole(place, elements)
             return
         for number, (tag, operator, value) in enumerate(elements):
             here = place + (number,)
@@ -170,13 +205,13 @@ class Contents:
             return
         elif operator in ("$set", "$setOnInsert"):
             if standing == "protected":
-                self.stored(path, place, tag, value)
+                self.stored(path, place, tag, value, None)
             elif standing == "below":
                 self.refuse(place, 8)
             elif standing == "above" and tag == ARRAY:
                 self.refuse(place, 7)
             elif standing == "above" and tag == DOCUMENT:
-                self.document(path, place, value)
+                self.document(path, place, value, None)
         elif operator == "$unset":
             if standing == "below":
                 self.refuse(place, 8)
@@ -244,9 +279,8 @@ class Contents:
         self.fields(place, elements, {"q": self.document_or(self.filter)}, ["q"])
 
     def command(self, elements):
-        stored = lambda place, document: self.document((), place, document)
         read, required = {
-            "insert": ({"documents": self.array_of(stored)}, ["documents"]),
+            "insert": ({"documents": self.array_of(self.whole)}, ["documents"]),
             "update": ({"updates": self.array_of(self.item_of_updates), "let": self.unusable}, ["updates"]),
             "delete": ({"deletes": self.array_of(self.item_of_deletes), "let": self.unusable}, ["deletes"]),
             "find": ({"filter": self.document_or(self.filter), "projection": self.document_or(self.projection),
@@ -293,29 +327,3 @@ def judge(infos, command, db):
     if refused or not rules_of(infos, command):
         return refused
     return min(Contents(rules_of(infos, command)).command(command).offences, default=None)
-
-
-def marked(rules, marks, command):
-    """The command with a marking in the place of each value that has a rule."""
-    values = {}
-    for place, tag, value in places_of(command):
-        if place in marks:
-            algorithm, key, _ = rules[marks[place]]
-            number = struct.pack("<i", "DR".index(algorithm) + 1)
-            fields = [(tag, "v", value), (INT, "a", number), (BINARY, "ki", binary(4, key))]
-            values[place] = BINARY, binary(6, b"\0" + spell(fields))
-    return with_values(command, values)
-
-
-def marks_of(rules, command):
-    """The rule of each place of a command that isn't refused: a dictionary from places to paths."""
-    return Contents(rules).command(command).marks if rules else {}
-
-
-def reply(infos, command):
-    """The marking reply to a command that isn't refused."""
-    rules = rules_of(infos, command)
-    marks = marks_of(rules, command)
-    return spell([(8, "hasEncryptionPlaceholders", bytes([bool(marks)])),
-                  (8, "schemaRequiresEncryption", bytes([bool(rules)])),
-                  (DOCUMENT, "result", marked(rules, marks, command)), (1, "ok", struct.pack("<d", 1.0))])

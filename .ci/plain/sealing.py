@@ -50,10 +50,15 @@ def opened(key, head, contents):
 
 
 class Vault:
-    """Keys under a master key: a dictionary from ids to providers and materials."""
+    """Keys under a master key: a dictionary from ids to providers and materials, and one from names to ids."""
 
-    def __init__(self, master, keys):
-        self.master, self.keys, self.known = master, keys, {}
+    def __init__(self, master, keys, names):
+        self.master, self.keys, self.names, self.known = master, keys, names, {}
+
+    def id_for(self, need):
+        """The id of the key for a need, as rules.py has them; None where no key has the name."""
+        field, value = need
+        return value if field == "ki" else self.names.get(value)
 
     def open(self, key_id):
         if key_id not in self.keys:
@@ -74,19 +79,20 @@ class Vault:
         return self.known[key_id]
 
     def refusal(self, needs):
-        """The place and the reason of the first of some places whose key, of that id, isn't to be had."""
-        answers = ((place, self.data_key(key_id)) for place, key_id in needs)
+        """The place and the reason of the first of some places whose key, for that need, isn't to be had."""
+        answers = ((place, self.data_key(self.id_for(need))) for place, need in needs)
         return next(((place, key) for place, key in answers if isinstance(key, int)), None)
 
 
-def seal(rules, marks, command, vault, blocks):
+def seal(marks, command, vault, blocks):
     """A command that its rules accept, sealed, random values under the next of the blocks; or None, and its refusal."""
     values = {}
-    protected = [(place, tag, value, rules[marks[place]]) for place, tag, value in places_of(command) if place in marks]
-    refused = vault.refusal((place, rule[1]) for place, _, _, rule in protected)
+    protected = [(place, tag, value, *marks[place]) for place, tag, value in places_of(command) if place in marks]
+    refused = vault.refusal((place, need) for place, _, _, _, need in protected)
     if refused:
         return None, refused
-    for place, tag, value, (algorithm, key_id, _) in protected:
+    for place, tag, value, algorithm, need in protected:
+        key_id = vault.id_for(need)
         key, head, plain = vault.data_key(key_id), KINDS[algorithm] + key_id + bytes([tag]), spell(value)
         vector = derived_vector(key, head, plain) if algorithm == "D" else next(blocks)
         values[place] = BINARY, binary(6, head + sealed(key, head, vector, padded(plain)))
@@ -115,7 +121,7 @@ def unseal(elements, vault):
     misshapen = [place for place, contents in found if len(contents) < 82 or (len(contents) - 66) % 16]
     if misshapen:
         return None, (misshapen[0], 19)
-    refused = vault.refusal((place, contents[1:17]) for place, contents in found)
+    refused = vault.refusal((place, ("ki", contents[1:17])) for place, contents in found)
     if refused:
         return None, refused
     for place, contents in found:
