@@ -119,6 +119,7 @@ class SchemaFault(IntEnum):
     DeterministicType = 49
     Name = 50
     TooMany = 51
+    DeterministicPointer = 54
 
 
 Fault = Union[Reason, InputFault, Limit, FileFault, MasterFault, KeyFault, SchemaFault]
