@@ -21,3 +21,5 @@ pub mod Values
 pub mod Grammar
 pub mod Offsets
 pub mod Spots
+pub mod Standings
+pub mod PlainNames

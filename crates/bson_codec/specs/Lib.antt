@@ -6,3 +6,5 @@ pub mod Reading
 pub mod Measure
 pub mod Borrowed
 pub mod Elements
+pub mod Standings
+pub mod Values

@@ -129,13 +129,9 @@ unfoldable pub type_at : ℕ → ℕ → Result ValueLayout BsonFault
 type_at p tag = if tag == 0 then fault kinds.Extra (p + 1) else layout_by p (layout_of tag)
 
 -- a value of this type and layout, and its number of bytes
-abbrev pub value_by : Reader → ℕ → ValueLayout → ℕ → List ℕ → Result (Tree × ℕ) BsonFault
-value_by f tag values.Document p bs = f false p bs >>= λ x. Ok (node tag x.0, x.1)
-value_by f tag (values.Raw layout) p bs = raw_at f layout p bs >>= λ n. Ok (leaf tag (take n bs), n)
-
--- the same under a name that stays folded in proofs
 unfoldable pub value_at : Reader → ℕ → ValueLayout → ℕ → List ℕ → Result (Tree × ℕ) BsonFault
-value_at f tag layout p bs = value_by f tag layout p bs
+value_at f tag values.Document p bs = f false p bs >>= λ x. Ok (node tag x.0, x.1)
+value_at f tag (values.Raw layout) p bs = raw_at f layout p bs >>= λ n. Ok (leaf tag (take n bs), n)
 
 -- an element's name, its value, and its number of bytes
 pub record First : Type 0 where

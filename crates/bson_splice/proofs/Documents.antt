@@ -10,8 +10,13 @@ use Rattle.bson_splice.specs.Spans.{Span, AreFits, IsNextAt, most_next}
 use Rattle.bson_splice.specs.Splicing.{HasRoom, PutsOne, Splices, Stops, element_made, element_left, elements_made}
 use Rattle.bson_splice.specs.Splicing.{elements_left, document_made, document_left}
 use Rattle.bson_splice.specs.Splices.{Put, left_in, left, spliced_in, spliced}
-use Rattle.bson_splice.proofs.Fitting.{blanks, blanks_fit}
+use Rattle.bson_splice.proofs.Fitting.{blank, blanks, blanks_fit}
 use Rattle.bson_splice.proofs.Steps.{puts}
+
+-- the first of them takes the element's own place
+own : (e : Elem) (p : Put) (ps : List Put) → p.start ≡ e.start
+    → (spliced_in e.start (p ∷ ps) e.tree ≡ p.value e.tree) × (left_in e.start (p ∷ ps) e.tree ≡ ps)
+own e p ps s = puts (λ (q : Put). q.start) e.start (λ (q : Put). q.value) e.tree p (p ∷ ps) ps refl s
 
 module _ (ss : List Span) where
   -- ---- room
@@ -58,7 +63,7 @@ pub room_put : (ss : List Span) (e : Elem) (at size : ℕ) → HasRoom ss (eleme
 room_put [] e at size room next = absurd next
 room_put (s ∷ ss) e at size room next =
     let all = blanks (s ∷ ss) in
-    let made = (puts e.start e.tree _ all (blanks ss) refl next).0 in
+    let made = (own e (blank s) (blanks ss) next).0 in
     let low = subst (λ (t : Tree). at + length (items_bytes (item e.name t no_items)) ≤ size) made
     (room all (blanks_fit (s ∷ ss))) in
     omega (
@@ -99,8 +104,8 @@ module _ {S : Type 0} (step : S → S → Put → Type 0) (spans : S → List Sp
         written = λ rest f.
             one.written
             ∙ ap (λ (t : Tree). take at old ++ items_bytes (item e.name t no_items))
-            (sym (puts e.start e.tree one.it (one.it ∷ rest) rest refl here).0);
-        left = λ rest f. (puts e.start e.tree one.it (one.it ∷ rest) rest refl here).1;
+            (sym (own e one.it rest here).0);
+        left = λ rest f. (own e one.it rest here).1;
       }
 
   -- nothing was put in before the next one was refused

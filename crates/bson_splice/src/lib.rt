@@ -22,4 +22,5 @@ pub mod writing;
 
 pub use putter::{Putter, Stopped};
 pub use splicing::splice;
+pub use step::{Step, step_by};
 pub use values::{NewValue, TooLong, splice_values, spliced_len};

@@ -1,3 +1,5 @@
 pub mod Lists
+pub mod NameNumbers
+pub mod PartBytes
 pub mod Sizes
 pub mod Worked

@@ -5,3 +5,4 @@ pub mod Filled
 pub mod Code
 pub mod View
 pub mod Falls
+pub mod NameNumbers

@@ -14,6 +14,7 @@
 
 mod bytes;
 mod copy;
+mod name_hash;
 mod names;
 mod place;
 mod size;
@@ -23,6 +24,7 @@ pub mod types;
 
 pub use bytes::Bytes;
 pub use copy::copy_doc;
+pub use name_hash::hash_of;
 pub use names::Names;
 pub use place::{Place, value_at};
 pub use size::byte_size;

@@ -1,20 +1,21 @@
 -- A key document as it is written has a spelling.
-use Rattle.std.proofs.Common.{◌≡◌, ◌^◌, ℕ, zero, suc, ◌+◌, ◌<◌, ◌≤◌, Bool, true, false, List, [], ◌∷◌}
+use Rattle.std.proofs.Common.{◌≡◌, ◌^◌, ℕ, zero, suc, ◌+◌, ◌<◌, ◌≤◌, List, [], ◌∷◌}
 use Rattle.std.proofs.Common.{length, map, refl, sym, subst, arith}
 use Rattle.std.specs.Prelude.{codes, decimal, Ok}
 use Rattle.std.proofs.lemmas.Fmt.{decimal_digit, decimal-digits_of}
 use Rattle.std.specs.Int.Digits.{digits_of}
-use Rattle.std.proofs.lemmas.Bool.{false≢true}
 use Rattle.bson_tree.specs.Tree.{Items, node, no_items, item}
 use Rattle.bson_tree.specs.Spelling.{items_bytes, doc_bytes}
+use Rattle.bson_tree.proofs.Sizes.{framed_size}
 use Rattle.bson_codec.specs.Layout.{IsName, IsValue, AreElements, IsItems}
 use Rattle.bson_codec.specs.Reading.{document}
 use Rattle.bson_codec.specs.Table.{layout_of}
+use Rattle.bson_codec.proofs.PlainNames.{named}
 use Rattle.bson_codec.proofs.Documents.{document_again}
 use Rattle.data_key.specs.declared.key_doc.KeyDoc.{KeyDoc}
 use Rattle.data_key.specs.Written.{text, binary, date, int, numbered, names_field, local_key, history, key_fields}
 use Rattle.data_key.specs.Written.{size_of}
-use Rattle.data_key.proofs.Sizes.{framed_size, numbered_size, first_size, fields_size}
+use Rattle.data_key.proofs.Sizes.{numbered_size, first_size, fields_size}
 
 -- names of digits
 digits_named : (ds : List ℕ) → IsName (map (λ d. 48 + d) ds)
@@ -25,17 +26,6 @@ decimal_named : (n : ℕ) → n < 2 ^ 64 → IsName (decimal n)
 decimal_named zero small = subst IsName (sym (decimal_digit 0 (omega arith))) (omega arith, tt)
 decimal_named (suc n) small = subst IsName (sym (decimal-digits_of (suc n) (omega arith) small))
     (digits_named (digits_of 10 (suc n)))
-
--- names that are written out
-abbrev is_name : List ℕ → Bool
-is_name [] = true
-is_name (zero ∷ bs) = false
-is_name (suc b ∷ bs) = is_name bs
-
-named : (bs : List ℕ) → is_name bs ≡ true → IsName bs
-named [] h = tt
-named (zero ∷ bs) h = absurd (false≢true h)
-named (suc b ∷ bs) h = (omega arith, named bs h)
 
 text_laid : (D : Items → Type 0) (name : List ℕ) → length name ≤ 16000000 → IsValue D (text name)
 unfolding layout_of

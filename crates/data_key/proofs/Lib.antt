@@ -1,4 +1,3 @@
-pub mod Standing
 pub mod Together
 pub mod Texts
 pub mod Frames

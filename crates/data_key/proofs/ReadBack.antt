@@ -4,13 +4,13 @@ use Rattle.std.proofs.Common.{ap}
 use Rattle.std.specs.Prelude.{codes, Option, Some, None, Result, Ok}
 use Rattle.bson_tree.specs.Tree.{item}
 use Rattle.bson_codec.specs.Layout.{string_bytes}
+use Rattle.bson_codec.specs.Standings.{standing}
 use Rattle.data_key.specs.declared.key_doc.KeyDoc.{KeyDoc}
 use Rattle.data_key.specs.declared.key_doc.KeyFault.{KeyFault}
 use Rattle.data_key.specs.declared.key_doc.KeyFault.TheVariants as faults
 use Rattle.data_key.specs.declared.key_doc.Provider.{Provider}
 use Rattle.data_key.specs.declared.key_doc.Provider.TheVariants as providers
 use Rattle.data_key.specs.Key.{key_in, or_fault, ◌>>=◌}
-use Rattle.data_key.specs.Standings.{standing}
 use Rattle.data_key.specs.Values.{are_strings, texts, uuid_of}
 use Rattle.data_key.specs.Written.{binary, numbered, names_field, history, key_fields, IsWritable, ReadsBack}
 use Rattle.bson_tree.specs.Spelling.{doc_bytes}
@@ -37,7 +37,8 @@ id_again : (id : List ℕ) → length id ≡ 16 → uuid_of (binary 4 id) ≡ So
 id_again id long = ap (λ (n : ℕ). cond (n == 16) (Some id) None) long
 
 -- the key of fields of these values
-abbrev key_by : Option (List ℕ) → Option (List (List ℕ)) → Option (List ℕ) → Option Provider → Result KeyDoc KeyFault
+abbrev pub key_by : Option (List ℕ) → Option (List (List ℕ)) → Option (List ℕ) → Option Provider
+    → Result KeyDoc KeyFault
 key_by i ns m p =
     or_fault faults.Id i >>= λ id. (or_fault faults.AltNames ns >>= λ names.
     (or_fault faults.Material m >>= λ material. (or_fault faults.Provider p >>= λ provider. Ok (record {

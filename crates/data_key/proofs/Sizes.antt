@@ -3,24 +3,11 @@ use Rattle.std.proofs.Common.{◌≡◌, ℕ, ◌+◌, ◌*◌, ◌≤◌, List,
 use Rattle.std.specs.Prelude.{codes, decimal}
 use Rattle.std.proofs.lemmas.Fmt.{length-decimal-le}
 use Rattle.bson_tree.specs.Tree.{Tree, Items, node, item}
-use Rattle.bson_tree.specs.Spelling.{framed, value_bytes, items_bytes}
+use Rattle.bson_tree.specs.Spelling.{value_bytes, items_bytes}
+use Rattle.bson_tree.proofs.Sizes.{element_size, framed_size}
 use Rattle.data_key.specs.declared.key_doc.KeyDoc.{KeyDoc}
 use Rattle.data_key.specs.Written.{text, binary, numbered, names_field, history, key_fields}
 use Rattle.data_key.specs.Written.{size_of}
-
--- a document has 5 bytes more than its elements
-pub framed_size : (elements : List ℕ) → length (framed elements) ≡ length elements + 5
-framed_size elements = omega (arith, length-append elements (0 ∷ []))
-
--- an element has its type byte, its name, 00 and its value
-pub element_size : (name : List ℕ) (t : Tree) (is : Items)
-    → length (items_bytes (item name t is)) ≡ length name + 2 + length (value_bytes t) + length (items_bytes is)
-element_size name t is =
-    omega (
-      arith,
-      length-append name (0 ∷ (value_bytes t ++ items_bytes is)),
-      length-append (value_bytes t) (items_bytes is),
-    )
 
 pub text_size : (name : List ℕ) → length (value_bytes (text name)) ≡ length name + 5
 text_size name = omega (arith, length-append name (0 ∷ []))

@@ -4,17 +4,17 @@ use Rattle.std.specs.Prelude.{codes}
 use Rattle.bson_tree.specs.Tree.{Tree, Items, item, no_items}
 use Rattle.bson_codec.specs.Borrowed.{Elem}
 use Rattle.data_key.specs.declared.elements.KeyElements.{KeyElements}
-use Rattle.data_key.specs.Seen.{seen}
-use Rattle.data_key.specs.Standings.{Standing, standing, stands_behind, stands_last, stands_too}
-use Rattle.data_key.proofs.Standing.{combined, combined_absent, combined_stands_last}
+use Rattle.bson_codec.specs.Standings.{Standing, field_seen, standing, stands_behind, stands_last, stands_too}
+use Rattle.bson_codec.proofs.Standings.{combined, combined_absent, combined_stands_last}
 
 -- how the names stand among the elements before, with those that are left, is how they stand in the whole
 pub record Together (found : KeyElements) (left whole : Items) : Type 0 where
-  pub id : combined (seen found.id) (standing (codes "_id") left) ≡ standing (codes "_id") whole
-  pub names : combined (seen found.names) (standing (codes "keyAltNames") left) ≡ standing (codes "keyAltNames") whole
-  pub material : combined (seen found.material) (standing (codes "keyMaterial") left)
+  pub id : combined (field_seen found.id) (standing (codes "_id") left) ≡ standing (codes "_id") whole
+  pub names : combined (field_seen found.names) (standing (codes "keyAltNames") left)
+      ≡ standing (codes "keyAltNames") whole
+  pub material : combined (field_seen found.material) (standing (codes "keyMaterial") left)
       ≡ standing (codes "keyMaterial") whole
-  pub master_key : combined (seen found.master_key) (standing (codes "masterKey") left)
+  pub master_key : combined (field_seen found.master_key) (standing (codes "masterKey") left)
       ≡ standing (codes "masterKey") whole
 
 by_test : (b : Bool) (s : Standing) (t : Tree) (r : Standing)

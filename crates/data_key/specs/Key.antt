@@ -1,13 +1,14 @@
 -- MongoDB Client Side Encryption, "Key vault": what a key document says of a key
 use Rattle.std.specs.Prelude.{◌≡◌, ℕ, List, [], Option, Some, None, Result, Ok, Err, codes, bytes_eq, if◌then◌else◌}
 use Rattle.bson_tree.specs.Tree.{Tree, Items, kids_of}
+use Rattle.bson_codec.specs.Standings.{Standing, absent, once, repeated, standing}
+use Rattle.bson_codec.specs.Values.{is_array_value, is_document_value, text_value}
 use Rattle.data_key.specs.declared.key_doc.KeyDoc.{KeyDoc}
 use Rattle.data_key.specs.declared.key_doc.KeyFault.{KeyFault}
 use Rattle.data_key.specs.declared.key_doc.KeyFault.TheVariants as faults
 use Rattle.data_key.specs.declared.key_doc.Provider.{Provider}
 use Rattle.data_key.specs.declared.key_doc.Provider.TheVariants as providers
-use Rattle.data_key.specs.Standings.{Standing, absent, once, repeated, standing}
-use Rattle.data_key.specs.Values.{is_array, is_document, are_strings, texts, text_of, contents_of, uuid_of}
+use Rattle.data_key.specs.Values.{are_strings, texts, contents_of, uuid_of}
 
 -- `_id`: a UUID
 abbrev pub id_in : Standing → Option (List ℕ)
@@ -17,7 +18,7 @@ id_in repeated = None
 
 -- `keyAltNames`: an array of strings where it stands
 abbrev pub names_of : Tree → Option (List (List ℕ))
-names_of t = if is_array t then (if are_strings (kids_of t) then Some (texts (kids_of t)) else None) else None
+names_of t = if is_array_value t then (if are_strings (kids_of t) then Some (texts (kids_of t)) else None) else None
 
 -- the names by how `keyAltNames` stands: none where it is missing, at fault where it stands twice
 abbrev pub names_in : Standing → Option (List (List ℕ))
@@ -39,13 +40,13 @@ provider_named (Some text) = Some (if bytes_eq text (codes "local") then provide
 -- the provider by how `provider` stands in `masterKey`, where it is required
 abbrev pub provider_by : Standing → Option Provider
 provider_by absent = None
-provider_by (once t) = provider_named (text_of t)
+provider_by (once t) = provider_named (text_value t)
 provider_by repeated = None
 
 -- the provider by how `masterKey` stands in the key document, where it is required
 abbrev pub provider_in : Standing → Option Provider
 provider_in absent = None
-provider_in (once t) = if is_document t then provider_by (standing (codes "provider") (kids_of t)) else None
+provider_in (once t) = if is_document_value t then provider_by (standing (codes "provider") (kids_of t)) else None
 provider_in repeated = None
 
 -- what a field says, or that it is faulty

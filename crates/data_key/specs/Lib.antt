@@ -1,4 +1,3 @@
-pub mod Standings
 pub mod Values
 pub mod Key
 pub mod Seen

@@ -1,18 +1,10 @@
 -- What the code's own types for key documents stand for
 use Rattle.std.specs.Prelude.{◌≡◌, ℕ, List, [], Option, Some, None, Result, Ok, Err}
 use Rattle.bson_codec.specs.Borrowed.{At}
-use Rattle.data_key.specs.declared.field.Field.{Field}
-use Rattle.data_key.specs.declared.field.Field.TheVariants as fields
 use Rattle.data_key.specs.declared.key_doc.KeyDoc.{KeyDoc}
 use Rattle.data_key.specs.declared.key_doc.KeyFault.{KeyFault}
 use Rattle.data_key.specs.declared.reading.KeyFields.{KeyFields}
-use Rattle.data_key.specs.Standings.{Standing, absent, once, repeated}
 use Rattle.data_key.specs.Values.{texts}
-
-abbrev pub seen : Field → Standing
-seen fields.Absent = absent
-seen (fields.Once item) = once item.tree
-seen fields.Repeated = repeated
 
 -- the names in an array that may not be there
 abbrev pub names_seen : Option At → List (List ℕ)

@@ -1,42 +1,23 @@
 -- BSON 1.1: values of some types, as key documents have them
-use Rattle.std.specs.Prelude.{ℕ, ◌==◌, ◌-◌, ◌&&◌, Bool, true, List, [], ◌∷◌, length, take, drop, slice_index, Option}
+use Rattle.std.specs.Prelude.{ℕ, ◌==◌, ◌&&◌, Bool, true, List, [], ◌∷◌, length, drop, slice_index, Option}
 use Rattle.std.specs.Prelude.{Some, None, if◌then◌else◌}
 use Rattle.bson_tree.specs.Tree.{Tree, Items, no_items, item, tag_of}
 use Rattle.bson_tree.specs.Spelling.{value_bytes}
-
--- a string (02)
-abbrev pub is_string : Tree → Bool
-is_string t = tag_of t == 2
-
--- a document (03)
-abbrev pub is_document : Tree → Bool
-is_document t = tag_of t == 3
-
--- an array (04)
-abbrev pub is_array : Tree → Bool
-is_array t = tag_of t == 4
+use Rattle.bson_codec.specs.Values.{is_string_value, text_of}
 
 -- a binary (05)
 abbrev pub is_binary : Tree → Bool
 is_binary t = tag_of t == 5
 
--- "string": its bytes are the length in four bytes, the text, and 00
-abbrev pub text_in : List ℕ → List ℕ
-text_in bytes = take (length bytes - 5) (drop 4 bytes)
-
--- the text of a value, where it is a string
-abbrev pub text_of : Tree → Option (List ℕ)
-text_of t = if is_string t then Some (text_in (value_bytes t)) else None
-
 -- each value is a string
 abbrev pub are_strings : Items → Bool
 are_strings no_items = true
-are_strings (item name t is) = is_string t && are_strings is
+are_strings (item name t is) = is_string_value t && are_strings is
 
 -- the texts of the strings among the values, in order
 abbrev pub texts : Items → List (List ℕ)
 texts no_items = []
-texts (item name t is) = if is_string t then text_in (value_bytes t) ∷ texts is else texts is
+texts (item name t is) = if is_string_value t then text_of (value_bytes t) ∷ texts is else texts is
 
 -- "binary": its bytes are the length in four bytes, the subtype, and the contents
 abbrev pub contents_of : ℕ → Tree → Option (List ℕ)

@@ -12,7 +12,6 @@
 #![tactic(auto)]
 
 mod elements;
-mod field;
 mod key_doc;
 mod reading;
 mod values;

@@ -1,18 +1,17 @@
 //! Keys read from key documents.
 
 ghost use Rattle.std.specs.Prelude.{◌≡◌, ◌++◌, ◌∷◌, [], codes, bytes_eq, option_copied, if◌then◌else◌, IfOk, OnOk};
+ghost use Rattle.bson_codec.specs.Standings.{field_seen, standing};
 ghost use Rattle.data_key.specs.declared.key_doc.Provider.TheVariants as providers;
 ghost use Rattle.data_key.specs.Key.{id_in, names_in, names_of, material_in, provider_in, provider_by, provider_named};
 ghost use Rattle.data_key.specs.Key.{key_in, Reads};
-ghost use Rattle.data_key.specs.Seen.{names_seen, seen, some_names_seen, Says};
-ghost use Rattle.data_key.specs.Standings.{standing};
+ghost use Rattle.data_key.specs.Seen.{names_seen, some_names_seen, Says};
 ghost use Rattle.data_key.specs.Values.{texts};
 
 use crate::elements::key_elements;
-use crate::field::{Field, find_field};
 use crate::key_doc::{KeyDoc, KeyFault, Provider};
-use crate::values::{GENERIC, are_strings, contents_of, is_array, is_document, text_of, uuid_of};
-use bson_codec::{RawDoc, RawItem};
+use crate::values::{GENERIC, are_strings, contents_of, text_of, uuid_of};
+use bson_codec::{Field, RawDoc, RawItem, find_field, is_array, is_document};
 use bson_tree::{Bytes, Names};
 use fle_outside::Memory;
 use std::alloc::Global;
@@ -78,7 +77,7 @@ fn key_fields<'a>(document: &RawDoc<'a>) -> Result<KeyFields<'a>, KeyFault>
 
 /// The UUID in `_id`.
 fn id_of(field: &Field<'_>) -> Option<[u8; 16]>
-    ensures { result ≡ id_in (seen field.now) }
+    ensures { result ≡ id_in (field_seen field.now) }
 {
     match field {
         Field::Absent => None,
@@ -89,7 +88,7 @@ fn id_of(field: &Field<'_>) -> Option<[u8; 16]>
 
 /// The array of strings in `keyAltNames`, if there is one.
 fn names_of<'a>(field: &Field<'a>) -> Option<Option<RawDoc<'a>>>
-    ensures { some_names_seen result ≡ names_in (seen field.now) }
+    ensures { some_names_seen result ≡ names_in (field_seen field.now) }
 {
     match field {
         Field::Absent => Some(None),
@@ -115,7 +114,7 @@ fn strings_of<'a>(item: &RawItem<'a>) -> Option<Option<RawDoc<'a>>>
 
 /// The contents of the binary in `keyMaterial`.
 fn material_of<'a>(field: &Field<'a>) -> Option<&'a [u8]>
-    ensures { option_copied result ≡ material_in (seen field.now) }
+    ensures { option_copied result ≡ material_in (field_seen field.now) }
 {
     match field {
         Field::Absent => None,
@@ -126,7 +125,7 @@ fn material_of<'a>(field: &Field<'a>) -> Option<&'a [u8]>
 
 /// The provider in `masterKey`.
 fn provider_of(field: &Field<'_>) -> Option<Provider>
-    ensures { result ≡ provider_in (seen field.now) }
+    ensures { result ≡ provider_in (field_seen field.now) }
 {
     match field {
         Field::Absent => None,

@@ -1,27 +1,14 @@
 //! Values of some types.
 
 ghost use Rattle.std.specs.Prelude.{◌≡◌, option_copied, option_map, Some};
-ghost use Rattle.data_key.specs.Values.{is_array, is_document, are_strings, text_of, contents_of, of_length, uuid_of};
+ghost use Rattle.bson_codec.specs.Values.{text_value};
+ghost use Rattle.data_key.specs.Values.{are_strings, contents_of, of_length, uuid_of};
 
 use bson_codec::{RawDoc, RawItem};
 use bson_tree::{subtypes, types};
 
 /// The subtype of a binary that is no more than bytes.
 pub(crate) const GENERIC: u8 = 0x00;
-
-/// Whether the value is a document.
-pub(crate) fn is_document(item: &RawItem<'_>) -> bool
-    ensures { result ≡ is_document item.now.tree }
-{
-    item.tag() == types::DOCUMENT
-}
-
-/// Whether the value is an array.
-pub(crate) fn is_array(item: &RawItem<'_>) -> bool
-    ensures { result ≡ is_array item.now.tree }
-{
-    item.tag() == types::ARRAY
-}
 
 /// Whether each value is a string.
 pub(crate) fn are_strings(document: &RawDoc<'_>) -> bool
@@ -38,7 +25,7 @@ pub(crate) fn are_strings(document: &RawDoc<'_>) -> bool
 /// The text of a string.
 #[tactic(auto, using(crate::proofs::Texts::text_is))]
 pub(crate) fn text_of<'a>(item: &RawItem<'a>) -> Option<&'a [u8]>
-    ensures { option_copied result ≡ text_of item.now.tree }
+    ensures { option_copied result ≡ text_value item.now.tree }
 {
     item.text()
 }

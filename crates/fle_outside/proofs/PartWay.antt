@@ -4,8 +4,8 @@ use Rattle.std.proofs.Common.{get_or, drop-cons, add-one, ◌≡◌, ℕ, ◌+�
 use Rattle.std.proofs.Common.{length, take, drop, refl, sym, ◌∙◌, ap, arith, append_assoc, append-nil, length-append}
 use Rattle.std.proofs.Common.{length-take-le, take-append-drop}
 use Rattle.fle_outside.specs.Writes.{WriteTakes, WriteCause, WriteAssured}
-use Rattle.fle_outside.specs.Seen.{SinkSeen}
-use Rattle.fle_outside.specs.Writing.{Gains, WritesWhole, joined}
+use Rattle.fle_outside.specs.Seen.{Gains, SinkSeen}
+use Rattle.fle_outside.specs.Writing.{WritesWhole, joined}
 use Rattle.fle_outside.specs.declared.answers.WriteAnswer.TheVariants as writes
 use Rattle.fle_outside.specs.declared.answers.Failed.{Failed}
 

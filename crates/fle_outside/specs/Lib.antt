@@ -7,4 +7,4 @@ pub mod Filling
 pub mod Writing
 pub mod Blocks
 pub mod Seen
-pub mod Drawing
+pub mod Limits

@@ -3,16 +3,12 @@ use Rattle.std.specs.Prelude.{◌≡◌, ℕ, ◌+◌, ◌<◌, ◌≤◌, Optio
 use Rattle.std.specs.Prelude.{OnErr, IsOk}
 use denote.Ref.{Bor}
 use Rattle.fle_outside.specs.Counts.{Rose}
-use Rattle.fle_outside.specs.Seen.{SinkSeen}
+use Rattle.fle_outside.specs.Seen.{Gains, SinkSeen}
 use Rattle.fle_outside.specs.declared.answers.Failed.{Failed}
 
 -- a front of the bytes that isn't all of them
 abbrev pub IsProperPrefix : List ℕ → List ℕ → Type 0
 IsProperPrefix front bytes = (rest : List ℕ) × (0 < length rest) × (bytes ≡ front ++ rest)
-
--- where the sink tells what it took, it took these bytes
-abbrev pub Gains : Option (List ℕ) → Option (List ℕ) → List ℕ → Type 0
-Gains before after bytes = (w : List ℕ) → before ≡ Some w → after ≡ Some (w ++ bytes)
 
 -- all of the bytes were written, or a proper prefix of them
 abbrev pub Puts : Option (List ℕ) → Option (List ℕ) → Result (Unit {0}) Failed → List ℕ → Type 0

@@ -3,8 +3,7 @@
 ghost use Rattle.std.specs.Prelude.{◌≡◌, ◌<◌, IfOk, IsOk, OnErr, [], ◌∷◌};
 ghost use Rattle.fle_outside.specs.Blocks.{DrawTakes, DrawCause, DrawAssured, IsBlock};
 ghost use Rattle.fle_outside.specs.Counts.{Rose};
-ghost use Rattle.fle_outside.specs.Drawing.{Draws};
-ghost use Rattle.fle_outside.specs.Seen.{EntropySeen};
+ghost use Rattle.fle_outside.specs.Seen.{Draws, EntropySeen};
 
 use crate::answers::Failed;
 

@@ -13,38 +13,10 @@ use Rattle.std.specs.Prelude.{is_some, slice_get}
 use Rattle.data_key.specs.declared.key_doc.KeyDoc.{KeyDoc}
 use Rattle.key_vault.specs.declared.numbers.Numbers.{Numbers}
 use Rattle.key_vault.specs.declared.place.Place.{Place}
-use Rattle.key_vault.specs.Numbers.{AreOf, first_of, has_number, hash_of, is_text, number_of, number_of_first}
-use Rattle.key_vault.specs.Numbers.{number_of_other, or_first, text_at, text_in}
-
-apart : (bs cs ks : List ℕ) → bytes_eq bs cs ≡ false → is_eq (slice_cmp nat_cmp bs ks) ≡ true
-    → is_eq (slice_cmp nat_cmp cs ks) ≡ false
-apart bs cs ks n y =
-    is_eq-slice_cmp cs ks
-    ∙ (nat_list_eq_equiv.symm cs ks
-    ∙ (sym (nat_list_eq_equiv.congr bs ks cs (sym (is_eq-slice_cmp bs ks) ∙ y)) ∙ n))
-
-other_entries : {K X : Type 0} (eq : K → K → Bool) (test : K → Bool) (old new : List (K × X))
-    → KeepsOthers eq test old new → (other : K → Bool) → IsKeyTest eq other → AreApart test other
-    → lookup other new ≡ lookup other old
-unfolding KeepsOthers
-other_entries eq test old new h = h
-
--- g is w at the text bs, and f at other texts
-by_text : (f g : List ℕ → Option ℕ) (bs : List ℕ) (w : Option ℕ) → g bs ≡ w
-    → ((cs : List ℕ) → bytes_eq bs cs ≡ false → g cs ≡ f cs) → (cs : List ℕ) → g cs ≡ cond (bytes_eq bs cs) w (f cs)
-by_text f g bs w here other cs =
-    ⊎_elim
-    (λ y. subst (λ l. g l ≡ w) ((bytes_decides bs cs).0 y) here ∙ sym (cond-true (bytes_eq bs cs) w (f cs) y))
-    (λ n. other cs n ∙ sym (cond-false (bytes_eq bs cs) w (f cs) n))
-    (cases_Bool (bytes_eq bs cs))
-
--- a text of a hash that an earlier one has
-pub other_put : (text : List ℕ) (m n : BTreeMap (Vec ℕ Global) ℕ) (w : Option ℕ)
-    → UpdatesBy (λ x y. slice_cmp nat_cmp x.items y.items) (λ k. slice_cmp nat_cmp text k.items) m n w
-    → (other : List ℕ) → number_of_other n other ≡ cond (bytes_eq text other) w (number_of_other m other)
-other_put text m n w h = by_text (number_of_other m) (number_of_other n) text w h.1
-    (λ other e. other_entries _ _ _ _ h.3 _ (λ x y. (eq_by_cmp_equiv nat_list_cmp_total).congr other x.items y.items)
-    (λ k. apart text other k.items e))
+use Rattle.bson_tree.specs.NameNumbers.{hash_of, number_of_name}
+use Rattle.bson_tree.proofs.NameNumbers.{by_name}
+use Rattle.key_vault.specs.Numbers.{AreOf, first_of, has_number, is_text, number_of, number_of_first}
+use Rattle.key_vault.specs.Numbers.{or_first, text_at, text_in}
 
 -- the first text of a hash
 pub first_put : (hash : ℕ) (m n : BTreeMap ℕ Place) (w : Option Place) → UpdatesBy nat_cmp (nat_cmp hash) m n w
@@ -81,31 +53,31 @@ is_none (Some n) e = absurd (false≢true (sym e))
 -- a text that has no number is put as the first of its hash
 pub put_as_first : (keys : List KeyDoc) (text : List ℕ) (place : Place) (m n : Numbers)
     → text_at keys place ≡ Some text
-    → is_some (number_of_other m.others text) ≡ false
+    → is_some (number_of_name m.others text) ≡ false
     → None ≡ first_of m.firsts (hash_of text) → n.others ≡ m.others
     → ((hash : ℕ) → first_of n.firsts hash ≡ cond (hash_of text == hash) (Some place) (first_of m.firsts hash))
     → (other : List ℕ)
     → number_of keys n other ≡ cond (bytes_eq text other) (Some place.key) (number_of keys m other)
 put_as_first keys text place m n at none free others put =
-    let is : (other : List ℕ) → number_of keys n other ≡ or_first keys other (number_of_other m.others other)
+    let is : (other : List ℕ) → number_of keys n other ≡ or_first keys other (number_of_name m.others other)
     (cond (hash_of text == hash_of other) (Some place) (first_of m.firsts (hash_of other))) =
-    λ other. ap (λ o. or_first keys other (number_of_other o other) (first_of n.firsts (hash_of other))) others
-    ∙ ap (or_first keys other (number_of_other m.others other)) (put (hash_of other)) in
-    by_text (number_of keys m) (number_of keys n) text (Some place.key)
-    (is text ∙ is_first keys text place (number_of_other m.others text) (first_of m.firsts (hash_of text))
+    λ other. ap (λ o. or_first keys other (number_of_name o other) (first_of n.firsts (hash_of other))) others
+    ∙ ap (or_first keys other (number_of_name m.others other)) (put (hash_of other)) in
+    by_name (number_of keys m) (number_of keys n) text (Some place.key)
+    (is text ∙ is_first keys text place (number_of_name m.others text) (first_of m.firsts (hash_of text))
     (hash_of text == hash_of text) at (eq-eqb (hash_of text) (hash_of text) refl)
-    (is_none (number_of_other m.others text) none))
-    (λ other differ. is other ∙ is_not_first keys text other place (number_of_other m.others other)
+    (is_none (number_of_name m.others text) none))
+    (λ other differ. is other ∙ is_not_first keys text other place (number_of_name m.others other)
     (first_of m.firsts (hash_of other)) (hash_of text == hash_of other) at differ
     (λ same. subst (λ (h : ℕ). first_of m.firsts h ≡ None) (eqb-true (hash_of text) (hash_of other) same) (sym free)))
 
 -- no text of a free hash has a number
-pub unnumbered : (keys : List KeyDoc) (text : List ℕ) (m : Numbers) → is_some (number_of_other m.others text) ≡ false
+pub unnumbered : (keys : List KeyDoc) (text : List ℕ) (m : Numbers) → is_some (number_of_name m.others text) ≡ false
     → None ≡ first_of m.firsts (hash_of text) → true ≡ not (has_number keys m text)
 unnumbered keys text m none free =
     ap (λ (f : Option Place). not (is_some (number_of_first keys text f))) free
     ∙ ap (λ (o : Option ℕ). not (is_some (or_first keys text o (first_of m.firsts (hash_of text)))))
-    (sym (is_none (number_of_other m.others text) none))
+    (sym (is_none (number_of_name m.others text) none))
 
 numbered_by : (keys : List KeyDoc) (text : List ℕ) (o : Option ℕ) (f : Option Place) → is_some o ≡ true
     → false ≡ not (is_some (or_first keys text o f))
@@ -113,10 +85,10 @@ numbered_by keys text None f e = absurd (false≢true e)
 numbered_by keys text (Some n) f e = refl
 
 -- a text among the others has a number
-pub numbered : (keys : List KeyDoc) (text : List ℕ) (m : Numbers) → is_some (number_of_other m.others text) ≡ true
+pub numbered : (keys : List KeyDoc) (text : List ℕ) (m : Numbers) → is_some (number_of_name m.others text) ≡ true
     → false ≡ not (has_number keys m text)
 numbered keys text m there =
-    numbered_by keys text (number_of_other m.others text) (first_of m.firsts (hash_of text)) there
+    numbered_by keys text (number_of_name m.others text) (first_of m.firsts (hash_of text)) there
 
 some_if : (b : Bool) (n : ℕ) → b ≡ is_some (cond b (Some n) None)
 some_if true n = refl
@@ -124,13 +96,13 @@ some_if false n = refl
 
 -- a text of a hash that is taken has a number where it stands at the first place of the hash
 pub numbered_first : (keys : List KeyDoc) (text : List ℕ) (m : Numbers) (first : Place)
-    → is_some (number_of_other m.others text) ≡ false → Some first ≡ first_of m.firsts (hash_of text)
+    → is_some (number_of_name m.others text) ≡ false → Some first ≡ first_of m.firsts (hash_of text)
     → not (is_text text (text_at keys first)) ≡ not (has_number keys m text)
 numbered_first keys text m first none taken =
     ap not (some_if (is_text text (text_at keys first)) first.key)
     ∙ (ap (λ (f : Option Place). not (is_some (number_of_first keys text f))) taken
     ∙ ap (λ (o : Option ℕ). not (is_some (or_first keys text o (first_of m.firsts (hash_of text)))))
-    (sym (is_none (number_of_other m.others text) none)))
+    (sym (is_none (number_of_name m.others text) none)))
 
 back_by : (b : Bool) (f : Option Place) (first place : Place) → (b ≡ true → Some first ≡ f)
     → cond b (Some first) (cond b (Some place) f) ≡ f
@@ -155,14 +127,14 @@ other_by keys false other number o f = refl
 -- a text is put among those whose hash an earlier one has, or not
 pub put_as_other : (keys : List KeyDoc) (text : List ℕ) (number : ℕ) (new : Bool) (m n : Numbers)
     → ((h : ℕ) → first_of n.firsts h ≡ first_of m.firsts h)
-    → ((other : List ℕ) → number_of_other n.others other
-    ≡ cond (new && bytes_eq text other) (Some number) (number_of_other m.others other))
+    → ((other : List ℕ) → number_of_name n.others other
+    ≡ cond (new && bytes_eq text other) (Some number) (number_of_name m.others other))
     → (other : List ℕ)
     → number_of keys n other ≡ cond (new && bytes_eq text other) (Some number) (number_of keys m other)
 put_as_other keys text number new m n firsts put other =
-    ap (or_first keys other (number_of_other n.others other)) (firsts (hash_of other))
+    ap (or_first keys other (number_of_name n.others other)) (firsts (hash_of other))
     ∙ (ap (λ (o : Option ℕ). or_first keys other o (first_of m.firsts (hash_of other))) (put other)
-    ∙ other_by keys (new && bytes_eq text other) other number (number_of_other m.others other)
+    ∙ other_by keys (new && bytes_eq text other) other number (number_of_name m.others other)
     (first_of m.firsts (hash_of other)))
 
 -- a place where a text stands is of these keys
@@ -210,7 +182,7 @@ pushed_by keys k text None (Some place) within =
 pub pushed : (keys : List KeyDoc) (k : KeyDoc) (n : Numbers) → AreOf keys n
     → (text : List ℕ) → number_of (keys ++ k ∷ []) n text ≡ number_of keys n text
 pushed keys k n are text =
-    pushed_by keys k text (number_of_other n.others text) (first_of n.firsts (hash_of text)) (are (hash_of text))
+    pushed_by keys k text (number_of_name n.others text) (first_of n.firsts (hash_of text)) (are (hash_of text))
 
 less_by : (n m : ℕ) (f : Option Place) → n ≤ m → IfSome f (λ p. p.key < n) → IfSome f (λ p. p.key < m)
 less_by n m None less are = are

@@ -7,6 +7,8 @@ use Rattle.std.proofs.lemmas.Bool.{false≢true}
 use Rattle.std.proofs.lemmas.List.{append_assoc}
 use Rattle.std.specs.Cmp.Lexicographic.{bytes_decides}
 use Rattle.std.specs.Prelude.{slice_get, is_some}
+use Rattle.bson_tree.specs.NameNumbers.{or_number}
+use Rattle.bson_tree.proofs.NameNumbers.{or_number_if}
 use Rattle.data_key.specs.declared.key_doc.KeyDoc.{KeyDoc}
 use Rattle.key_vault.specs.Keys.{first_key, has_id, has_name, is_among, place_from}
 use Rattle.key_vault.specs.Loading.{are_new, is_id_known, is_name_known, judged, kind_by}
@@ -16,24 +18,14 @@ use Rattle.key_vault.specs.declared.numbers.Numbers.{Numbers}
 use Rattle.key_vault.specs.Numbers.{AreOf, has_number, number_of}
 use Rattle.key_vault.proofs.Maps.{pushed, pushed_of}
 
--- the number found, or else this one where the test holds
-abbrev or_new : Option ℕ → Bool → ℕ → Option ℕ
-or_new (Some n) test m = Some n
-or_new None test m = cond test (Some m) None
-
-or_new_if : (test : Bool) (n : ℕ) (o : Option ℕ) (new : Bool) (m k : ℕ) → m ≡ k
-    → cond test (Some n) (or_new o new m) ≡ or_new (cond test (Some n) o) new k
-or_new_if true n o new m k e = refl
-or_new_if false n o new m k e = ap (or_new o new) e
-
-place_behind : (n : ℕ) (test : KeyDoc → Bool) (ks : List KeyDoc) (k : KeyDoc)
-    → place_from n test (ks ++ k ∷ []) ≡ or_new (place_from n test ks) (test k) (n + length ks)
+pub place_behind : (n : ℕ) (test : KeyDoc → Bool) (ks : List KeyDoc) (k : KeyDoc)
+    → place_from n test (ks ++ k ∷ []) ≡ or_number (place_from n test ks) (test k) (n + length ks)
 place_behind n test [] k = let e : n ≡ n + length {A = KeyDoc} [] =
     omega arith in ap (λ (m : ℕ). cond (test k) (Some m) None) e
 place_behind n test (d ∷ ks) k =
     let e : n + 1 + length ks ≡ n + length (d ∷ ks) = omega arith in
     ap (λ (o : Option ℕ). cond (test d) (Some n) o) (place_behind (n + 1) test ks k)
-    ∙ or_new_if (test d) n (place_from (n + 1) test ks) (test k) (n + 1 + length ks) (n + length (d ∷ ks)) e
+    ∙ or_number_if (test d) n (place_from (n + 1) test ks) (test k) (n + 1 + length ks) (n + length (d ∷ ks)) e
 
 none_first : (b : Bool) (d : KeyDoc) (n : ℕ) (o : Option KeyDoc) (p : Option ℕ) → is_some (cond b (Some d) o) ≡ false
     → (is_some o ≡ false → p ≡ None) → cond b (Some n) p ≡ None
@@ -47,9 +39,9 @@ no_place n test [] e = refl
 no_place n test (d ∷ ks) e = none_first (test d) d n (first_key test ks) (place_from (n + 1) test ks) e
     (no_place (n + 1) test ks)
 
-at_test : (b : Bool) (o : Option ℕ) (n : ℕ) → (b ≡ true → o ≡ None) → cond b (Some n) o ≡ or_new o b n
+at_test : (b : Bool) (o : Option ℕ) (n : ℕ) → (b ≡ true → o ≡ None) → cond b (Some n) o ≡ or_number o b n
 at_test true o n h = ap (λ (x : Option ℕ). cond true (Some n) x) (h refl)
-    ∙ sym (ap (λ (x : Option ℕ). or_new x true n) (h refl))
+    ∙ sym (ap (λ (x : Option ℕ). or_number x true n) (h refl))
 at_test false None n h = refl
 at_test false (Some m) n h = refl
 
@@ -62,7 +54,7 @@ added test ks k number old known free count =
     let size : number ≡ 0 + length ks = omega (arith, count) in
     ap (λ (o : Option ℕ). cond (test k) (Some number) o) known
     ∙ at_test (test k) (place_from 0 test ks) number free
-    ∙ ap (or_new (place_from 0 test ks) (test k)) size
+    ∙ ap (or_number (place_from 0 test ks) (test k)) size
     ∙ sym (place_behind 0 test ks k)
 
 -- the numbers by id, with one more key of a new id
@@ -113,7 +105,7 @@ some_by : (b : Bool) (k : KeyDoc) (n : ℕ) (o : Option KeyDoc) (p : Option ℕ)
 some_by true k n o p e = refl
 some_by false k n o p e = e
 
-is_placed : (n : ℕ) (test : KeyDoc → Bool) (ks : List KeyDoc)
+pub is_placed : (n : ℕ) (test : KeyDoc → Bool) (ks : List KeyDoc)
     → is_some (place_from n test ks) ≡ is_some (first_key test ks)
 is_placed n test [] = refl
 is_placed n test (k ∷ ks) =

@@ -2,17 +2,11 @@
 use Rattle.std.specs.Prelude.{◌<◌, ℕ, Bool, false, List, length, Option, Some, None, Vec, bytes_eq, is_some}
 use Rattle.std.specs.Prelude.{if◌then◌else◌, slice_get, IfSome}
 use Rattle.std.specs.BTreeMap.{BTreeMap, get_by}
-use Rattle.std.specs.Cmp.Lexicographic.{slice_cmp}
-use Rattle.std.specs.Global.{Global}
-use Rattle.std.specs.Hash.FoldHasher.{finish, initial, write}
 use Rattle.std.specs.Ordering.{nat_cmp}
+use Rattle.bson_tree.specs.NameNumbers.{hash_of, number_of_name}
 use Rattle.data_key.specs.declared.key_doc.KeyDoc.{KeyDoc}
 use Rattle.key_vault.specs.declared.numbers.Numbers.{Numbers}
 use Rattle.key_vault.specs.declared.place.Place.{Place}
-
--- the hash of a text, whose seed is fixed
-unfoldable pub hash_of : List ℕ → ℕ
-hash_of text = finish (write initial text)
 
 -- the id of a key, or the name of this number
 abbrev pub text_of : Option ℕ → KeyDoc → Option (List ℕ)
@@ -47,14 +41,10 @@ or_first keys text None first = number_of_first keys text first
 abbrev pub first_of : BTreeMap ℕ Place → ℕ → Option Place
 first_of firsts hash = get_by (nat_cmp hash) firsts
 
--- the number of a text among those whose hash an earlier one has
-abbrev pub number_of_other : BTreeMap (Vec ℕ Global) ℕ → List ℕ → Option ℕ
-number_of_other others text = get_by (λ k. slice_cmp nat_cmp text k.items) others
-
 -- the number of a text of these keys
 abbrev pub number_of : List KeyDoc → Numbers → List ℕ → Option ℕ
 number_of keys numbers text =
-    or_first keys text (number_of_other numbers.others text) (first_of numbers.firsts (hash_of text))
+    or_first keys text (number_of_name numbers.others text) (first_of numbers.firsts (hash_of text))
 
 -- a text has a number
 abbrev pub has_number : List KeyDoc → Numbers → List ℕ → Bool

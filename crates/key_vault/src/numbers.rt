@@ -4,18 +4,18 @@
 
 ghost use Rattle.std.specs.Prelude.{◌≡◌, ◌==◌, ◌&&◌, [], not, true, ℕ, List, bytes_eq, None, Some, slice_get};
 ghost use Rattle.std.specs.Prelude.{if◌then◌else◌, option_copied, IfOk, OnOk};
+ghost use Rattle.bson_tree.specs.NameNumbers.{hash_of, number_of_name};
 ghost use Rattle.data_key.specs.declared.key_doc.KeyDoc.{KeyDoc};
 ghost use Rattle.key_vault.specs.Keys.{is_among};
 ghost use Rattle.key_vault.specs.Loading.{are_new};
-ghost use Rattle.key_vault.specs.Numbers.{AreOf, first_of, has_number, hash_of, number_of, number_of_first};
-ghost use Rattle.key_vault.specs.Numbers.{is_text, number_of_other, text_at};
+ghost use Rattle.key_vault.specs.Numbers.{AreOf, first_of, has_number, is_text, number_of, number_of_first, text_at};
 
 use crate::place::{Place, is_at};
+use bson_tree::hash_of;
 use data_key::KeyDoc;
 use fle_outside::Memory;
 use std::alloc::Global;
 use std::collections::BTreeMap;
-use std::hash::{FoldHasher, Hasher};
 
 /// The numbers of texts of keys.
 #[derive(Drop)]
@@ -101,8 +101,8 @@ impl Numbers {
         ensures new { IfOk result (λ new. new ≡ not (is_text text.now (text_at keys.now first))) }
         ensures firsts { OnOk result ((hash : ℕ) → first_of self.new.firsts hash
             ≡ (if hash_of text.now == hash then Some first else first_of self.old.firsts hash)) }
-        ensures others { IfOk result (λ new. (other : List ℕ) → number_of_other self.new.others other
-            ≡ (if new && bytes_eq text.now other then Some number else number_of_other self.old.others other)) }
+        ensures others { IfOk result (λ new. (other : List ℕ) → number_of_name self.new.others other
+            ≡ (if new && bytes_eq text.now other then Some number else number_of_name self.old.others other)) }
     {
         put_first(&mut self.firsts, hash_of(text), first)?;
         if is_at(keys, first, text) {
@@ -170,8 +170,8 @@ fn put_other(
     text: &[u8],
     number: u32,
 ) -> Result<(), Memory>
-    ensures put { OnOk result ((other : List ℕ) → number_of_other others.new other
-        ≡ (if bytes_eq text.now other then Some number else number_of_other others.old other)) }
+    ensures put { OnOk result ((other : List ℕ) → number_of_name others.new other
+        ≡ (if bytes_eq text.now other then Some number else number_of_name others.old other)) }
 {
     let Ok(copy) = Vec::from_slice(alloc, text) else {
         return Err(Memory);
@@ -184,14 +184,4 @@ fn put_other(
             return Err(Memory);
         }
     }
-}
-
-/// The hash of a text.
-#[tactic(auto, unfolding(crate::specs::Numbers::hash_of))]
-fn hash_of(text: &[u8]) -> u64
-    ensures hash { result ≡ hash_of text.now }
-{
-    let mut hasher = FoldHasher::default();
-    hasher.write(text);
-    hasher.finish()
 }

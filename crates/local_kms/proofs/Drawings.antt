@@ -1,27 +1,13 @@
 -- Blocks drawn one after another, and what is made of them.
 use Rattle.std.proofs.Common.{◌≡◌, ◌∙◌, ℕ, zero, suc, ◌+◌, ◌≤◌, Some, None, Option, Result, Ok, Err, List, [], ◌∷◌}
 use Rattle.std.proofs.Common.{◌++◌, length, refl, sym, ap, subst, arith, length-append}
-use Rattle.std.specs.Prelude.{IfOk, unwrap_or}
-use Rattle.fle_outside.proofs.Drawings.{draws_then}
+use Rattle.std.specs.Prelude.{IfOk}
+use Rattle.fle_outside.proofs.Drawings.{draws_then, kept, taken}
 use Rattle.fle_outside.specs.Blocks.{Block, AreBlocks, IsBlock, DrawTakes, DrawCause, DrawAssured}
 use Rattle.fle_outside.specs.Seen.{EntropySeen}
 use Rattle.fle_outside.specs.declared.answers.Failed.{Failed}
 use Rattle.local_kms.specs.Drawn.{Made, FellShort, Makes}
 use Rattle.local_kms.specs.Made.{block_at, two_blocks, six_blocks, seeds, seeds_of}
-
-some_is : (a b : List Block) → Some a ≡ Some b → a ≡ b
-some_is a b e = ap (λ (o : Option (List Block)). unwrap_or o []) e
-
-taken : (before after : Option (List Block)) (block : Block) → DrawTakes before after (Ok block) → (all : List Block)
-    → before ≡ Some all
-    → (rest : List Block) × (all ≡ (block ∷ []) ++ rest) × (after ≡ Some rest)
-taken None after block t all is = absurd cc
-taken (Some blocks) after block t all is = (t.0, sym (some_is blocks all is) ∙ t.1, t.2)
-
-kept : (before after : Option (List Block)) (fault : Failed) → DrawTakes before after (Err fault) → (all : List Block)
-    → before ≡ Some all → after ≡ Some all
-kept None after fault t all is = absurd cc
-kept (Some blocks) after fault t all is = t ∙ is
 
 only_block : (block : Block) → IsBlock block → AreBlocks (block ∷ [])
 only_block block is zero d lt = is

@@ -2,8 +2,7 @@
 use Rattle.std.specs.Prelude.{◌≡◌, ◌<◌, ℕ, List, length, Result, Ok, Err}
 use Rattle.fle_outside.specs.Blocks.{Block}
 use Rattle.fle_outside.specs.Counts.{Rose}
-use Rattle.fle_outside.specs.Drawing.{Draws}
-use Rattle.fle_outside.specs.Seen.{EntropySeen}
+use Rattle.fle_outside.specs.Seen.{Draws, EntropySeen}
 use Rattle.fle_outside.specs.declared.answers.Failed.{Failed}
 
 -- so many blocks were drawn, and this was made of them

@@ -9,20 +9,18 @@ use Rattle.std.proofs.lemmas.List.{drop_at, length-drop, take_at}
 use Rattle.std.proofs.lemmas.List.Elements.{All-drop, All-tail, All-take}
 use Rattle.bson_tree.specs.Tree.{Tree, Items, no_items, item, tag_of}
 use Rattle.bson_tree.specs.Spelling.{items_bytes, value_bytes}
+use Rattle.bson_tree.proofs.PartBytes.{Bytes, others_of, value_of}
+use Rattle.bson_codec.specs.Standings.{Standing, absent, once, repeated, standing, stands_too}
 use Rattle.data_key.specs.declared.key_doc.KeyDoc.{KeyDoc}
 use Rattle.data_key.specs.declared.key_doc.KeyFault.{KeyFault}
 use Rattle.data_key.specs.declared.key_doc.KeyFault.TheVariants as faults
 use Rattle.data_key.specs.declared.key_doc.Provider.{Provider}
 use Rattle.data_key.specs.Key.{id_in, key_in, material_in, names_in, or_fault, provider_in, ◌>>=◌}
-use Rattle.data_key.specs.Standings.{Standing, absent, once, repeated, standing, stands_too}
 use Rattle.data_key.specs.Values.{contents_of, is_binary}
 use Rattle.data_key.specs.Written.{binary}
+use Rattle.data_key.proofs.ReadBack.{key_by}
 use Rattle.rewrap_keys.specs.Fields.{dated, new_value, with_material}
 use Rattle.rewrap_keys.proofs.Sized.{Sized, is_material, is_once, only_one, sized_once}
-
--- a list of bytes
-abbrev Bytes : List ℕ → Type 0
-Bytes bs = All (λ b. b < 256) bs
 
 -- ---- how names stand
 
@@ -70,17 +68,6 @@ material_stands m now (item name t is) =
     (new_if (is_material name) (binary 0 m) (dated now name t))
 
 -- ---- the key
-
--- the key of fields of these values
-abbrev key_by : Option (List ℕ) → Option (List (List ℕ)) → Option (List ℕ) → Option Provider → Result KeyDoc KeyFault
-key_by i ns m p =
-    or_fault faults.Id i >>= λ id. (or_fault faults.AltNames ns >>= λ names.
-    (or_fault faults.Material m >>= λ material. (or_fault faults.Provider p >>= λ provider. Ok (record {
-      id = id;
-      names = names;
-      material = material;
-      provider = provider;
-    }))))
 
 -- what a document says of its key
 record Says (i : Option (List ℕ)) (ns : Option (List (List ℕ))) (m : Option (List ℕ)) (p : Option Provider)
@@ -175,22 +162,6 @@ sized_key is k e long = by_standing (standing (codes "keyMaterial") is) refl (sa
     by_standing repeated at m = absurd (false≢true (ap is_some m))
 
 -- ---- its material is bytes
-
-front_of : (xs ys : List ℕ) → Bytes (xs ++ ys) → Bytes xs
-front_of xs ys h = subst Bytes (take_at xs ys (length xs) refl) (All-take (λ b. b < 256) (length xs) (xs ++ ys) h)
-
-back_of : (xs ys : List ℕ) → Bytes (xs ++ ys) → Bytes ys
-back_of xs ys h = subst Bytes (drop_at xs ys (length xs) refl) (All-drop (λ b. b < 256) (length xs) (xs ++ ys) h)
-
-value_of : (name : List ℕ) (t : Tree) (is : Items) → Bytes (items_bytes (item name t is)) → Bytes (value_bytes t)
-value_of name t is h =
-    front_of (value_bytes t) (items_bytes is) (All-tail (λ b. b < 256) 0 _
-    (back_of name _ (All-tail (λ b. b < 256) (tag_of t) _ h)))
-
-others_of : (name : List ℕ) (t : Tree) (is : Items) → Bytes (items_bytes (item name t is)) → Bytes (items_bytes is)
-others_of name t is h =
-    back_of (value_bytes t) (items_bytes is) (All-tail (λ b. b < 256) 0 _
-    (back_of name _ (All-tail (λ b. b < 256) (tag_of t) _ h)))
 
 -- the bytes of each value of a list's that stands once
 once_bytes : (word : List ℕ) (is : Items) (t : Tree) → Bytes (items_bytes is) → standing word is ≡ once t

@@ -16,8 +16,7 @@ use Rattle.data_key.specs.declared.key_doc.Provider.{Provider}
 use Rattle.data_key.specs.declared.key_doc.Provider.TheVariants as providers
 use Rattle.data_key.specs.Key.{key_in}
 use Rattle.fle_outside.specs.Blocks.{Block}
-use Rattle.fle_outside.specs.Drawing.{Draws}
-use Rattle.fle_outside.specs.Seen.{EntropySeen}
+use Rattle.fle_outside.specs.Seen.{Draws, EntropySeen}
 use Rattle.fle_outside.proofs.Drawings.{draws_none, draws_then}
 use Rattle.key_vault.specs.Loading.{vault}
 use Rattle.local_kms.specs.Drawn.{Made, FellShort}

@@ -5,8 +5,7 @@ use Rattle.bson_tree.specs.Tree.{Items}
 use Rattle.bson_tree.specs.Spelling.{doc_bytes}
 use Rattle.data_key.specs.declared.key_doc.KeyDoc.{KeyDoc}
 use Rattle.fle_outside.specs.Blocks.{Block}
-use Rattle.fle_outside.specs.Drawing.{Draws}
-use Rattle.fle_outside.specs.Seen.{EntropySeen}
+use Rattle.fle_outside.specs.Seen.{Draws, EntropySeen}
 use Rattle.fle_outside.specs.declared.answers.Failed.{Failed}
 use Rattle.local_kms.specs.Drawn.{Made, FellShort}
 use Rattle.rewrap_keys.specs.Rewrapped.{Change, draws_by, draws_of, first_damaged, new_document}

@@ -1,7 +1,7 @@
 -- A name's standing in the first fields and in the others gives its standing in all.
 use Rattle.std.proofs.Common.{◌≡◌, refl}
 use Rattle.bson_tree.specs.Tree.{Tree}
-use Rattle.data_key.specs.Standings.{Standing, absent, once, repeated, stands_too, stands_last}
+use Rattle.bson_codec.specs.Standings.{Standing, absent, once, repeated, stands_too, stands_last}
 
 abbrev pub combined : Standing → Standing → Standing
 combined absent s = s

@@ -2,6 +2,8 @@
 use Rattle.std.specs.Prelude.{ℕ, List, bytes_eq, if◌then◌else◌}
 use Rattle.bson_tree.specs.Tree.{Tree, Items, no_items, item}
 use Rattle.bson_codec.specs.Borrowed.{Elem}
+use Rattle.bson_codec.specs.declared.field.Field.{Field}
+use Rattle.bson_codec.specs.declared.field.Field.TheVariants as fields
 
 -- not at all, once with this value, or several times
 pub data Standing : Type 0 where
@@ -29,3 +31,9 @@ stands_last repeated t = repeated
 -- how a name stands with one more element, behind the others
 abbrev pub stands_behind : List ℕ → Standing → Elem → Standing
 stands_behind word s e = if bytes_eq e.name word then stands_last s e.tree else s
+
+-- how a name stands in a document, as the code's field says
+abbrev pub field_seen : Field → Standing
+field_seen fields.Absent = absent
+field_seen (fields.Once element) = once element.tree
+field_seen fields.Repeated = repeated
