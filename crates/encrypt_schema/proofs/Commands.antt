@@ -10,6 +10,7 @@ pub mod Only
 pub mod Lookups
 pub mod PointerSpans
 pub mod PointerTexts
+pub mod SpanTexts
 pub mod EqualTexts
 pub mod Worlds
 pub mod Silence

@@ -30,6 +30,7 @@ pub use path::cursor::Cursor;
 pub use path::dotted::{Walk, is_dollar, is_position};
 pub use path::rows::Rows;
 pub use schema::collections::{Info, Infos};
+pub use schema::distinct::FEW;
 pub use schema::faults::{InfoFault, InfoKind, SchemaFault};
 pub use schema::names::is_named;
 pub use schema::policy::{Algorithm, KeyRef, Policy, TypeSet};

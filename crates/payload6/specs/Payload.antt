@@ -1,6 +1,8 @@
 -- MongoDB Client Side Encryption, BSON binary subtype 6: payloads, the contents of a binary that
 -- stands for a sealed value. Bytes are numbers below 256.
-use Rattle.std.specs.Prelude.{◌≡◌, ℕ, ◌+◌, ◌*◌, ◌<◌, ◌≤◌, List, [], ◌∷◌, ◌++◌, length, take, drop}
+use Rattle.std.specs.Prelude.{◌≡◌, ℕ, ◌+◌, ◌*◌, ◌<◌, ◌≤◌, ◌==◌, Bool, false, ◌&&◌, ◌||◌, List, [], ◌∷◌, ◌++◌, length}
+use Rattle.std.specs.Prelude.{take, drop}
+use Rattle.encrypt_schema.specs.Commands.Visits.{is_payload}
 use Rattle.encrypt_schema.specs.declared.schema.policy.Algorithm.{Algorithm}
 use Rattle.encrypt_schema.specs.declared.schema.policy.Algorithm.TheVariants.{Deterministic, Random}
 use Rattle.fle_aead.specs.Sealed.{derived_iv, IsSealed}
@@ -9,6 +11,15 @@ use Rattle.fle_aead.specs.Sealed.{derived_iv, IsSealed}
 abbrev pub algorithm_number : Algorithm → ℕ
 algorithm_number Deterministic = 1
 algorithm_number Random = 2
+
+-- bytes begin with the number of an algorithm
+abbrev pub has_number : List ℕ → Bool
+has_number [] = false
+has_number (number ∷ bytes) = number == 1 || number == 2
+
+-- a value is a payload: a binary of subtype 06 whose contents begin so; any other value passes
+unfoldable pub is_sealed : ℕ → List ℕ → Bool
+is_sealed tag bytes = is_payload tag bytes && has_number (drop 5 bytes)
 
 -- the number of an algorithm
 abbrev pub IsKind : ℕ → Type 0

@@ -17,7 +17,7 @@
 //! It holds no keys, draws no vector, and doesn't ask how the vector of a payload was made.
 #![tactic(auto)]
 
-pub use markings::{length_bytes, marking, marking_named, put_marking};
+pub use markings::{kind_of, length_bytes, marking, marking_named, put_marking};
 pub use needs::{Need, need_of};
 pub use opening::{PayloadFault, open_payload_into};
 pub use payload::{DETERMINISTIC, PartsFault, Payload, RANDOM, parts};

@@ -182,8 +182,8 @@ fn put_key_name(out: &mut Vec<u8>, name: &[u8]) -> Result<(), Memory>
 }
 
 /// The number of an algorithm.
-fn kind_of(algorithm: Algorithm) -> u8
-    ensures { result ≡ algorithm_number algorithm }
+pub fn kind_of(algorithm: Algorithm) -> u8
+    ensures number { result ≡ algorithm_number algorithm }
 {
     match algorithm {
         Algorithm::Deterministic => DETERMINISTIC,

@@ -4,7 +4,7 @@ use Rattle.std.proofs.Common.{None, refl, sym, ap, ◌∙◌}
 use Rattle.std.specs.Prelude.{flat_map, option_map}
 use Rattle.std.specs.Option.{option_map_or}
 use Rattle.std.proofs.lemmas.Bool.{false≢true}
-use Rattle.std.proofs.lemmas.List.{map-append}
+use Rattle.std.proofs.lemmas.List.{length-map, map-append}
 use Rattle.std.proofs.lemmas.List.Folds.{flat_map-map}
 use Rattle.std.proofs.lemmas.Grind.{flat_map-append}
 use Rattle.bson_tree.specs.Tree.{Tree, leaf, node, Items, no_items, item}
@@ -323,3 +323,10 @@ marks_of_sites rows at c =
     ∙ (flat_same (λ p. map f (mark_of rows at c p)) (λ p. map g (site_of rows c p)) (places c)
     (λ p. kinds_of rows p (visit_at rows at c p) ∙ ap (map g) (site_there rows at c p))
     ∙ map_flat g (site_of rows c) (places c)))
+
+-- so a command has as many marks wherever it begins
+pub as_many : (rows : List Row) (at : ℕ) (c : Items) → length (roles rows at c) ≡ length (roles rows 0 c)
+as_many rows at c =
+    sym (length-map (roles rows at c) use_of_mark)
+    ∙ ap length (marks_of_sites rows at c ∙ sym (marks_of_sites rows 0 c))
+    ∙ length-map (roles rows 0 c) use_of_mark

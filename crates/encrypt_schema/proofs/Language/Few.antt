@@ -6,17 +6,18 @@ use Rattle.bson_tree.specs.Tree.{Tree, Items, item}
 use Rattle.encrypt_schema.specs.Language.Names.{named, is_among}
 use Rattle.encrypt_schema.specs.Language.Values.{are_distinct, distinct_behind}
 use Rattle.encrypt_schema.specs.Views.Borrowed.{names}
+use Rattle.encrypt_schema.specs.Views.Few.{few}
 
 -- the front has the names before, and what is left tells of the whole
 pub record Few (words : List (Bor (List ℕ))) (count : ℕ) (left whole : Items) : Type 0 where
   pub before : List (List ℕ)
-  pub long : length words ≡ 8
-  pub room : count ≤ 8
+  pub long : length words ≡ few
+  pub room : count ≤ few
   pub known : (name : List ℕ) → is_among name (names (take count words)) ≡ is_among name before
   pub read : distinct_behind before left ≡ are_distinct whole
 
 -- at the start there is none
-pub none_yet : (words : List (Bor (List ℕ))) (left whole : Items) → length words ≡ 8 → left ≡ whole
+pub none_yet : (words : List (Bor (List ℕ))) (left whole : Items) → length words ≡ few → left ≡ whole
     → Few words 0 left whole
 none_yet words left whole long same = record {
   before = [];
@@ -50,7 +51,7 @@ told before name t here left b step is =
 -- a new name stands behind the others
 pub one_more : (words : List (Bor (List ℕ))) (count : ℕ) (word : Bor (List ℕ)) (t : Tree) (here left whole : Items)
     → Few words count here whole → here ≡ item word.now t left
-    → is_among word.now (names (take count words)) ≡ false → count < 8
+    → is_among word.now (names (take count words)) ≡ false → count < few
     → Few (slice_set words count word) (count + 1) left whole
 one_more words count word t here left whole f step new room =
     let long = f.long in

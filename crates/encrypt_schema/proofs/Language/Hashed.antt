@@ -6,7 +6,8 @@ use Rattle.std.specs.BTreeSet.{BTreeSet, UpdatesBy}
 use Rattle.bson_tree.specs.Tree.{Tree, Items, item}
 use Rattle.encrypt_schema.specs.Language.Names.{named, is_among}
 use Rattle.encrypt_schema.specs.Language.Values.{are_distinct, distinct_behind}
-use Rattle.encrypt_schema.specs.Views.Hashes.{hash_of, has_hash}
+use Rattle.bson_tree.specs.NameNumbers.{hash_of}
+use Rattle.encrypt_schema.specs.Views.Hashes.{has_hash}
 use Rattle.encrypt_schema.proofs.Language.Few.{told}
 use Rattle.encrypt_schema.proofs.Paths.Paths.{named_same}
 

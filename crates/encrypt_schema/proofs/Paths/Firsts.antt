@@ -5,7 +5,7 @@ use Rattle.std.proofs.lemmas.Bool.{lt-ltb, le-ltb}
 use Rattle.encrypt_schema.specs.Language.Row.{Row}
 use Rattle.encrypt_schema.specs.Paths.Classes.{first_by}
 use Rattle.encrypt_schema.specs.Views.Matches.{lesser}
-use Rattle.encrypt_schema.specs.Views.Trees.{or_number}
+use Rattle.bson_tree.specs.NameNumbers.{or_number}
 use Rattle.encrypt_schema.proofs.Paths.Paths.{some_if}
 use Rattle.encrypt_schema.proofs.Paths.Numbers.{some_is, none_some, push_by, push_here}
 

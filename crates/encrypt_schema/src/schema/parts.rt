@@ -8,8 +8,7 @@ ghost use Rattle.encrypt_schema.specs.Views.Seen.{context_at, part_at, path_belo
 use crate::schema::context::{Context, Part};
 use crate::schema::keyword::{Form, keyword_of};
 use crate::schema::rules::states_patterns;
-use crate::schema::values::is_document;
-use bson_codec::{RawDoc, RawItem};
+use bson_codec::{RawDoc, RawItem, is_document};
 
 /// What a keyword's value is to its schema.
 fn part_by<'a>(

@@ -3,12 +3,13 @@ use Rattle.std.proofs.Common.{◌≡◌, ◌∙◌, ◌<◌, List, ℕ, false, t
 use Rattle.bson_tree.specs.Tree.{item}
 use Rattle.encrypt_schema.specs.Language.Names.{is_among}
 use Rattle.encrypt_schema.specs.Views.Borrowed.{names}
+use Rattle.encrypt_schema.specs.Views.Few.{few}
 use Rattle.encrypt_schema.proofs.Language.Few.{one_more}
 use Rattle.encrypt_schema.proofs.schema.distinct.are_few_distinct.Goals as goal
 
 pub loop-item-preserved : goal.loop-item-preserved
 loop-item-preserved c =
-    let room : c.loop-item.count < 8 = search rules in
+    let room : c.loop-item.count < few = search rules in
     let new : is_among c.name-name.result.now (names (take c.loop-item.count c.loop-item.before)) ≡ false =
     search rules in
     let left = c.next.new.self.tree in

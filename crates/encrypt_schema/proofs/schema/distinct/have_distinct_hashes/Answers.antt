@@ -1,6 +1,6 @@
 -- A name whose hash is new is new.
 use Rattle.std.proofs.Common.{◌≡◌, ◌∙◌, sym, ap, rules}
-use Rattle.encrypt_schema.specs.Views.Hashes.{hash_of}
+use Rattle.bson_tree.specs.NameNumbers.{hash_of}
 use Rattle.encrypt_schema.proofs.Language.Hashed.{none_hashed, one_hashed}
 use Rattle.encrypt_schema.proofs.schema.distinct.have_distinct_hashes.Goals as goal
 
