@@ -21,7 +21,7 @@ use Rattle.command_marker.specs.Marking.{or_nameless}
 use Rattle.command_marker.specs.Splices.{added}
 use Rattle.command_marker.specs.Written.{growth, growth_by}
 use Rattle.command_marker.proofs.MarkedPlaces.{self_part}
-use Rattle.command_marker.proofs.Named.{Tells, command_told, told_inside}
+use Rattle.encrypt_schema.proofs.Commands.SpanTexts.{Tells, command_told, told_inside}
 
 module _ (rows : List Row) (first : ℕ) (bytes : List ℕ) where
   -- the spans of places read the texts of their targets

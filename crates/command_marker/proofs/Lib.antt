@@ -9,7 +9,6 @@ pub mod Replies
 pub mod Targets
 pub mod CommandVisits
 pub mod Unmarked
-pub mod Named
 pub mod Needed
 pub mod MarkedPlaces
 pub mod EqualGrowth

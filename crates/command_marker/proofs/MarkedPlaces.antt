@@ -29,8 +29,9 @@ use Rattle.command_marker.specs.Marking.{marked_value, or_nameless}
 use Rattle.command_marker.specs.Marked.{marking_at, marked, marked_by}
 use Rattle.command_marker.specs.MarkedPlaces.{rule_of, marking_of}
 use Rattle.command_marker.specs.Splices.{put_at}
-use Rattle.command_marker.proofs.Named.{Tells, by_span, by_text, command_told, told_inside}
-use Rattle.command_marker.proofs.Splices.{alike, none_put, passed_in}
+use Rattle.encrypt_schema.proofs.Commands.SpanTexts.{Tells, by_span, by_text, command_told, told_inside}
+use Rattle.bson_splice.proofs.Splices.{alike}
+use Rattle.command_marker.proofs.Splices.{none_put, passed_in}
 
 -- how the text for a rule is read from targets
 abbrev pub Reader : Type 0

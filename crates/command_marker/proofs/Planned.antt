@@ -24,7 +24,8 @@ use Rattle.command_marker.proofs.Lengths.{marking_size}
 use Rattle.bson_tree.proofs.Sizes.{framed_size}
 use Rattle.command_marker.proofs.MarkedPlaces.{put_marking, marked_roles}
 use Rattle.command_marker.proofs.Replies.{refused, replied, reply_size}
-use Rattle.command_marker.proofs.Splices.{alike, spliced_items}
+use Rattle.bson_splice.proofs.Splices.{alike}
+use Rattle.command_marker.proofs.Splices.{spliced_items}
 
 ruled : (rows : List Row) (ms : List Mark) → numbers.AreRuled (length rows) ms → AreRuled rows ms
 ruled rows [] h = tt

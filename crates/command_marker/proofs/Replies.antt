@@ -3,15 +3,13 @@ use Rattle.std.proofs.Common.{◌≡◌, ◌∙◌, ℕ, ◌+◌, ◌≤◌, ◌
 use Rattle.std.proofs.Common.{append_assoc, refl, Result, Err, ◌&&◌, not, true, false}
 use Rattle.std.specs.Prelude.{Bool, false, codes, nat_lt, Vec}
 use Rattle.std.specs.Global.{Global}
-use Rattle.std.proofs.lemmas.List.{length-map}
 use Rattle.std.specs.Int.{to_le_bytes, w32}
 use Rattle.bson_tree.specs.Tree.{Items, node, no_items, item}
 use Rattle.bson_tree.specs.Spelling.{items_bytes, doc_bytes}
 use Rattle.encrypt_schema.specs.declared.command.marks.Mark.{Mark}
 use Rattle.bson_codec.specs.Borrowed.{At}
 use Rattle.encrypt_schema.specs.Language.Row.{Row}
-use Rattle.encrypt_schema.specs.Commands.Chains.{use_of_mark}
-use Rattle.encrypt_schema.proofs.Commands.Sites.{marks_of_sites}
+use Rattle.encrypt_schema.proofs.Commands.Sites.{as_many}
 use Rattle.encrypt_schema.specs.Commands.Visits.{roles}
 use Rattle.command_marker.specs.declared.stop.ReplyFault.{ReplyFault}
 use Rattle.command_marker.specs.declared.stop.ReplyFault.TheVariants as faults
@@ -98,13 +96,6 @@ refused bytes size faults.Memory is long = absurd long
 pub clear_is : (command : Items) → reply_clear_to command ≡ reply false false command
 unfolding reply_clear_to
 clear_is command = refl
-
--- a command has as many marks wherever it begins
-as_many : (rows : List Row) (at : ℕ) (c : Items) → length (roles rows at c) ≡ length (roles rows 0 c)
-as_many rows at c =
-    sym (length-map (roles rows at c) use_of_mark)
-    ∙ ap length (marks_of_sites rows at c ∙ sym (marks_of_sites rows 0 c))
-    ∙ length-map (roles rows 0 c) use_of_mark
 
 and_true : (b : Bool) → (b && true) ≡ b
 and_true true = refl

@@ -1,5 +1,5 @@
 -- What marks put into a document, in reading order, is what they put in by the offsets of values.
-use Rattle.std.proofs.Common.{◌≡◌, ℕ, ◌+◌, ◌<◌, ◌≤◌, Bool, true, false, List, [], ◌∷◌, length, Option, None, unwrap_or}
+use Rattle.std.proofs.Common.{◌≡◌, ℕ, ◌+◌, ◌<◌, ◌≤◌, Bool, true, false, List, [], ◌∷◌, length, Option, None}
 use Rattle.std.proofs.Common.{refl, sym, ap, ◌∙◌, subst, arith}
 use Rattle.std.proofs.lemmas.Bool.{eq-eqb, ne_eqb, ltb-false}
 use Rattle.std.specs.Prelude.{◌==◌}
@@ -9,46 +9,10 @@ use Rattle.bson_tree.specs.Filled.{fill_tree, fill_items}
 use Rattle.encrypt_schema.specs.declared.command.marks.Mark.{Mark}
 use Rattle.encrypt_schema.proofs.Commands.Widths.{items_length}
 use Rattle.bson_tree.proofs.Sizes.{framed_size}
+use Rattle.bson_splice.proofs.Splices.{alike, same}
 use Rattle.command_marker.specs.Splices.{begins, is_before, left_in, left, spliced_in, spliced, added, put_at}
 use Rattle.encrypt_schema.proofs.Commands.Plans.{TakesIn, own, raw, inside, Takes, done, next, AreBehind, IsNextBehind}
 use Rattle.encrypt_schema.proofs.Commands.Plans.{earlier, behind, untouched}
-
--- ---- maps from offsets that are alike
-
--- maps that are alike behind an offset fill in the same from there on
-module _ (f g : ℕ → Tree → Option Tree) (from : ℕ) (agree : (q : ℕ) (u : Tree) → from < q → f q u ≡ g q u) where
-  mutual
-    alike_in : (at : ℕ) (t : Tree) → from < at → fill_tree f at t ≡ fill_tree g at t
-    alike_in at (leaf tag bytes) h = ap (λ (o : Option Tree). unwrap_or o (leaf tag bytes))
-        (agree at (leaf tag bytes) h)
-    alike_in at (node tag is) h =
-        ap (λ (o : Option Tree). unwrap_or o (node tag (fill_items f (at + 4) is))) (agree at (node tag is) h)
-        ∙ ap (λ (js : Items). unwrap_or (g at (node tag is)) (node tag js)) (alike (at + 4) is (omega (arith, h)))
-
-    pub alike : (at : ℕ) (is : Items) → from ≤ at → fill_items f at is ≡ fill_items g at is
-    alike at no_items h = refl
-    alike at (item name t is) h =
-        let a = alike_in (at + (2 + length name)) t (omega (arith, h)) in
-        let b = alike (at + (2 + length name) + length (value_bytes t)) is (omega (arith, h)) in
-        cc
-
--- a map that has nothing up to an offset changes nothing before it
-module _ (f : ℕ → Tree → Option Tree) (to : ℕ) (empty : (q : ℕ) (u : Tree) → q ≤ to → f q u ≡ None) where
-  mutual
-    same_in : (at : ℕ) (t : Tree) → at + length (value_bytes t) ≤ to → fill_tree f at t ≡ t
-    same_in at (leaf tag bytes) h = ap (λ (o : Option Tree). unwrap_or o (leaf tag bytes))
-        (empty at (leaf tag bytes) (omega (arith, h)))
-    same_in at (node tag is) h =
-        ap (λ (o : Option Tree). unwrap_or o (node tag (fill_items f (at + 4) is)))
-        (empty at (node tag is) (omega (arith, h)))
-        ∙ ap (node tag) (same (at + 4) is (omega (arith, h, framed_size (items_bytes is))))
-
-    pub same : (at : ℕ) (is : Items) → at + length (items_bytes is) ≤ to → fill_items f at is ≡ is
-    same at no_items h = refl
-    same at (item name t is) h =
-        let a = same_in (at + (2 + length name)) t (omega (arith, h, items_length name t is)) in
-        let b = same (at + (2 + length name) + length (value_bytes t)) is (omega (arith, h, items_length name t is)) in
-        cc
 
 -- ---- marks by the offsets where they begin
 

@@ -5,7 +5,6 @@ pub mod Fields
 pub mod Commands
 pub mod Splices
 pub mod Written
-pub mod Steps
 pub mod MarkedPlaces
 pub mod ToldPlaces
 pub mod Places

@@ -6,6 +6,7 @@ use Rattle.bson_tree.specs.Tree.{Tree, Items, leaf, node, no_items, item}
 use Rattle.bson_tree.specs.Spelling.{doc_bytes}
 use Rattle.encrypt_schema.specs.Language.Row.{Row}
 use Rattle.encrypt_schema.specs.Commands.Visits.{roles}
+use Rattle.fle_outside.specs.Limits.{output_limit}
 use Rattle.command_marker.specs.declared.stop.ReplyFault.{ReplyFault}
 use Rattle.command_marker.specs.declared.stop.ReplyFault.TheVariants as faults
 use Rattle.command_marker.specs.Commands.{passes}
@@ -44,7 +45,7 @@ reply_clear_to c = reply false false c
 
 -- the most bytes that a reply may have
 abbrev pub reply_limit : ℕ
-reply_limit = 48000000
+reply_limit = output_limit
 
 -- these are the bytes of the reply, or it has too many; memory may run out at any time
 abbrev pub RepliesAs : List ℕ → Result (Vec ℕ Global) ReplyFault → Type 0

@@ -34,5 +34,6 @@ mod targeting;
 pub use destination::Target;
 pub use marked::{Marked, mark_command};
 pub use replying::{reply, reply_clear};
+pub use splicing::{key_of, next_mark, step_of};
 pub use stop::ReplyFault;
 pub use targeting::target;

@@ -2,21 +2,20 @@
 //! stands.
 
 ghost use Rattle.std.specs.Prelude.{◌≡◌, ◌+◌, ◌<◌, ◌≤◌, ◌^◌, ◌++◌, [], ◌∷◌, length, drop, IfOk, IfSome, MatchOption};
-ghost use Rattle.std.specs.Prelude.{OnOk};
-ghost use Rattle.bson_codec.specs.Borrowed.{At};
+ghost use Rattle.std.specs.Prelude.{OnOk, option_map};
+ghost use Rattle.bson_splice.specs.Steps.{StepsBy};
 ghost use Rattle.bson_tree.specs.Spelling.{doc_bytes, items_bytes};
 ghost use Rattle.bson_tree.specs.Tree.{item as element, no_items};
-ghost use Rattle.encrypt_schema.specs.Language.Policies.{policy_at};
 ghost use Rattle.payload6.specs.Needs.{alternate_name, need_seen};
 ghost use Rattle.command_marker.specs.Marked.{marked_by, need_marked};
 ghost use Rattle.command_marker.specs.Splices.{left, left_in, spliced, spliced_in};
-ghost use Rattle.command_marker.specs.Steps.{StepsAs};
 ghost use Rattle.command_marker.specs.Written.{AreRuled, growth};
 
 use bson_codec::writing::{append, close, open, put_name};
 use bson_codec::{RawDoc, RawItem};
+use bson_splice::{Step, step_by};
 use bson_tree::{subtypes, types};
-use encrypt_schema::{Mark, Marks, Policy, Rows};
+use encrypt_schema::{Mark, Marks, Rows};
 use fle_outside::Memory;
 use payload6::{Need, length_bytes, need_of, put_marking};
 
@@ -26,18 +25,8 @@ const AROUND_MARKING: usize = 30;
 /// How many bytes stand in a binary before its contents.
 const BINARY_HEAD: usize = 5;
 
-/// What becomes of an element.
-enum Step<'a> {
-    /// It stays as it is.
-    Keep,
-    /// The marking under this mark's policy takes the place of its value.
-    Put(Mark),
-    /// A mark stands inside its document.
-    Open(RawDoc<'a>),
-}
-
-/// The mark of this number, counted from 0.
-pub(crate) fn next_mark(rows: &Rows, marks: &Marks, next: usize) -> Option<Mark>
+/// The mark of this number, counted from 0; its rule is there.
+pub fn next_mark(rows: &Rows, marks: &Marks, next: usize) -> Option<Mark>
     requires ruled { AreRuled rows.now marks.now }
     ensures first { MatchOption result (drop next marks.now ≡ []) (λ m. drop next marks.now
         ≡ m ∷ drop (next + 1) marks.now) }
@@ -47,24 +36,14 @@ pub(crate) fn next_mark(rows: &Rows, marks: &Marks, next: usize) -> Option<Mark>
     marks.get(next)
 }
 
-/// The policy of a mark's rule.
-pub(crate) fn policy_of<'a>(rows: &'a Rows, mark: &Mark) -> &'a Policy
-    requires ruled { mark.now.policy < length rows.now }
-    ensures policy { result.now ≡ policy_at mark.now.policy rows.now }
-{
-    match rows.policy(mark.policy) {
-        Some(policy) => policy,
-        None => unreachable!(),
-    }
-}
-
-/// What the marking of a mark's value names as its key.
-pub(crate) fn key_of<'a>(rows: &Rows, command: &RawDoc<'a>, mark: &Mark) -> Need<'a>
+/// What the marking of a mark's value names as its key: a name of no byte where its rule has a pointer that leads to no
+/// text, as is so of no accepted command.
+pub fn key_of<'a>(rows: &Rows, command: &RawDoc<'a>, mark: &Mark) -> Need<'a>
     requires ruled { mark.now.policy < length rows.now }
     ensures need { need_seen result ≡ need_marked rows.now command.now mark.now }
     ensures inside { length (alternate_name (need_seen result)) ≤ length (doc_bytes command.now.tree) }
 {
-    match need_of(policy_of(rows, mark), command, mark) {
+    match need_of(rows.policy_at(mark.policy), command, mark) {
         Some(need) => need,
         None => Need::Name(&[]),
     }
@@ -81,26 +60,12 @@ pub(crate) fn growth_of(need: Need<'_>) -> usize
     }
 }
 
-/// What becomes of an element, where the mark of this number is the next one.
-fn step_of<'a>(rows: &Rows, marks: &Marks, next: usize, item: &RawItem<'a>) -> Step<'a>
-    requires ruled { AreRuled rows.now marks.now }
-    ensures step { (command : At) → StepsAs rows.now command marks.now next item.now result }
+/// What becomes of an element of a command whose next mark is this one; `None` where no mark is left.
+pub fn step_of<'a>(mark: Option<Mark>, item: &RawItem<'a>) -> Step<'a>
+    ensures step { StepsBy (option_map (λ m. m.start) mark) item.now result }
 {
-    let mark = match next_mark(rows, marks, next) {
-        Some(mark) => mark,
-        None => return Step::Keep,
-    };
-    let first = mark.start as usize;
-    if first == item.start() {
-        return Step::Put(mark);
-    }
-    let end = item.start() + item.value().len();
-    match item.child() {
-        Some(document) => if first < end {
-            Step::Open(document)
-        } else {
-            Step::Keep
-        },
+    match mark {
+        Some(mark) => step_by(Some(mark.start as usize), item),
         None => Step::Keep,
     }
 }
@@ -127,7 +92,7 @@ fn put_marked(
     ensures element { OnOk result (out.new.items ≡ out.old.items ++ items_bytes
         (element item.now.name (marked_by rows.now command.now mark.now item.now.tree) no_items)) }
 {
-    let algorithm = policy_of(rows, mark).algorithm;
+    let algorithm = rows.policy_at(mark.policy).algorithm;
     let _ = command.bytes();
     let need = key_of(rows, command, mark);
     let size = item.value().len() + growth_of(need) - BINARY_HEAD;
@@ -159,15 +124,19 @@ fn put_item<'a>(
         (drop next marks.now) item.now.tree) no_items)) }
     ensures left { IfOk result (λ n. drop n marks.now ≡ left_in item.now.start (drop next marks.now) item.now.tree) }
 {
-    match step_of(rows, marks, next, item) {
+    let mark = next_mark(rows, marks, next);
+    match step_of(mark, item) {
         Step::Keep => {
             put_raw(out, item)?;
             Ok(next)
         }
-        Step::Put(mark) => {
-            put_marked(out, rows, command, &mark, item)?;
-            Ok(next + 1)
-        }
+        Step::Put => match mark {
+            Some(mark) => {
+                put_marked(out, rows, command, &mark, item)?;
+                Ok(next + 1)
+            }
+            None => unreachable!(),
+        },
         Step::Open(document) => {
             put_name(out, item.tag(), item.name())?;
             let behind = put_document(out, rows, marks, command, next, &document)?;

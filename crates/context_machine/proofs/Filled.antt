@@ -10,7 +10,9 @@ use Rattle.std.proofs.lemmas.List.{length_push}
 use Rattle.std.proofs.lemmas.Map.Text.{btree_map_updates_str, is_eq-slice_cmp}
 use denote.Ref.{Bor}
 use Rattle.data_key.specs.declared.key_doc.KeyDoc.{KeyDoc}
-use Rattle.key_vault.specs.Keys.{first_key, is_among, place_from}
+use Rattle.bson_tree.specs.NameNumbers.{or_number}
+use Rattle.key_vault.specs.Keys.{is_among, place_from}
+use Rattle.key_vault.proofs.Numbered.{is_placed, place_behind}
 use Rattle.payload6.specs.Needs.{Need, Id, Name}
 use Rattle.context_machine.specs.declared.slots.Slots.{Slots}
 use Rattle.context_machine.specs.Kept.{fed, is_met, is_wanted, meets}
@@ -104,18 +106,6 @@ one_more needs m n a are put = record {
 
 -- ---- which keys are kept
 
--- a key that passes a test has a number where there is one
-some_by : (b : Bool) (k : KeyDoc) (n : ℕ) (o : Option KeyDoc) (p : Option ℕ) → is_some p ≡ is_some o
-    → is_some (cond b (Some n) p) ≡ is_some (cond b (Some k) o)
-some_by true k n o p e = refl
-some_by false k n o p e = e
-
-is_placed : (n : ℕ) (test : KeyDoc → Bool) (ks : List KeyDoc)
-    → is_some (place_from n test ks) ≡ is_some (first_key test ks)
-is_placed n test [] = refl
-is_placed n test (k ∷ ks) =
-    some_by (test k) k n (first_key test ks) (place_from (n + 1) test ks) (is_placed (n + 1) test ks)
-
 open_by : (o : Option (Option ℕ)) (b met : Bool) → is_some o ≡ b → (b ≡ true → is_some (number_in o) ≡ met)
     → is_free o ≡ (b && not met)
 open_by None true met there numbered = absurd (false≢true there)
@@ -206,25 +196,6 @@ module _ (needs : List NeedAt) (kept : List KeyDoc) (k : KeyDoc) where
 
 -- ---- a key more
 
-abbrev or_new : Option ℕ → Bool → ℕ → Option ℕ
-or_new (Some n) test m = Some n
-or_new None test m = cond test (Some m) None
-
-or_new_if : (test : Bool) (n : ℕ) (o : Option ℕ) (new : Bool) (m k : ℕ) → m ≡ k
-    → cond test (Some n) (or_new o new m) ≡ or_new (cond test (Some n) o) new k
-or_new_if true n o new m k e = refl
-or_new_if false n o new m k e = ap (or_new o new) e
-
-place_behind : (n : ℕ) (test : KeyDoc → Bool) (ks : List KeyDoc) (k : KeyDoc)
-    → place_from n test (ks ++ k ∷ []) ≡ or_new (place_from n test ks) (test k) (n + length ks)
-place_behind n test [] k =
-    let e : n ≡ n + length {A = KeyDoc} [] = omega arith in
-    ap (λ (m : ℕ). cond (test k) (Some m) None) e
-place_behind n test (d ∷ ks) k =
-    let e : n + 1 + length ks ≡ n + length (d ∷ ks) = omega arith in
-    ap (λ (o : Option ℕ). cond (test d) (Some n) o) (place_behind (n + 1) test ks k)
-    ∙ or_new_if (test d) n (place_from (n + 1) test ks) (test k) (n + 1 + length ks) (n + length (d ∷ ks)) e
-
 same_there : (o w : Option (Option ℕ)) (m : Bool) → is_some w ≡ true → is_some (cond (is_free o && m) w o) ≡ is_some o
 same_there None w m some = refl
 same_there (Some None) w true some = some
@@ -232,11 +203,11 @@ same_there (Some None) w false some = refl
 same_there (Some (Some n)) w m some = refl
 
 number_by : (o : Option (Option ℕ)) (m : Bool) (place : Option ℕ) (n : ℕ) → is_some o ≡ true → number_in o ≡ place
-    → number_in (cond (is_free o && m) (Some (Some n)) o) ≡ or_new place m n
+    → number_in (cond (is_free o && m) (Some (Some n)) o) ≡ or_number place m n
 number_by None m place n there is = absurd (false≢true there)
-number_by (Some None) true place n there is = ap (λ (p : Option ℕ). or_new p true n) is
-number_by (Some None) false place n there is = ap (λ (p : Option ℕ). or_new p false n) is
-number_by (Some (Some k)) m place n there is = ap (λ (p : Option ℕ). or_new p m n) is
+number_by (Some None) true place n there is = ap (λ (p : Option ℕ). or_number p true n) is
+number_by (Some None) false place n there is = ap (λ (p : Option ℕ). or_number p false n) is
+number_by (Some (Some k)) m place n there is = ap (λ (p : Option ℕ). or_number p m n) is
 
 -- what the code makes of the slots for a key of this number
 abbrev pub FillsSlots : Slots → Slots → KeyDoc → ℕ → Type 0
@@ -255,7 +226,7 @@ key_more needs kept m n k number are filled count =
       numbered = λ need h. ap number_in (filled need)
           ∙ number_by (slot_of m need) (meets need k) (place_from 0 (meets need) kept) number (are.there need ∙ h)
           (are.numbered need h)
-          ∙ ap (or_new (place_from 0 (meets need) kept) (meets need k)) size
+          ∙ ap (or_number (place_from 0 (meets need) kept) (meets need k)) size
           ∙ sym (place_behind 0 (meets need) kept k);
     }
 

@@ -11,6 +11,7 @@ mod Finishing
 pub mod Infos
 mod Blanked
 mod NamesTold
+mod NamedAgain
 pub mod EqualNeeds
 pub mod FoundKeys
 mod ByIds

@@ -13,7 +13,7 @@ use Rattle.encrypt_schema.specs.Commands.Visits.{station_of, text_at, text_in, t
 use Rattle.encrypt_schema.specs.Language.Row.{Row}
 use Rattle.encrypt_schema.proofs.Commands.PointerTexts.{Part, items_part, part_of_part, rest_part, value_part}
 use Rattle.payload6.specs.Needs.{name_text}
-use Rattle.doc_rewrite.proofs.Texts.{Tells, command_told, told_inside}
+use Rattle.encrypt_schema.proofs.Commands.SpanTexts.{Tells, command_told, told_inside}
 
 module _ (rows : List Row) (first : ℕ) (bytes : List ℕ) where
   -- the spans of these targets read their texts

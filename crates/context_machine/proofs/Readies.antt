@@ -5,13 +5,9 @@ use Rattle.std.specs.Prelude.{is_some}
 use Rattle.bson_codec.specs.Borrowed.{At}
 use Rattle.bson_tree.specs.Spelling.{doc_bytes}
 use Rattle.command_marker.specs.Commands.{Command}
-use Rattle.encrypt_schema.specs.Commands.Visits.{content_verdict, roles}
-use Rattle.encrypt_schema.specs.Language.Row.{Row}
 use Rattle.encrypt_schema.specs.declared.command.marks.Mark.{Mark}
-use Rattle.doc_rewrite.specs.Plans.{AreMarksOf, Planned, StandsFor}
+use Rattle.doc_rewrite.specs.Plans.{Planned, StandsFor}
 use Rattle.doc_rewrite.specs.Sites.{Site, grown, sites_of}
-use Rattle.doc_rewrite.proofs.Names.{clean_named}
-use Rattle.doc_rewrite.proofs.Stands.{marks_stand}
 use Rattle.encrypt_schema.specs.Commands.Targets.{rows_in}
 use Rattle.encrypt_schema.specs.Language.Collection.{Collection}
 use Rattle.doc_rewrite.specs.Keys.{Table, key_in}
@@ -84,16 +80,6 @@ pub stops_ready : (keys : Finder) (w : Waits) (table : Table) (result : Result R
     → IfErr result (λ e. StopsWaiting keys w e.1)
 stops_ready keys w table (Ok r) are is = is
 stops_ready keys w table (Err e) are is = long_stops keys w table e.1 are is
-
--- the marks of a marked command are its roles
-pub marked_stand : (m : Command) (rows : List Row) (marks : List Mark) (command : At) → m.command ≡ command
-    → rows ≡ m.rows → marks ≡ roles m.rows m.command.start m.command.tree
-    → content_verdict m.rows m.command.start m.command.tree ≡ None → AreMarksOf rows marks command
-marked_stand m rows marks command same ruled are accepted =
-    subst (λ (d : At). AreMarksOf rows marks d) same
-    (subst (λ (rs : List Row). AreMarksOf rs marks m.command) (sym ruled)
-    (subst (λ (ms : List Mark). AreMarksOf m.rows ms m.command) (sym are) (marks_stand m.rows m.command
-    (clean_named m.rows m.command accepted))))
 
 no_values : (command : At) → [] ≡ values_of None command
 no_values command = ap (λ (ms : List Mark). sites_of [] command ms) (no_roles command)

@@ -1,4 +1,5 @@
 pub mod Needs
+pub mod NameSpans
 pub mod Kept
 pub mod Slots
 pub mod Asks

@@ -9,6 +9,7 @@ use Rattle.doc_rewrite.specs.Keys.{Table, key_in}
 use Rattle.doc_rewrite.specs.Plans.{Planned, StandsFor}
 use Rattle.doc_rewrite.specs.Sealing.{HasKeys}
 use Rattle.doc_rewrite.specs.Sites.{Site, grown, sites_of}
+use Rattle.fle_outside.specs.Limits.{output_limit}
 use Rattle.context_machine.specs.Rings.{Finder, first_keyless, needs_of}
 use Rattle.context_machine.specs.States.{Finished, Readied, Waits}
 use Rattle.context_machine.specs.declared.opened_keys.KeysStop.{KeysStop}
@@ -27,14 +28,14 @@ pub record IsPlanOf (info : Option Collection) (command : At) (plan : Planned) :
   pub sites : plan.sites ≡ values_of info command
   pub size : plan.size ≡ sealed_size info command
   pub stands : StandsFor plan command
-  pub most : plan.size ≤ 48000000
+  pub most : plan.size ≤ output_limit
 
 -- what holds of a command that is ready: the table has the key of each of its values, and so many bytes are there as it
 -- is sealed to
 pub record IsReady (w : Waits) (table : Table) (out : List ℕ) : Type 0 where
   pub keyed : HasKeys (key_in table) (values_of w.info w.command)
   pub room : length out ≡ sealed_size w.info w.command
-  pub most : sealed_size w.info w.command ≤ 48000000
+  pub most : sealed_size w.info w.command ≤ output_limit
 
 -- the first value whose key isn't to be had; or each has its key, and the sealed command would be too long; want of
 -- memory may come at any time
@@ -42,13 +43,13 @@ abbrev pub StopsWaiting : Finder → Waits → KeysStop → Type 0
 StopsWaiting keys w (stops.Refused reason at) =
     first_keyless keys (needs_of (rows_in w.info) w.command) ≡ Some (record { reason = reason; at = at })
 StopsWaiting keys w stops.TooLong =
-    (first_keyless keys (needs_of (rows_in w.info) w.command) ≡ None) × (48000000 < sealed_size w.info w.command)
+    (first_keyless keys (needs_of (rows_in w.info) w.command) ≡ None) × (output_limit < sealed_size w.info w.command)
 StopsWaiting keys w stops.Memory = Unit {0}
 
 -- the sealed command would be too long; want of memory may come at any time
 abbrev pub IsTooLong : ℕ → KeysStop → Type 0
 IsTooLong size (stops.Refused reason at) = ⊥
-IsTooLong size stops.TooLong = 48000000 < size
+IsTooLong size stops.TooLong = output_limit < size
 IsTooLong size stops.Memory = Unit {0}
 
 -- the command that waited, once it is ready: the same with this table of data keys

@@ -5,6 +5,7 @@ use Rattle.std.specs.BTreeMap.{BTreeMap, get_by}
 use Rattle.std.specs.Cmp.Lexicographic.{slice_cmp}
 use Rattle.std.specs.Ordering.{nat_cmp}
 use denote.Ref.{Bor}
+use Rattle.encrypt_schema.specs.Views.Few as limits
 use Rattle.data_key.specs.declared.key_doc.KeyDoc.{KeyDoc}
 use Rattle.key_vault.specs.Keys.{place_from}
 use Rattle.payload6.specs.Needs.{Need, Id, Name}
@@ -51,7 +52,7 @@ pub record AreSlots (needs : List NeedAt) (kept : List KeyDoc) (slots : Slots) :
   pub numbered : (need : Need) → is_needed need needs ≡ true
       → number_in (slot_of slots need) ≡ place_from 0 (meets need) kept
 
--- more than eight needs have slots, fewer have none
+-- more than a few needs have slots, fewer have none
 pub record AreManySlots (needs : List NeedAt) (kept : List KeyDoc) (slots : Slots) : Type 0 where
-  pub few : length needs ≤ 8 → AreSlots [] [] slots
-  pub many : 8 < length needs → AreSlots needs kept slots
+  pub few : length needs ≤ limits.few → AreSlots [] [] slots
+  pub many : limits.few < length needs → AreSlots needs kept slots

@@ -28,6 +28,7 @@ mod encrypt_start;
 pub mod info_laws;
 mod keys_asked;
 pub mod laws;
+mod name_spans;
 mod need;
 mod need_coll_info;
 mod need_keys;

@@ -7,11 +7,9 @@ ghost use Rattle.context_machine.specs.Slots.{AreManySlots, AreSlots};
 
 use crate::need::{NeedAt, is_same};
 use crate::slots::Slots;
+use encrypt_schema::FEW;
 use fle_outside::Memory;
 use payload6::Need;
-
-/// So many needs are looked through.
-pub(crate) const FEW: usize = 8;
 
 /// Appends a value where its need isn't there yet, and makes slots for needs that are no longer few.
 pub(crate) fn put_new<'a>(

@@ -2,6 +2,7 @@
 
 ghost use Rattle.std.specs.Prelude.{◌≡◌, ◌<◌, ◌≤◌, ◌∷◌, [], ◌++◌, ◌&&◌, false, true, drop, length, map, not};
 ghost use Rattle.std.specs.Prelude.{option_copied, option_map, slice_get, IfOk};
+ghost use Rattle.encrypt_schema.specs.Views.Few.{few};
 ghost use Rattle.key_vault.specs.Keys.{is_among};
 ghost use Rattle.payload6.specs.Needs.{need_seen};
 ghost use Rattle.context_machine.specs.Kept.{fed, is_wanted, key_by, meets};
@@ -9,10 +10,10 @@ ghost use Rattle.context_machine.specs.Needs.{is_needed, needs_seen};
 ghost use Rattle.context_machine.specs.Slots.{AreManySlots};
 
 use crate::need::NeedAt;
-use crate::needed::FEW;
 use crate::slots::Slots;
 use bson_tree::Bytes;
 use data_key::KeyDoc;
+use encrypt_schema::FEW;
 use fle_outside::Memory;
 use payload6::Need;
 use std::alloc::Global;
@@ -100,7 +101,7 @@ impl<'a> Wanted<'a> {
 
     /// The same where there are a few needs: they are looked through.
     fn feed_few(&mut self, key: &'a KeyDoc)
-        requires few { length self.old.needs ≤ 8 }
+        requires few { length self.old.needs ≤ few }
         ensures needs { self.new.needs ≡ self.old.needs }
         ensures fed { self.new.kept ≡ fed self.old.needs self.old.kept key.entry.now }
     {
@@ -113,7 +114,7 @@ impl<'a> Wanted<'a> {
 
     /// The same where there are many: each has a slot.
     fn feed_many(&mut self, key: &'a KeyDoc)
-        requires many { 8 < length self.old.needs }
+        requires many { few < length self.old.needs }
         ensures needs { self.new.needs ≡ self.old.needs }
         ensures fed { self.new.kept ≡ fed self.old.needs self.old.kept key.entry.now }
     {

@@ -36,7 +36,7 @@ use Rattle.bson_splice.proofs.Splices.{alike, none_put, passed_in}
 use Rattle.doc_rewrite.specs.SealedCommand.{HasNamed, HasRuleKeys}
 use Rattle.doc_rewrite.specs.SealedTrees.{Use, use_of, SealedIn, AreSealed}
 use Rattle.doc_rewrite.specs.Sites.{site_of, sites_of}
-use Rattle.doc_rewrite.proofs.Texts.{Tells, by_span, command_told, told_inside}
+use Rattle.encrypt_schema.proofs.Commands.SpanTexts.{Tells, by_span, command_told, told_inside}
 
 first_are : (algorithm : Algorithm) (blocks : List Block) → IsBlock any_block → AreBlocks blocks
     → IsBlock (first_block algorithm blocks)

@@ -1,28 +1,14 @@
 -- The vector of a value under the random algorithm is the block that is drawn.
 use Rattle.std.proofs.Common.{◌≡◌, ◌∙◌, ℕ, Some, None, Option, Ok, Err, List, [], ◌∷◌, ◌++◌, refl, sym, ap, arith}
 use Rattle.std.proofs.lemmas.List.Elements.{All-cons, All-nil}
-use Rattle.std.specs.Prelude.{unwrap_or}
 use Rattle.bson_tree.specs.Tree.{Tree}
 use Rattle.encrypt_schema.specs.declared.schema.policy.Algorithm.TheVariants.{Random}
+use Rattle.fle_outside.proofs.Drawings.{kept, taken}
 use Rattle.fle_outside.specs.Blocks.{Block, IsBlock, DrawTakes, DrawCause, DrawAssured}
 use Rattle.fle_outside.specs.Seen.{EntropySeen}
 use Rattle.fle_outside.specs.declared.answers.Failed.{Failed}
 use Rattle.doc_rewrite.specs.declared.label.Label.{Label}
 use Rattle.doc_rewrite.specs.Vectors.{IsDrawnVector, DrawFails}
-
-some_is : (a b : List Block) → Some a ≡ Some b → a ≡ b
-some_is a b e = ap (λ (o : Option (List Block)). unwrap_or o []) e
-
-taken : (before after : Option (List Block)) (block : Block) → DrawTakes before after (Ok block) → (all : List Block)
-    → before ≡ Some all
-    → (rest : List Block) × (all ≡ (block ∷ []) ++ rest) × (after ≡ Some rest)
-taken None after block t all is = absurd cc
-taken (Some blocks) after block t all is = (t.0, sym (some_is blocks all is) ∙ t.1, t.2)
-
-kept : (before after : Option (List Block)) (fault : Failed) → DrawTakes before after (Err fault) → (all : List Block)
-    → before ≡ Some all → after ≡ Some all
-kept None after fault t all is = absurd cc
-kept (Some blocks) after fault t all is = t ∙ is
 
 pub vector_drawn : (l : Label) (key : List ℕ) (t : Tree) (before after : EntropySeen) (block : Block)
     → l.algorithm ≡ Random

@@ -6,34 +6,35 @@ use Rattle.std.proofs.lemmas.List.{append_assoc}
 use Rattle.std.specs.BTreeMap.{BTreeMap, UpdatesBy}
 use Rattle.std.specs.Cmp.Lexicographic.{bytes_decides, slice_cmp}
 use Rattle.std.specs.Prelude.{is_some, option_map, slice_get}
-use Rattle.encrypt_schema.proofs.Language.Ordered.{updates_places}
+use Rattle.bson_tree.specs.NameNumbers.{number_of_name, or_number}
+use Rattle.bson_tree.proofs.NameNumbers.{or_number_if, updates_numbers}
 use Rattle.payload6.specs.Needs.{Id, Name}
 use Rattle.doc_rewrite.specs.declared.named_keys.NamedEntry.{NamedEntry}
 use Rattle.doc_rewrite.specs.Keys.{Found as FoundKey, GivesLongIds, HaveLongIds, Table, found_by}
 use Rattle.doc_rewrite.specs.Keys.{key_by_id, key_by_name, key_in, under_id}
-use Rattle.doc_rewrite.specs.Numbers.{named_place, number_of_name, or_new}
-use Rattle.doc_rewrite.proofs.Numbered.{new_by, none_there, or_new_if}
+use Rattle.doc_rewrite.specs.Numbers.{named_place}
+use Rattle.doc_rewrite.proofs.Numbered.{new_by, none_there}
 
 place_behind : (n : ℕ) (name : List ℕ) (es : List NamedEntry) (e : NamedEntry)
-    → named_place n name (es ++ e ∷ []) ≡ or_new (named_place n name es) (bytes_eq e.name name) (n + length es)
+    → named_place n name (es ++ e ∷ []) ≡ or_number (named_place n name es) (bytes_eq e.name name) (n + length es)
 place_behind n name [] e =
     let k : n ≡ n + length {A = NamedEntry} [] = omega arith in
     ap (λ (m : ℕ). cond (bytes_eq e.name name) (Some m) None) k
 place_behind n name (d ∷ es) e =
     let k : n + 1 + length es ≡ n + length (d ∷ es) = omega arith in
     ap (λ (o : Option ℕ). cond (bytes_eq d.name name) (Some n) o) (place_behind (n + 1) name es e)
-    ∙ or_new_if (bytes_eq d.name name) n (named_place (n + 1) name es) (bytes_eq e.name name) (n + 1 + length es)
+    ∙ or_number_if (bytes_eq d.name name) n (named_place (n + 1) name es) (bytes_eq e.name name) (n + 1 + length es)
     (n + length (d ∷ es)) k
 
 -- the numbers by name, with one more entry
 pub added : (es : List NamedEntry) (e : NamedEntry) (old new : BTreeMap (Vec ℕ Global) ℕ) (number : ℕ)
-    → ((name : List ℕ) → number_of_name new name ≡ or_new (number_of_name old name) (bytes_eq e.name name) number)
+    → ((name : List ℕ) → number_of_name new name ≡ or_number (number_of_name old name) (bytes_eq e.name name) number)
     → ((name : List ℕ) → number_of_name old name ≡ named_place 0 name es) → number ≡ length es
     → (name : List ℕ) → number_of_name new name ≡ named_place 0 name (es ++ e ∷ [])
 added es e old new number put known count name =
     let size : number ≡ 0 + length es = omega (arith, count) in
-    put name ∙ ap (λ (o : Option ℕ). or_new o (bytes_eq e.name name) number) (known name)
-    ∙ ap (or_new (named_place 0 name es) (bytes_eq e.name name)) size
+    put name ∙ ap (λ (o : Option ℕ). or_number o (bytes_eq e.name name) number) (known name)
+    ∙ ap (or_number (named_place 0 name es) (bytes_eq e.name name)) size
     ∙ sym (place_behind 0 name es e)
 
 -- the ids with one more entry
@@ -46,9 +47,9 @@ long_added (d ∷ es) e h long = (h.0, long_added es e h.1 long)
 pub first_put : (name : List ℕ) (old new : BTreeMap (Vec ℕ Global) ℕ) (number : ℕ)
     → is_some (number_of_name old name) ≡ false
     → UpdatesBy (λ x y. slice_cmp nat_cmp x.items y.items) (λ k. slice_cmp nat_cmp name k.items) old new (Some number)
-    → (other : List ℕ) → number_of_name new other ≡ or_new (number_of_name old other) (bytes_eq name other) number
+    → (other : List ℕ) → number_of_name new other ≡ or_number (number_of_name old other) (bytes_eq name other) number
 first_put name old new number lacks updates other =
-    updates_places name old new (Some number) updates other
+    updates_numbers name old new (Some number) updates other
     ∙ new_by (bytes_eq name other) (number_of_name old other) number
     (λ same. subst (λ (i : List ℕ). number_of_name old i ≡ None) ((bytes_decides name other).0 same)
     (none_there (number_of_name old name) lacks))

@@ -10,7 +10,6 @@ pub mod Stands
 pub mod Judged
 pub mod FromPlaces
 pub mod Covered
-pub mod Texts
 pub mod Names
 pub mod ToPlaces
 pub mod ByStations

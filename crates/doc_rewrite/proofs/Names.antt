@@ -29,7 +29,7 @@ use Rattle.encrypt_schema.proofs.Commands.PointerTexts.{IsAt, Part, items_part, 
 use Rattle.encrypt_schema.proofs.Commands.PointerTexts.{target_stands, value_part}
 use Rattle.doc_rewrite.specs.Plans.{AreById, AreNamed, IsNamed, LiesIn}
 use Rattle.doc_rewrite.proofs.Sealable.{later_none, offence_none, first_none}
-use Rattle.doc_rewrite.proofs.Texts.{not_whole}
+use Rattle.encrypt_schema.proofs.Commands.SpanTexts.{not_whole}
 
 -- ---- a rule's target
 

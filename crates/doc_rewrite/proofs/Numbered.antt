@@ -8,24 +8,21 @@ use Rattle.std.specs.Cmp.Lexicographic.{bytes_decides, slice_cmp}
 use Rattle.std.specs.Ordering.{nat_cmp}
 use Rattle.std.specs.Prelude.{is_some}
 use Rattle.std.specs.Prelude.{option_map, slice_get}
+use Rattle.bson_tree.specs.NameNumbers.{or_number}
+use Rattle.bson_tree.proofs.NameNumbers.{or_number_if}
 use Rattle.doc_rewrite.specs.declared.key_table.KeyEntry.{KeyEntry}
 use Rattle.doc_rewrite.specs.Keys.{key_by_id}
-use Rattle.doc_rewrite.specs.Numbers.{number_of_id, or_new, place_from}
-
-pub or_new_if : (test : Bool) (n : ℕ) (o : Option ℕ) (new : Bool) (m k : ℕ) → m ≡ k
-    → cond test (Some n) (or_new o new m) ≡ or_new (cond test (Some n) o) new k
-or_new_if true n o new m k e = refl
-or_new_if false n o new m k e = ap (or_new o new) e
+use Rattle.doc_rewrite.specs.Numbers.{number_of_id, place_from}
 
 place_behind : (n : ℕ) (id : List ℕ) (es : List KeyEntry) (e : KeyEntry)
-    → place_from n id (es ++ e ∷ []) ≡ or_new (place_from n id es) (bytes_eq e.id id) (n + length es)
+    → place_from n id (es ++ e ∷ []) ≡ or_number (place_from n id es) (bytes_eq e.id id) (n + length es)
 place_behind n id [] e =
     let k : n ≡ n + length {A = KeyEntry} [] = omega arith in
     ap (λ (m : ℕ). cond (bytes_eq e.id id) (Some m) None) k
 place_behind n id (d ∷ es) e =
     let k : n + 1 + length es ≡ n + length (d ∷ es) = omega arith in
     ap (λ (o : Option ℕ). cond (bytes_eq d.id id) (Some n) o) (place_behind (n + 1) id es e)
-    ∙ or_new_if (bytes_eq d.id id) n (place_from (n + 1) id es) (bytes_eq e.id id) (n + 1 + length es)
+    ∙ or_number_if (bytes_eq d.id id) n (place_from (n + 1) id es) (bytes_eq e.id id) (n + 1 + length es)
     (n + length (d ∷ es)) k
 
 pub none_there : (o : Option ℕ) → is_some o ≡ false → o ≡ None
@@ -33,15 +30,15 @@ none_there None e = refl
 none_there (Some n) e = absurd cc
 
 pub new_by : (test : Bool) (o : Option ℕ) (number : ℕ) → (test ≡ true → o ≡ None)
-    → cond test (Some number) o ≡ or_new o test number
-new_by true o number none = sym (ap (λ (p : Option ℕ). or_new p true number) (none refl))
+    → cond test (Some number) o ≡ or_number o test number
+new_by true o number none = sym (ap (λ (p : Option ℕ). or_number p true number) (none refl))
 new_by false None number none = refl
 new_by false (Some n) number none = refl
 
 -- an id that had no number gets one, and others stay
 pub first_put : (id : List ℕ) (old new : BTreeMap (List ℕ) ℕ) (number : ℕ) → is_some (number_of_id old id) ≡ false
     → UpdatesBy (slice_cmp nat_cmp) (slice_cmp nat_cmp id) old new (Some number)
-    → (other : List ℕ) → number_of_id new other ≡ or_new (number_of_id old other) (bytes_eq id other) number
+    → (other : List ℕ) → number_of_id new other ≡ or_number (number_of_id old other) (bytes_eq id other) number
 first_put id old new number lacks updates other =
     updates.0 other ∙ ap (λ (b : Bool). cond b (Some number) (number_of_id old other)) (is_eq-slice_cmp id other)
     ∙ new_by (bytes_eq id other) (number_of_id old other) number
@@ -50,13 +47,13 @@ first_put id old new number lacks updates other =
 
 -- the numbers by id, with one more entry
 pub added : (es : List KeyEntry) (e : KeyEntry) (old new : BTreeMap (List ℕ) ℕ) (number : ℕ)
-    → ((id : List ℕ) → number_of_id new id ≡ or_new (number_of_id old id) (bytes_eq e.id id) number)
+    → ((id : List ℕ) → number_of_id new id ≡ or_number (number_of_id old id) (bytes_eq e.id id) number)
     → ((id : List ℕ) → number_of_id old id ≡ place_from 0 id es) → number ≡ length es
     → (id : List ℕ) → number_of_id new id ≡ place_from 0 id (es ++ e ∷ [])
 added es e old new number put known count id =
     let size : number ≡ 0 + length es = omega (arith, count) in
-    put id ∙ ap (λ (o : Option ℕ). or_new o (bytes_eq e.id id) number) (known id)
-    ∙ ap (or_new (place_from 0 id es) (bytes_eq e.id id)) size
+    put id ∙ ap (λ (o : Option ℕ). or_number o (bytes_eq e.id id) number) (known id)
+    ∙ ap (or_number (place_from 0 id es) (bytes_eq e.id id)) size
     ∙ sym (place_behind 0 id es e)
 
 seam : (front : List KeyEntry) (e : KeyEntry) (es : List KeyEntry) (n : ℕ) → n ≡ length front

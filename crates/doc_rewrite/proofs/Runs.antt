@@ -12,8 +12,7 @@ use Rattle.bson_splice.specs.Takes.{Trades}
 use Rattle.bson_splice.specs.Whole.{IsSpliced, StandsAt, replaced}
 use Rattle.fle_outside.proofs.Drawings.{draws_none, draws_then}
 use Rattle.fle_outside.specs.Blocks.{Block}
-use Rattle.fle_outside.specs.Drawing.{Draws}
-use Rattle.fle_outside.specs.Seen.{EntropySeen}
+use Rattle.fle_outside.specs.Seen.{Draws, EntropySeen}
 use Rattle.doc_rewrite.specs.Keys.{Lookup, Table, key_in}
 use Rattle.doc_rewrite.specs.Sealed.{put_of, seals, sealed, first_block, other_blocks}
 use Rattle.doc_rewrite.specs.Sealing.{SealsOne, SealsNone, FellShort, IsSealedWhole}

@@ -18,7 +18,8 @@ use Rattle.doc_rewrite.specs.Sites.{sites_of}
 use Rattle.doc_rewrite.proofs.ByStations.{command_sealed}
 use Rattle.doc_rewrite.proofs.MadePayloads.{any_is, need_made}
 use Rattle.doc_rewrite.proofs.ToPlaces.{to_places}
-use Rattle.doc_rewrite.proofs.WithinBytes.{Bytes, Given, items_given}
+use Rattle.bson_tree.proofs.PartBytes.{Bytes}
+use Rattle.doc_rewrite.proofs.WithinBytes.{Given, items_given}
 
 pub as_stated : (keys : Lookup) (rows : List Row) (d : At) (blocks : List Block) → Bytes (items_bytes d.tree)
     → AreBlocks blocks

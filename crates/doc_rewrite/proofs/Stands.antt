@@ -1,5 +1,5 @@
 -- The marks of a command stand at its values, whatever takes their places.
-use Rattle.std.proofs.Common.{◌∙◌, ℕ, ◌+◌, List, [], ◌∷◌, length}
+use Rattle.std.proofs.Common.{◌≡◌, ◌∙◌, ℕ, ◌+◌, List, [], ◌∷◌, None, length, subst, sym}
 use Rattle.bson_tree.specs.Tree.{Tree, Items}
 use Rattle.bson_codec.specs.Borrowed.{At}
 use Rattle.bson_splice.specs.Spans.{AreFits}
@@ -7,13 +7,14 @@ use Rattle.bson_splice.specs.Splices.{Put}
 use Rattle.bson_splice.specs.Takes as takes
 use Rattle.encrypt_schema.specs.declared.command.marks.Mark.{Mark}
 use Rattle.encrypt_schema.specs.Language.Row.{Row}
-use Rattle.encrypt_schema.specs.Commands.Visits.{roles}
+use Rattle.encrypt_schema.specs.Commands.Visits.{content_verdict, roles}
 use Rattle.encrypt_schema.proofs.Commands.Plans as plans
 use Rattle.encrypt_schema.proofs.Commands.Plans.{own, raw, inside, done, next}
 use Rattle.encrypt_schema.proofs.Commands.Ruled as ruled
 use Rattle.encrypt_schema.proofs.Commands.Taken.{roles_taken}
 use Rattle.doc_rewrite.specs.Plans.{AreMarksOf, AreNamed, AreRuled}
 use Rattle.doc_rewrite.specs.Sites.{sites_of, spans_of}
+use Rattle.doc_rewrite.proofs.Names.{clean_named}
 
 module _ (rows : List Row) where
   -- what takes the places of these marks of a document
@@ -55,3 +56,13 @@ module _ (rows : List Row) where
     ruled = are_ruled (length rows) (roles rows d.start d.tree) (ruled.roles_ruled rows d.start d.tree);
     named = named;
   }
+
+-- so do the marks that were made of a command, which isn't refused for its contents
+pub marked_stand : (rules rows : List Row) (made : At) (marks : List Mark) (command : At) → made ≡ command
+    → rows ≡ rules → marks ≡ roles rules made.start made.tree → content_verdict rules made.start made.tree ≡ None
+    → AreMarksOf rows marks command
+marked_stand rules rows made marks command same ruled are accepted =
+    subst (λ (d : At). AreMarksOf rows marks d) same
+    (subst (λ (rs : List Row). AreMarksOf rs marks made) (sym ruled)
+    (subst (λ (ms : List Mark). AreMarksOf rules ms made) (sym are) (marks_stand rules made
+    (clean_named rules made accepted))))

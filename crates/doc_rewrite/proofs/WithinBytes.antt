@@ -5,30 +5,12 @@ use Rattle.std.proofs.lemmas.List.{take_at, drop_at}
 use Rattle.std.proofs.lemmas.List.Elements.{All-take, All-drop, All-tail}
 use Rattle.bson_tree.specs.Tree.{Tree, leaf, node, Items, no_items, item, tag_of}
 use Rattle.bson_tree.specs.Spelling.{framed, value_bytes, items_bytes}
+use Rattle.bson_tree.proofs.PartBytes.{Bytes, front_of, others_of, value_of}
 use Rattle.encrypt_schema.specs.Language.Row.{Row}
 use Rattle.encrypt_schema.specs.Commands.Pointers.{Targets, pointed}
 use Rattle.encrypt_schema.specs.Commands.Stations.{Station, station}
 use Rattle.encrypt_schema.specs.Commands.Visits.{entry}
 use Rattle.doc_rewrite.specs.SealedTrees.{Use, rule_of, SealedBy, SealedIn, AreSealed}
-
-abbrev pub Bytes : List ℕ → Type 0
-Bytes bs = All (λ b. b < 256) bs
-
-front_of : (xs ys : List ℕ) → Bytes (xs ++ ys) → Bytes xs
-front_of xs ys h = subst Bytes (take_at xs ys (length xs) refl) (All-take (λ b. b < 256) (length xs) (xs ++ ys) h)
-
-back_of : (xs ys : List ℕ) → Bytes (xs ++ ys) → Bytes ys
-back_of xs ys h = subst Bytes (drop_at xs ys (length xs) refl) (All-drop (λ b. b < 256) (length xs) (xs ++ ys) h)
-
-value_of : (name : List ℕ) (t : Tree) (is : Items) → Bytes (items_bytes (item name t is)) → Bytes (value_bytes t)
-value_of name t is h =
-    front_of (value_bytes t) (items_bytes is) (All-tail (λ b. b < 256) 0 _
-    (back_of name _ (All-tail (λ b. b < 256) (tag_of t) _ h)))
-
-others_of : (name : List ℕ) (t : Tree) (is : Items) → Bytes (items_bytes (item name t is)) → Bytes (items_bytes is)
-others_of name t is h =
-    back_of (value_bytes t) (items_bytes is) (All-tail (λ b. b < 256) 0 _
-    (back_of name _ (All-tail (λ b. b < 256) (tag_of t) _ h)))
 
 inside_of : (elements : List ℕ) → Bytes (framed elements) → Bytes elements
 inside_of elements h = front_of elements (0 ∷ []) (All-drop (λ b. b < 256) 4 (framed elements) h)

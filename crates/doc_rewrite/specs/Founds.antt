@@ -1,25 +1,17 @@
 -- MongoDB Client Side Encryption, decryption: the payloads of a document, and the document with them opened
-use Rattle.std.specs.Prelude.{ℕ, ◌+◌, ◌-◌, ◌==◌, Bool, false, ◌&&◌, ◌||◌, List, [], ◌∷◌, ◌++◌, length, drop, Option}
+use Rattle.std.specs.Prelude.{ℕ, ◌+◌, ◌-◌, Bool, false, List, [], ◌∷◌, ◌++◌, length, drop, Option}
 use Rattle.std.specs.Prelude.{Some, None, if◌then◌else◌}
 use Rattle.bson_tree.specs.Tree.{Tree, leaf, node, Items, no_items, item}
 use Rattle.bson_tree.specs.Spelling.{value_bytes}
 use Rattle.bson_tree.specs.Filled.{fill_items}
 use Rattle.bson_codec.specs.Borrowed.{At}
-use Rattle.encrypt_schema.specs.Commands.Visits.{is_payload}
+pub use Rattle.payload6.specs.Payload.{has_number}
+unfoldable pub use Rattle.payload6.specs.Payload.{is_sealed}
 
 -- BSON 1.1, binary: behind a length of four bytes and a subtype stand the contents
 abbrev pub contents_of : Tree → List ℕ
 contents_of (leaf tag bytes) = drop 5 bytes
 contents_of (node tag is) = []
-
--- BSON binary subtype 6: the first byte of a payload is the number of its algorithm, 1 or 2
-abbrev pub has_number : List ℕ → Bool
-has_number [] = false
-has_number (number ∷ bytes) = number == 1 || number == 2
-
--- a payload is a binary of subtype 06 whose contents begin so; any other value passes
-unfoldable pub is_sealed : ℕ → List ℕ → Bool
-is_sealed tag bytes = is_payload tag bytes && has_number (drop 5 bytes)
 
 -- a value is a payload
 abbrev pub opens_here : Tree → Bool

@@ -1,6 +1,7 @@
 -- MongoDB Client Side Encryption: data keys by their ids and by their alternate names
-use Rattle.std.specs.Prelude.{◌≡◌, ℕ, Option, Some, None, List, [], ◌∷◌, ◌++◌, length, bytes_eq, option_map}
-use Rattle.std.specs.Prelude.{if◌then◌else◌}
+use Rattle.std.specs.Prelude.{◌≡◌, ℕ, Option, Some, None, Result, Ok, Err, List, [], ◌∷◌, ◌++◌, length, bytes_eq}
+use Rattle.std.specs.Prelude.{option_map, if◌then◌else◌}
+use Rattle.encrypt_schema.specs.declared.command.reason.Reason.{Reason}
 use Rattle.payload6.specs.Needs.{Need, Id, Name}
 use Rattle.doc_rewrite.specs.declared.key_table.KeyEntry.{KeyEntry}
 use Rattle.doc_rewrite.specs.declared.named_keys.NamedEntry.{NamedEntry}
@@ -17,6 +18,15 @@ IdLookup = List ℕ → Option (List ℕ)
 -- to which data key an id or an alternate name leads
 abbrev pub Lookup : Type 0
 Lookup = Need → Option Found
+
+-- which data key an id has, or why none
+abbrev pub Keyring : Type 0
+Keyring = List ℕ → Result (List ℕ) Reason
+
+-- why an id has no key
+abbrev pub reason_in : Result (List ℕ) Reason → Option Reason
+reason_in (Ok key) = None
+reason_in (Err reason) = Some reason
 
 -- data keys in the order in which they were added: those by an id, and those by an alternate name
 pub record Table : Type 0 where

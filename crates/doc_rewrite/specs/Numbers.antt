@@ -1,8 +1,7 @@
 -- Where entries stand in a list of data keys, by their ids and by their alternate names
-use Rattle.std.specs.Prelude.{ℕ, ◌+◌, Bool, List, [], ◌∷◌, Option, Some, None, Vec, bytes_eq, if◌then◌else◌}
+use Rattle.std.specs.Prelude.{ℕ, ◌+◌, List, [], ◌∷◌, Option, Some, None, bytes_eq, if◌then◌else◌}
 use Rattle.std.specs.BTreeMap.{BTreeMap, get_by}
 use Rattle.std.specs.Cmp.Lexicographic.{slice_cmp}
-use Rattle.std.specs.Global.{Global}
 use Rattle.std.specs.Ordering.{nat_cmp}
 use Rattle.doc_rewrite.specs.declared.key_table.KeyEntry.{KeyEntry}
 use Rattle.doc_rewrite.specs.declared.named_keys.NamedEntry.{NamedEntry}
@@ -16,16 +15,7 @@ abbrev pub place_from : ℕ → List ℕ → List KeyEntry → Option ℕ
 place_from n id [] = None
 place_from n id (e ∷ es) = if bytes_eq e.id id then Some n else place_from (n + 1) id es
 
--- the number that a map has for an alternate name
-abbrev pub number_of_name : BTreeMap (Vec ℕ Global) ℕ → List ℕ → Option ℕ
-number_of_name numbers name = get_by (λ k. slice_cmp nat_cmp name k.items) numbers
-
 -- the number of the first entry with an alternate name, among entries that are counted from n on
 abbrev pub named_place : ℕ → List ℕ → List NamedEntry → Option ℕ
 named_place n name [] = None
 named_place n name (e ∷ es) = if bytes_eq e.name name then Some n else named_place (n + 1) name es
-
--- the number found, or else this one where a test holds
-abbrev pub or_new : Option ℕ → Bool → ℕ → Option ℕ
-or_new (Some n) test number = Some n
-or_new None test number = if test then Some number else None

@@ -10,15 +10,7 @@ use Rattle.payload6.specs.Needs.{Need}
 use Rattle.payload6.specs.Verdicts.{id_in, value_in, wrong}
 use Rattle.doc_rewrite.specs.Founds.{Place, payloads_of, opened_items}
 use Rattle.doc_rewrite.specs.Keys.{Found, IdLookup, Lookup}
-
--- which data key an id has, or why none
-abbrev pub Keyring : Type 0
-Keyring = List ℕ → Result (List ℕ) Reason
-
--- why an id has no key
-abbrev pub reason_in : Result (List ℕ) Reason → Option Reason
-reason_in (Ok key) = None
-reason_in (Err reason) = Some reason
+pub use Rattle.doc_rewrite.specs.Keys.{Keyring, reason_in}
 
 -- the key of an id; no bytes where it has none
 abbrev pub key_or_none : Result (List ℕ) Reason → List ℕ

@@ -10,6 +10,7 @@ use Rattle.encrypt_schema.specs.Commands.Visits.{text_in}
 use Rattle.encrypt_schema.specs.Language.Policies.{policy_at}
 use Rattle.encrypt_schema.specs.Language.Row.{Row}
 use Rattle.fle_outside.specs.Blocks.{AreBlocks, Block}
+use Rattle.fle_outside.specs.Limits.{output_limit}
 use Rattle.doc_rewrite.specs.Keys.{GivesLongIds, IsLong, Lookup}
 use Rattle.doc_rewrite.specs.Sealed.{sealed}
 use Rattle.doc_rewrite.specs.Sites.{Site, sites_of, spans_of}
@@ -21,7 +22,7 @@ pub record Planned : Type 0 where
 
 -- the most bytes of a sealed document
 abbrev pub longest_sealed : ℕ
-longest_sealed = 48000000
+longest_sealed = output_limit
 
 -- marks of rules that are there
 abbrev pub AreRuled : ℕ → List Mark → Type 0

@@ -6,8 +6,7 @@ use Rattle.bson_codec.specs.Borrowed.{At}
 use Rattle.bson_splice.specs.Splices.{Put}
 use Rattle.fle_outside.specs.Blocks.{Block}
 use Rattle.fle_outside.specs.Counts.{Rose}
-use Rattle.fle_outside.specs.Drawing.{Draws}
-use Rattle.fle_outside.specs.Seen.{EntropySeen}
+use Rattle.fle_outside.specs.Seen.{Draws, EntropySeen}
 use Rattle.doc_rewrite.specs.Keys.{Lookup}
 use Rattle.doc_rewrite.specs.Sealed.{first_block, put_of, sealed}
 use Rattle.doc_rewrite.specs.Sites.{Site, draw, draws_of, sealed_width}

@@ -2,6 +2,7 @@
 use Rattle.std.specs.Prelude.{ℕ, ◌+◌, ◌*◌, ◌/◌, ◌-◌, List, [], ◌∷◌, length, map, unwrap_or}
 use Rattle.bson_codec.specs.Borrowed.{At}
 use Rattle.bson_tree.specs.Spelling.{value_bytes}
+use Rattle.bson_tree.specs.Tree.{Items}
 use Rattle.bson_splice.specs.Spans.{Span}
 use Rattle.encrypt_schema.specs.declared.command.marks.Mark.{Mark}
 use Rattle.encrypt_schema.specs.declared.schema.policy.Algorithm.{Algorithm}
@@ -10,6 +11,10 @@ use Rattle.encrypt_schema.specs.Language.Policies.{policy_at}
 use Rattle.encrypt_schema.specs.Language.Row.{Row}
 use Rattle.payload6.specs.Needs.{Need, Name, need_of, need_seen}
 use Rattle.doc_rewrite.specs.declared.site.Site.{Site as HeldSite}
+
+-- a document by itself, whose offsets are from 0
+abbrev pub at_front : Items → At
+at_front c = record { start = 0; tree = c }
 
 -- a value that is to be sealed: where it begins, where it ends, how it is sealed, and what names its key
 pub record Site : Type 0 where

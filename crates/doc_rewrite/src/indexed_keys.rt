@@ -4,7 +4,8 @@
 ghost use Rattle.std.specs.Prelude.{◌≡◌, ◌++◌, ◌∷◌, ℕ, List, [], bytes_eq, option_copied, option_map, slice_get};
 ghost use Rattle.std.specs.Prelude.{MatchResult};
 ghost use Rattle.doc_rewrite.specs.Keys.{key_by_id};
-ghost use Rattle.doc_rewrite.specs.Numbers.{number_of_id, or_new};
+ghost use Rattle.bson_tree.specs.NameNumbers.{or_number};
+ghost use Rattle.doc_rewrite.specs.Numbers.{number_of_id};
 
 use crate::key_table::KeyEntry;
 use fle_aead::DataKey;
@@ -90,7 +91,7 @@ fn put_first(
 ) -> Result<(), Memory>
     ensures put { MatchResult result
         (λ _. (other : List ℕ) → number_of_id numbers.new other
-        ≡ or_new (number_of_id numbers.old other) (bytes_eq id other) number)
+        ≡ or_number (number_of_id numbers.old other) (bytes_eq id other) number)
         (λ _. (other : List ℕ) → number_of_id numbers.new other ≡ number_of_id numbers.old other) }
 {
     if number_of(numbers, &id).is_some() {

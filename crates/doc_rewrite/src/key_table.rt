@@ -9,14 +9,12 @@ ghost use Rattle.doc_rewrite.specs.Sealed.{any_key};
 use crate::indexed_keys::IndexedKeys;
 use crate::named_keys::NamedKeys;
 use bson_tree::Bytes;
+use encrypt_schema::FEW;
 use fle_aead::{DataKey, SharedKey};
 use fle_outside::Memory;
 use payload6::Need;
 use std::alloc::Global;
 use std::marker::Model;
-
-/// So many keys are looked through, one after another; those behind them are found by an index.
-const FEW: usize = 8;
 
 /// A data key with its id.
 #[derive(Drop)]
@@ -33,20 +31,21 @@ pub struct KeyEntry {
 pub struct KeyTable {
     alloc: Global,
     few: Vec<KeyEntry>,
-    /// Those behind the first `FEW`.
+    /// Those behind the first `FEW`, which are found by an index.
     others: IndexedKeys,
     named: NamedKeys,
 }
 
 impl Model for KeyTable {
     ghost use Rattle.std.specs.Prelude.{◌≡◌, ◌<◌, ◌++◌, [], length};
+    ghost use Rattle.encrypt_schema.specs.Views.Few as limits;
     ghost use Rattle.doc_rewrite.specs.Keys.{Table};
 
     ghost Value = { Table };
 
     ghost view = { λ t. record { ids = t.few.items ++ t.others; names = t.named } };
 
-    ghost invariant = { λ t. length t.few.items < 8 → t.others ≡ [] };
+    ghost invariant = { λ t. length t.few.items < limits.few → t.others ≡ [] };
 }
 
 impl KeyTable {

@@ -4,7 +4,7 @@
 ghost use Rattle.std.specs.Prelude.{◌≡◌, ◌++◌, ◌∷◌, ℕ, List, [], bytes_eq, option_copied, option_map, slice_get};
 ghost use Rattle.std.specs.Prelude.{MatchResult};
 ghost use Rattle.doc_rewrite.specs.Keys.{HaveLongIds, found_by, key_by_name};
-ghost use Rattle.doc_rewrite.specs.Numbers.{number_of_name, or_new};
+ghost use Rattle.bson_tree.specs.NameNumbers.{number_of_name, or_number};
 
 use bson_tree::Bytes;
 use fle_aead::SharedKey;
@@ -37,7 +37,8 @@ impl Model for NamedKeys {
     ghost use Rattle.std.specs.Prelude.{◌≡◌, ℕ, List};
     ghost use Rattle.doc_rewrite.specs.declared.named_keys.NamedEntry.{NamedEntry};
     ghost use Rattle.doc_rewrite.specs.Keys.{HaveLongIds};
-    ghost use Rattle.doc_rewrite.specs.Numbers.{number_of_name, named_place};
+    ghost use Rattle.bson_tree.specs.NameNumbers.{number_of_name};
+    ghost use Rattle.doc_rewrite.specs.Numbers.{named_place};
 
     ghost Value = { List NamedEntry };
 
@@ -116,13 +117,14 @@ fn put_first(
 ) -> Result<(), Memory>
     ensures put { MatchResult result
         (λ _. (other : List ℕ) → number_of_name numbers.new other
-        ≡ or_new (number_of_name numbers.old other) (bytes_eq name.items other) number)
+        ≡ or_number (number_of_name numbers.old other) (bytes_eq name.items other) number)
         (λ _. (other : List ℕ) → number_of_name numbers.new other ≡ number_of_name numbers.old other) }
 {
     if number_of(numbers, &name).is_some() {
         return Ok(());
     }
     match numbers.insert(name, number) {
+        // No number stood there, since the name had none.
         Ok(_) => {
             return Ok(());
         }

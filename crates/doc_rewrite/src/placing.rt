@@ -5,7 +5,6 @@ ghost use Rattle.bson_tree.specs.Spelling.{items_bytes, value_bytes};
 ghost use Rattle.bson_tree.specs.Tree.{item as element, no_items};
 ghost use Rattle.fle_outside.specs.Blocks.{Block};
 ghost use Rattle.payload6.specs.Marking.{binary};
-ghost use Rattle.payload6.specs.Payload.{algorithm_number};
 ghost use Rattle.doc_rewrite.specs.Payloads.{payload_under, vector_under};
 ghost use Rattle.doc_rewrite.specs.Sites.{sealed_width};
 
@@ -14,22 +13,11 @@ use bson_codec::RawItem;
 use bson_splice::writing::{put, put_name};
 use bson_tree::types;
 use crypto_hooks::Block256;
-use encrypt_schema::Algorithm;
 use fle_aead::DataKey;
-use payload6::{DETERMINISTIC, RANDOM, payload_len, seal_payload_into};
+use payload6::{kind_of, payload_len, seal_payload_into};
 
 /// The subtype of a binary that holds a payload.
 const PAYLOAD: u8 = 6;
-
-/// The number of an algorithm.
-fn kind_of(algorithm: Algorithm) -> u8
-    ensures { result ≡ algorithm_number algorithm }
-{
-    match algorithm {
-        Algorithm::Deterministic => DETERMINISTIC,
-        Algorithm::Random => RANDOM,
-    }
-}
 
 /// Puts the payload of a value at offset `at`.
 fn put_payload<B: Block256>(

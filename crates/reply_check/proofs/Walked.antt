@@ -1,9 +1,9 @@
 -- What is asked of the value in the place of an element's, by the next mark.
 use Rattle.std.proofs.Common.{◌≡◌, ◌∙◌, ℕ, ◌+◌, ◌<◌, ◌≤◌, Bool, true, false}
 use Rattle.std.proofs.Common.{◌&&◌, List, [], ◌∷◌, length, Option, Some, ◌-◌}
-use Rattle.std.proofs.Common.{None, refl, sym, ap, ap₂, subst}
-use Rattle.std.proofs.lemmas.Bool.{eq-eqb, ne_eqb, lt-ltb, le-ltb}
-use Rattle.std.specs.Prelude.{◌==◌, nat_lt, bytes_eq}
+use Rattle.std.proofs.Common.{None, MatchOption, option_map, refl, sym, ap, ap₂, subst}
+use Rattle.std.proofs.lemmas.Bool.{eq-eqb, ne_eqb}
+use Rattle.std.specs.Prelude.{◌==◌, bytes_eq}
 use Rattle.bson_codec.specs.Borrowed.{At, Elem, value_tree}
 use Rattle.bson_codec.specs.Elements.{TakesElement}
 use Rattle.bson_codec.specs.Layout.{IsDoc, IsItems, IsValue, level_limit}
@@ -13,7 +13,10 @@ use Rattle.bson_tree.specs.Tree.{Tree, leaf, node, Items, tag_of}
 use Rattle.bson_tree.specs.Spelling.{framed, value_bytes, items_bytes, doc_bytes}
 use Rattle.encrypt_schema.specs.declared.command.marks.Mark.{Mark}
 use Rattle.encrypt_schema.specs.Language.Names.{named}
-use Rattle.command_marker.specs.Splices.{left_in, left}
+use Rattle.bson_splice.specs.declared.step.Step.TheVariants as steps
+use Rattle.bson_splice.specs.Steps.{StepsBy}
+use Rattle.bson_splice.proofs.Steps.{Shut, aside_item, first_is, inside_item, own_item}
+use Rattle.command_marker.specs.Splices.{begins, is_before, left_in, left}
 use Rattle.reply_check.specs.Matches.{matches, matches_in, matches_inside}
 use Rattle.reply_check.specs.Same.{is_same, is_same_tree}
 use Rattle.reply_check.specs.Steps.{Walks}
@@ -21,55 +24,58 @@ use Rattle.reply_check.proofs.Trees.{all, both, items_are, one_test, same_items,
 use Rattle.std.proofs.lemmas.Slice.Eq.{bytes_eq-Decides}
 use Rattle.std.proofs.lemmas.Bool.Decides.{Decides-eqb}
 
-module _ (test : Mark → Tree → Tree → Bool) (at : ℕ) where
-  -- a value is kept
-  abbrev pub Keeps : Tree → List Mark → Type 0
-  Keeps t ms = ((u : Tree) → matches_in test at ms t u ≡ is_same_tree u t) × (left_in at ms t ≡ ms)
+-- a value is kept
+abbrev pub Keeps : (Mark → Tree → Tree → Bool) → ℕ → Tree → List Mark → Type 0
+Keeps test at t ms = ((u : Tree) → matches_in test at ms t u ≡ is_same_tree u t) × (left_in at ms t ≡ ms)
 
-  -- no mark is left
-  pub keeps_last : (t : Tree) (ms : List Mark) → ms ≡ [] → Keeps t ms
-  keeps_last (leaf tag bytes) ms e = rw e (λ u. refl, refl)
-  keeps_last (node tag is) ms e = rw e (λ u. refl, refl)
+-- what is asked by the tests of the next mark
+module _ (test : Mark → Tree → Tree → Bool) (at : ℕ) (ms : List Mark) where
+  keeps : (t : Tree) → begins at ms ≡ false → Shut (λ (m : Mark). m.start) at t ms → Keeps test at t ms
+  keeps (leaf tag bytes) off shut = rw off (λ u. refl, refl)
+  keeps (node tag is) off shut = rw (off, shut) (λ u. refl, refl)
 
-  -- the next mark is the value's own
-  pub tests : (t : Tree) (m : Mark) (ms rest : List Mark) → ms ≡ m ∷ rest → m.start ≡ at
+  tests : (t : Tree) (m : Mark) (rest : List Mark) → ms ≡ m ∷ rest → begins at ms ≡ true
       → ((u : Tree) → matches_in test at ms t u ≡ test m t u) × (left_in at ms t ≡ rest)
-  tests (leaf tag bytes) m ms rest e s =
-      let on : (m.start == at) ≡ true = eq-eqb m.start at s in rw (e, on) (λ u. refl, refl)
-  tests (node tag is) m ms rest e s =
-      let on : (m.start == at) ≡ true = eq-eqb m.start at s in rw (e, on) (λ u. refl, refl)
+  tests (leaf tag bytes) m rest e on =
+      let own : begins at (m ∷ rest) ≡ true = subst (λ (ns : List Mark). begins at ns ≡ true) e on in
+      rw (e, own) (λ u. refl, refl)
+  tests (node tag is) m rest e on =
+      let own : begins at (m ∷ rest) ≡ true = subst (λ (ns : List Mark). begins at ns ≡ true) e on in
+      rw (e, own) (λ u. refl, refl)
 
-  -- no other mark is of a raw value
-  pub keeps_raw : (t : Tree) (tag : ℕ) (bytes : List ℕ) (m : Mark) (ms rest : List Mark) → t ≡ leaf tag bytes
-      → ms ≡ m ∷ rest → (m.start ≡ at → ⊥) → Keeps t ms
-  keeps_raw t tag bytes m ms rest is e s = let off : (m.start == at) ≡ false =
-      ne_eqb m.start at s in rw (is, e, off) (λ u. refl, refl)
-
-  -- the next mark stands behind the value
-  pub keeps_before : (t : Tree) (tag : ℕ) (kids : Items) (m : Mark) (ms rest : List Mark) → t ≡ node tag kids
-      → ms ≡ m ∷ rest → (m.start ≡ at → ⊥)
-      → at + length (value_bytes t) ≤ m.start → Keeps t ms
-  keeps_before t tag kids m ms rest is e s h =
-      let off : (m.start == at) ≡ false = ne_eqb m.start at s in
-      let low : at + length (framed (items_bytes kids)) ≤ m.start =
-      subst (λ (u : Tree). at + length (value_bytes u) ≤ m.start) is h in
-      let shut : nat_lt m.start (at + length (framed (items_bytes kids))) ≡ false =
-      le-ltb m.start (at + length (framed (items_bytes kids))) low in
-      rw (is, e, off, shut) (λ u. refl, refl)
-
-  -- the next mark stands inside the value
-  pub opens : (t : Tree) (tag : ℕ) (kids : Items) (m : Mark) (ms rest : List Mark) → t ≡ node tag kids → ms ≡ m ∷ rest
-      → (m.start ≡ at → ⊥)
-      → m.start < at + length (value_bytes t)
+  opens : (t : Tree) (tag : ℕ) (kids : Items) → t ≡ node tag kids → begins at ms ≡ false
+      → is_before (at + length (framed (items_bytes kids))) ms ≡ true
       → ((u : Tree) → matches_in test at ms t u ≡ matches_inside test (at + 4) ms tag kids u)
       × (left_in at ms t ≡ left (at + 4) ms kids)
-  opens t tag kids m ms rest is e s h =
-      let off : (m.start == at) ≡ false = ne_eqb m.start at s in
-      let low : m.start < at + length (framed (items_bytes kids)) =
-      subst (λ (u : Tree). m.start < at + length (value_bytes u)) is h in
-      let on : nat_lt m.start (at + length (framed (items_bytes kids))) ≡ true =
-      lt-ltb m.start (at + length (framed (items_bytes kids))) low in
-      rw (is, e, off, on) (λ u. refl, refl)
+  opens t tag kids is off on = rw (is, off, on) (λ u. refl, refl)
+
+-- what is asked in the place of an element, whose next mark is known
+module _ (test : Mark → Tree → Tree → Bool) (o : Option Mark) (e : Elem) (ms rest : List Mark)
+    (first : MatchOption o (ms ≡ []) (λ m. ms ≡ m ∷ rest)) where
+  -- it is the same
+  pub item_keeps : StepsBy (option_map (λ (m : Mark). m.start) o) e steps.Keep → Keeps test e.start e.tree ms
+  item_keeps told =
+      let a = aside_item (λ (m : Mark). m.start) o e ms rest first told in keeps test e.start ms e.tree a.0 a.1
+
+  -- it passes the test of the mark
+  pub item_tests : (m : Mark) → o ≡ Some m → StepsBy (option_map (λ (m : Mark). m.start) o) e steps.Put
+      → ((u : Tree) → matches_in test e.start ms e.tree u ≡ test m e.tree u) × (left_in e.start ms e.tree ≡ rest)
+  item_tests m is told =
+      tests test e.start ms e.tree m rest (first_is (λ (m : Mark). m.start) o e ms rest first m is)
+      (own_item (λ (m : Mark). m.start) o e ms rest first told)
+
+  -- it matches in the marks inside
+  pub item_opens : (document : At) → StepsBy (option_map (λ (m : Mark). m.start) o) e (steps.Open document)
+      → ((u : Tree) → matches_in test e.start ms e.tree u
+      ≡ matches_inside test (document.start + 4) ms (tag_of e.tree) document.tree u)
+      × (left_in e.start ms e.tree ≡ left (document.start + 4) ms document.tree)
+  item_opens document told =
+      let i = inside_item (λ (m : Mark). m.start) o e ms rest first document told in
+      let opened = opens test e.start ms e.tree (tag_of e.tree) document.tree told.0 i.0 i.1 in (
+        λ u. opened.0 u
+            ∙ ap (λ (n : ℕ). matches_inside test (n + 4) ms (tag_of e.tree) document.tree u) told.1,
+        opened.1 ∙ ap (λ (n : ℕ). left (n + 4) ms document.tree) told.1,
+      )
 
 -- what stands in the place of a document or an array in which the next mark stands: one of its type, one of another
 -- type, and a raw value

@@ -18,7 +18,7 @@ returns c =
     ≡ length (value_bytes c.args.item.now.tree) + growth need =
     omega (arith, value, c.growth_of.ensures.growth) in
     let put : c.put_marking.new.out.items ≡ c.args.out.now.items ++ items_bytes (item c.args.item.now.name
-    (marked_value c.policy_of.result.now.algorithm need c.args.item.now.tree) no_items) =
+    (marked_value c.policy_at.result.now.algorithm need c.args.item.now.tree) no_items) =
     put_parts _ need c.args.item.now.tree _ _ _ _ _ _ _ size
     (c.in_ok-put_name.ensures.named ∙ ap (λ (name : List ℕ). c.args.out.now.items ++ (5 ∷ (name ++ 0 ∷ [])))
     c.name.ensures.name)
@@ -30,5 +30,5 @@ returns c =
       element = put
           ∙ ap₂ (λ (algorithm : Algorithm) (n : Need). c.args.out.now.items ++ items_bytes (item c.args.item.now.name
           (marked_value algorithm n c.args.item.now.tree) no_items))
-          (ap (λ (policy : Policy). policy.algorithm) c.policy_of.ensures.policy) c.key_of-need.ensures.need;
+          (ap (λ (policy : Policy). policy.algorithm) c.policy_at.ensures.policy) c.key_of-need.ensures.need;
     }

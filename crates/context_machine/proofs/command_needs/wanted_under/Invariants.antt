@@ -1,6 +1,7 @@
 use Rattle.std.proofs.Common.{◌≡◌, [], drop, length, map}
 use Rattle.doc_rewrite.specs.Plans.{AreRuled}
 use Rattle.doc_rewrite.specs.Sites.{sites_of}
+use Rattle.context_machine.specs.NameSpans.{AreNeeded}
 use Rattle.context_machine.specs.Needs.{first_needs, needs_seen, with_new}
 use Rattle.context_machine.specs.Rings.{need_at}
 use Rattle.context_machine.specs.Slots.{AreManySlots}
@@ -12,4 +13,5 @@ invariant-loop-i l = record {
       ≡ first_needs (map need_at (sites_of l.rows l.command l.marks));
   ruled : AreRuled (length l.rows) (drop l.i l.marks);
   slots : AreManySlots (needs_seen l.needs.items) [] l.slots;
+  names : AreNeeded l.command (needs_seen l.needs.items) l.names;
 }

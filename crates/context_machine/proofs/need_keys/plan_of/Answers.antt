@@ -1,14 +1,16 @@
 -- A marked command is sealed at its marks; without an info nothing is sealed.
 use Rattle.std.proofs.Common.{ap}
 use Rattle.command_marker.specs.Commands.{Command}
-use Rattle.context_machine.proofs.Readies.{clear_plan, marked_stand}
+use Rattle.context_machine.proofs.Readies.{clear_plan}
+use Rattle.doc_rewrite.proofs.Stands.{marked_stand}
 use Rattle.context_machine.proofs.need_keys.plan_of.Goals as goal
 
 pub plan_seal-requires : goal.plan_seal-requires
 plan_seal-requires c =
     let is = rw c.in-Some.is at c.requires.marked in
     record {
-      stands = marked_stand c.in-Some.marked c.rows.result.now c.marks.result.now c.args.command.now
+      stands = marked_stand c.in-Some.marked.rows c.rows.result.now c.in-Some.marked.command c.marks.result.now
+          c.args.command.now
           (ap (λ (m : Command). m.command) is) c.rows.ensures.rows c.marks.ensures.marks c.marks.ensures.accepted;
     }
 

@@ -1,6 +1,6 @@
 use Rattle.std.proofs.Common.{◌≡◌, false, rules}
 use Rattle.std.specs.Prelude.{is_some}
-use Rattle.doc_rewrite.specs.Numbers.{number_of_name}
+use Rattle.bson_tree.specs.NameNumbers.{number_of_name}
 use Rattle.doc_rewrite.proofs.Entries.{first_put}
 use Rattle.doc_rewrite.proofs.named_keys.put_first.Goals as goal
 

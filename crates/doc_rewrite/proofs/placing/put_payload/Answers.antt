@@ -11,7 +11,7 @@ pub returns-clause-payload : goal.returns-clause-payload
 returns-clause-payload g c = λ block e.
     let s = c.args.label.now in
     let t = c.args.item.now.tree in
-    let sealed = rw (c.kind_of.ensures, c.tag.ensures.tag, c.value-2.ensures.spelling) at
+    let sealed = rw (c.kind_of.ensures.number, c.tag.ensures.tag, c.value-2.ensures.spelling) at
     c.seal_payload_into.ensures.sealed in
     let is = payload_is s.algorithm s.key_id c.args.key.now (tag_of t) c.args.iv
     (value_bytes t) c.seal_payload_into.new.out block sealed e in
