@@ -1,31 +1,20 @@
 -- The demo's documents have spellings.
-use Rattle.std.proofs.Common.{◌≡◌, ◌^◌, ℕ, zero, suc, ◌<◌, ◌≤◌, Bool, true, false, List, [], ◌∷◌, length, refl}
+use Rattle.std.proofs.Common.{◌≡◌, ◌^◌, ℕ, ◌<◌, ◌≤◌, List, [], ◌∷◌, length, refl}
 use Rattle.std.proofs.Common.{arith, subst, sym}
 use Rattle.std.specs.Prelude.{codes}
-use Rattle.std.proofs.lemmas.Bool.{false≢true}
 use Rattle.aes_block.specs.Steps.{cell, state}
 use Rattle.aes_block.proofs.Entries.{sixteen}
 use Rattle.bson_tree.specs.Tree.{Items, node}
 use Rattle.bson_tree.specs.Spelling.{doc_bytes}
 use Rattle.bson_codec.specs.Layout.{IsName, IsValue, AreElements, IsItems, IsDoc}
 use Rattle.bson_codec.specs.Table.{layout_of}
+use Rattle.bson_codec.proofs.PlainNames.{named}
 use Rattle.data_key.specs.Written.{binary, int, text}
 use Rattle.fle_demo.specs.Commands.{command, deterministic, info, key_ids, person, random}
 use Rattle.fle_demo.specs.Commands.{schema}
 use Rattle.fle_demo.specs.Commands.{salary_of, single, ssn_of, ssn_text}
 use Rattle.fle_demo.specs.Generator.{after_two, next_output}
 use Rattle.fle_demo.proofs.Bytes.{command_size}
-
--- names that are written out
-abbrev is_name : List ℕ → Bool
-is_name [] = true
-is_name (zero ∷ bs) = false
-is_name (suc b ∷ bs) = is_name bs
-
-named : (bs : List ℕ) → is_name bs ≡ true → IsName bs
-named [] h = tt
-named (zero ∷ bs) h = absurd (false≢true h)
-named (suc b ∷ bs) h = (omega arith, named bs h)
 
 text_laid : (D : Items → Type 0) (t : List ℕ) → length t ≤ 1000 → IsValue D (text t)
 unfolding layout_of

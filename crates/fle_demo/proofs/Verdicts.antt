@@ -7,6 +7,7 @@ use Rattle.aes_block.specs.Steps.{cell, state}
 use Rattle.aes_block.proofs.Entries.{sixteen}
 use Rattle.bson_tree.specs.Tree.{Items, leaf}
 use Rattle.bson_codec.specs.Layout.{string_bytes}
+use Rattle.bson_codec.specs.Standings.{standing}
 use Rattle.encrypt_schema.specs.Language.Row.{Row}
 use Rattle.encrypt_schema.specs.Language.Names.{named}
 use Rattle.encrypt_schema.specs.Language.Policies.{policy_at}
@@ -30,7 +31,6 @@ use Rattle.encrypt_schema.specs.Language.Rules.{is_placed}
 use Rattle.encrypt_schema.specs.Language.Rules.{key_inside, row_of, setting_of, stated, types_of, types_stated}
 use Rattle.encrypt_schema.specs.Language.Schemas.{schema_rows}
 use Rattle.encrypt_schema.specs.Language.Shapes.{fits, is_setting}
-use Rattle.encrypt_schema.specs.Language.Standings.{standing}
 use Rattle.encrypt_schema.specs.Language.TypeNames.{type_byte}
 use Rattle.encrypt_schema.specs.Language.Values.{find}
 use Rattle.context_machine.specs.Ready.{values_of}

@@ -4,8 +4,7 @@ use Rattle.bson_tree.specs.Places.{place_of}
 use Rattle.bson_tree.specs.Tree.{Items}
 use Rattle.doc_rewrite.specs.Sealing.{FellShort}
 use Rattle.fle_outside.specs.Blocks.{Block}
-use Rattle.fle_outside.specs.Drawing.{Draws}
-use Rattle.fle_outside.specs.Seen.{EntropySeen}
+use Rattle.fle_outside.specs.Seen.{Draws, EntropySeen}
 use Rattle.fle_engine.specs.Rulings.{Ruling, makes, refused, too_long}
 use Rattle.fle_engine.specs.declared.answer.Answer.{Answer}
 use Rattle.fle_engine.specs.declared.answer.Answer.TheVariants as answers

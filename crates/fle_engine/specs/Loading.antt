@@ -4,7 +4,7 @@ use Rattle.data_key.specs.declared.key_doc.KeyDoc.{KeyDoc}
 use Rattle.encrypt_schema.specs.Language.Collection.{Collection}
 use Rattle.fle_files.specs.Infos.{infos_read}
 use Rattle.fle_files.specs.Numbers.{master_number, vault_number}
-use Rattle.fle_files.specs.Setup.{infos_limit, master_limit, vault_limit}
+use Rattle.fle_files.specs.Limits.{file_limit, master_limit}
 use Rattle.fle_files.specs.declared.infos.InfosFault.{InfosFault}
 use Rattle.fle_files.specs.declared.infos.InfosFault.TheVariants as infos_faults
 use Rattle.fle_stream.specs.declared.why.SetupFault.TheVariants as setups
@@ -22,7 +22,7 @@ keys_or (Err faulty) = Err (faults.File 1 (setups.Contents (vault_number faulty.
 -- the keys in these bytes: at most 67,108,864
 abbrev pub keys_in : List ℕ → Result (List KeyDoc) EngineFault
 keys_in bytes =
-    if nat_lt vault_limit (length bytes) then Err (faults.File 1 setups.TooLong 0) else keys_or (vault bytes)
+    if nat_lt file_limit (length bytes) then Err (faults.File 1 setups.TooLong 0) else keys_or (vault bytes)
 
 -- the infos of a file, or its first fault; no file comes to want of memory
 abbrev pub infos_or : Result (List Collection) InfosFault → Result (List Collection) EngineFault
@@ -33,7 +33,7 @@ infos_or (Err infos_faults.Memory) = Err faults.Memory
 -- the infos in these bytes, of BSON or of a JSON text: at most 67,108,864
 abbrev pub infos_in : List ℕ → Result (List Collection) EngineFault
 infos_in bytes =
-    if nat_lt infos_limit (length bytes) then Err (faults.File 2 setups.TooLong 0) else infos_or (infos_read bytes)
+    if nat_lt file_limit (length bytes) then Err (faults.File 2 setups.TooLong 0) else infos_or (infos_read bytes)
 
 -- the master key, or its fault
 abbrev pub master_or : Result (List ℕ) MasterFault → Result (List ℕ) EngineFault

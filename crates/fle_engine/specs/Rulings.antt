@@ -1,8 +1,7 @@
 -- What a command or a document comes to: an output, a refusal, or an output above the limit.
 use Rattle.std.specs.Prelude.{◌≡◌, ℕ, nat_lt, Option, Some, None, List, length, if◌then◌else◌}
-use Rattle.bson_codec.specs.Borrowed.{At}
+pub use Rattle.doc_rewrite.specs.Sites.{at_front}
 use Rattle.bson_tree.specs.Tree.{Items}
-use Rattle.command_marker.specs.Reply.{reply_limit}
 use Rattle.context_machine.specs.Beginning.{first_value}
 use Rattle.context_machine.specs.declared.opened_keys.KeysStop.{KeysStop}
 use Rattle.context_machine.specs.declared.opened_keys.KeysStop.TheVariants as stops
@@ -15,6 +14,7 @@ use Rattle.encrypt_schema.specs.declared.command.marks.MarkFault.{MarkFault}
 use Rattle.encrypt_schema.specs.declared.command.marks.MarkFault.TheVariants as faults
 use Rattle.encrypt_schema.specs.declared.command.reason.Reason.TheVariants as reasons
 use Rattle.fle_outside.specs.Blocks.{Block}
+use Rattle.fle_outside.specs.Limits.{output_limit}
 use Rattle.fle_stream.specs.Plan.{Plan}
 
 -- what one document comes to: an output, whose bytes are a function of the random blocks that it draws; a refusal, with
@@ -24,17 +24,13 @@ pub data Ruling : Type 0 where
   refused : Refusal → Ruling
   too_long : Ruling
 
--- a document by itself, whose offsets are from 0
-abbrev pub at_front : Items → At
-at_front c = record { start = 0; tree = c }
-
 -- an output that draws no blocks
 abbrev pub plain_plan : List ℕ → Plan
 plain_plan bytes = record { draws = 0; size = length bytes; bytes = λ (_ : List Block). bytes }
 
 -- an output of at most 48,000,000 bytes is made
 abbrev pub sized_plan : Plan → Ruling
-sized_plan plan = if nat_lt reply_limit plan.size then too_long else makes plan
+sized_plan plan = if nat_lt output_limit plan.size then too_long else makes plan
 
 -- a refusal, or what comes else
 abbrev pub by_refusal : Option Refusal → Ruling → Ruling

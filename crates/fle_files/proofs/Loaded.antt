@@ -19,8 +19,9 @@ use Rattle.fle_stream.specs.declared.why.Why.TheVariants as whys
 use Rattle.fle_stream.proofs.Acts.{IsEarly, acts_early}
 use Rattle.fle_stream.proofs.Programs.{did_task, did_fail, did_folder, did_memory, ends_task}
 use Rattle.fle_files.specs.Infos.{ReadsAs, infos_read}
-use Rattle.fle_files.specs.Setup.{Leads, infos_limit, infos_or, infos_why, master_limit, master_or, master_why}
-use Rattle.fle_files.specs.Setup.{vault_limit, vault_or, vault_why, with_infos, with_keys, with_master, with_vault}
+use Rattle.fle_files.specs.Limits.{file_limit, master_limit}
+use Rattle.fle_files.specs.Setup.{Leads, infos_or, infos_why, master_or, master_why}
+use Rattle.fle_files.specs.Setup.{vault_or, vault_why, with_infos, with_keys, with_master, with_vault}
 use Rattle.fle_files.specs.declared.infos.InfosFault.{InfosFault}
 use Rattle.fle_files.specs.declared.infos.InfosFault.TheVariants as infos_faults
 
@@ -41,14 +42,14 @@ IsLoaded number limit file bytes = (next : List ℕ → Task) → with_file numb
 
 -- its contents are at fault, or there was no memory for them
 pub infos_fail : (number : ℕ) (file : Option (List ℕ)) (bytes : List ℕ) (fault : InfosFault)
-    → IsLoaded number infos_limit file bytes → ReadsAs (infos_read bytes) (Err fault)
+    → IsLoaded number file_limit file bytes → ReadsAs (infos_read bytes) (Err fault)
     → Leads (with_infos number file) (Err (infos_why number fault))
 infos_fail number file bytes (infos_faults.Bad code document) load read =
     λ next. load (λ bs. infos_or number next (infos_read bs)) ∙ ap (infos_or number next) read
 infos_fail number file bytes infos_faults.Memory load read = tt
 
 pub vault_fail : (number : ℕ) (file : Option (List ℕ)) (bytes : List ℕ) (fault : VaultFault)
-    → IsLoaded number vault_limit file bytes → Loads (Err fault) (vault bytes)
+    → IsLoaded number file_limit file bytes → Loads (Err fault) (vault bytes)
     → Leads (with_vault number file) (Err (vault_why number fault))
 vault_fail number file bytes (vault_faults.Bad document kind) load read =
     λ next. load (λ bs. vault_or number next (vault bs)) ∙ ap (vault_or number next) read
@@ -56,7 +57,7 @@ vault_fail number file bytes vault_faults.Memory load read = tt
 
 -- the same where the file's bytes lead on beside its keys
 pub keys_fail : (number : ℕ) (file : Option (List ℕ)) (bytes : List ℕ) (fault : VaultFault)
-    → IsLoaded number vault_limit file bytes → Loads (Err fault) (vault bytes)
+    → IsLoaded number file_limit file bytes → Loads (Err fault) (vault bytes)
     → Leads (with_keys number file) (Err (vault_why number fault))
 keys_fail number file bytes (vault_faults.Bad document kind) load read =
     λ next.

@@ -1,5 +1,7 @@
 -- A file of collection infos: BSON documents one after another, or a JSON text (RFC 8259), an array of them.
-use Rattle.std.specs.Prelude.{◌≡◌, ℕ, Bool, nat_lt, Result, Ok, Err, List, length, slice_index, if◌then◌else◌}
+use Rattle.std.specs.Prelude.{◌≡◌, ℕ, Bool, nat_lt, Option, Some, option_and_then, Result, Ok, Err, List, length}
+use Rattle.std.specs.Prelude.{slice_index, if◌then◌else◌}
+use Rattle.std.specs.Result.{result_ok}
 use Rattle.encrypt_schema.specs.Language.Collection.{Collection}
 use Rattle.encrypt_schema.specs.Language.Collections.{Faulty, collections}
 use Rattle.ext_json.specs.Infos.{json_infos}
@@ -13,6 +15,14 @@ use Rattle.fle_files.specs.declared.infos.InfosFault.TheVariants as infos_faults
 -- 150,994,943 bytes
 abbrev pub is_json : List ℕ → Bool
 is_json bytes = if nat_lt (length bytes) 4 then nat_lt 0 (length bytes) else nat_lt 8 (slice_index bytes 3)
+
+-- the BSON documents of such a file, where it is at no fault as a text
+abbrev pub bson_in : List ℕ → Option (List ℕ)
+bson_in bytes = if is_json bytes then result_ok (json_infos bytes) else Some bytes
+
+-- the infos of a file that isn't at fault
+unfoldable pub infos_of : List ℕ → Option (List Collection)
+infos_of bytes = option_and_then (λ bson. result_ok (collections bson)) (bson_in bytes)
 
 -- the fault of a JSON text as one of the file; no text comes to want of memory
 abbrev pub json_fault : JsonFault → InfosFault

@@ -1,3 +1,4 @@
 pub mod Numbers
 pub mod Infos
 pub mod Setup
+pub mod Limits

@@ -17,6 +17,7 @@ use Rattle.fle_stream.specs.declared.why.SetupFault.TheVariants as setups
 use Rattle.fle_stream.specs.declared.why.Why.{Why}
 use Rattle.fle_stream.specs.declared.why.Why.TheVariants as whys
 use Rattle.fle_files.specs.Infos.{infos_read}
+use Rattle.fle_files.specs.Limits.{file_limit, master_limit}
 use Rattle.fle_files.specs.Numbers.{master_number, vault_number}
 use Rattle.fle_files.specs.declared.infos.InfosFault.{InfosFault}
 use Rattle.fle_files.specs.declared.infos.InfosFault.TheVariants as infos_faults
@@ -57,30 +58,18 @@ abbrev pub master_or : ℕ → (List ℕ → Task) → Result (List ℕ) MasterF
 master_or file next (Ok master) = next master
 master_or file next (Err fault) = fails (at_fault file (master_number fault) 0)
 
--- a file of collection infos has at most 64 MiB
-abbrev pub infos_limit : ℕ
-infos_limit = 67108864
-
--- a vault has at most 64 MiB
-abbrev pub vault_limit : ℕ
-vault_limit = 67108864
-
--- a master key's file has at most 129 bytes
-abbrev pub master_limit : ℕ
-master_limit = 129
-
 -- the file of collection infos is missing, too long or at fault, or what it holds leads on
 abbrev pub with_infos : ℕ → Option (List ℕ) → (List Collection → Task) → Task
-with_infos number file next = with_file number infos_limit file (λ bytes. infos_or number next (infos_read bytes))
+with_infos number file next = with_file number file_limit file (λ bytes. infos_or number next (infos_read bytes))
 
 -- the vault is missing, too long or at fault, or its keys lead on
 abbrev pub with_vault : ℕ → Option (List ℕ) → (List KeyDoc → Task) → Task
-with_vault number file next = with_file number vault_limit file (λ bytes. vault_or number next (vault bytes))
+with_vault number file next = with_file number file_limit file (λ bytes. vault_or number next (vault bytes))
 
 -- the same where the file's bytes lead on beside its keys
 abbrev pub with_keys : ℕ → Option (List ℕ) → (KeysFile → Task) → Task
 with_keys number file next =
-    with_file number vault_limit file
+    with_file number file_limit file
     (λ bytes. vault_or number (λ keys. next (record { bytes = bytes; keys = keys })) (vault bytes))
 
 -- the master key's file is missing, too long or at fault, or the key leads on

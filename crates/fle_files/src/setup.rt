@@ -5,7 +5,8 @@ ghost use Rattle.key_vault.specs.Loading.{vault};
 ghost use Rattle.fle_outside.specs.Counts.{Rose};
 ghost use Rattle.fle_outside.specs.Files.{Files, file_of};
 ghost use Rattle.fle_files.specs.Setup.{Leads, at_fault, infos_why, master_why, vault_why};
-ghost use Rattle.fle_files.specs.Setup.{vault_limit, with_infos, with_keys, with_master, with_vault};
+ghost use Rattle.fle_files.specs.Limits.{file_limit};
+ghost use Rattle.fle_files.specs.Setup.{with_infos, with_keys, with_master, with_vault};
 ghost use Rattle.fle_stream.specs.Files.{IsOfFiles};
 
 use crate::infos::{InfosFault, read_infos};
@@ -101,7 +102,7 @@ pub fn load_keys<F: Folder>(
     ensures leads { (all : Files) → (F.seen files.old).told ≡ Some all
         → Leads (with_keys number (file_of all name.now)) result }
     ensures loaded { IfOk result (λ file. vault file.bytes ≡ Ok file.keys) }
-    ensures small { IfOk result (λ file. length file.bytes ≤ vault_limit) }
+    ensures small { IfOk result (λ file. length file.bytes ≤ file_limit) }
     ensures kind { IfErr result IsOfFiles }
     ensures same { (F.seen files.new).told ≡ (F.seen files.old).told }
     ensures later { (F.seen files.old).faults ≤ (F.seen files.new).faults }

@@ -14,8 +14,7 @@ use Rattle.encrypt_schema.specs.declared.command.marks.Mark.{Mark}
 use Rattle.encrypt_schema.specs.declared.command.reason.Reason.{Reason}
 use Rattle.encrypt_schema.specs.Language.Row.{Row}
 use Rattle.fle_outside.specs.Blocks.{AreBlocks, Block, IsBlock}
-use Rattle.fle_outside.specs.Seen.{EntropySeen, SinkSeen}
-use Rattle.fle_outside.specs.Writing.{Gains}
+use Rattle.fle_outside.specs.Seen.{EntropySeen, Gains, SinkSeen}
 use Rattle.payload6.specs.Needs.{Need, Name, need_of}
 use Rattle.bson_codec.specs.Borrowed.{At}
 use Rattle.doc_rewrite.specs.Keys.{Found}
@@ -41,6 +40,7 @@ use Rattle.fle_runner.specs.Encrypt.{at_front, encrypt_verdict}
 use Rattle.fle_runner.specs.Headline.{AreByUuid, AreSealedUnder, IsSealedUnder, Setup, accepted, if_accepted, sites_in}
 use Rattle.fle_runner.specs.Headline.{SealsStream, verdict_of}
 use Rattle.fle_runner.specs.Verdicts.{as_verdict}
+use Rattle.fle_runner.proofs.Accepted.{accepted_is}
 use Rattle.fle_runner.proofs.HeadlineReads.{AreRead, documents_read}
 
 -- ---- an accepted command
@@ -192,10 +192,11 @@ pub seals_stream : (x : Setup) (told : List ℕ) (entropy entropy_after : Entrop
     → SealsStream x told entropy entropy_after out out_after
 seals_stream x told entropy entropy_after out out_after uuids all w =
     let s = seals x uuids 1 0 (documents told) w.drawn (documents_read told all) w.draws.blocks w.enough in
+    let same = accepted_is x 0 (documents told) in
     record {
       sealed = s.sealed;
       blocks = w.drawn;
-      each = s.each;
+      each = subst (λ (cs : List Items). AreSealedUnder x cs w.drawn s.sealed) same s.each;
       draws = w.draws;
       gains = subst (λ (bytes : List ℕ). Gains out.told out_after.told bytes) (sym s.bytes) w.gains;
     }

@@ -1,6 +1,6 @@
 -- Where the files of the words say what commands are sealed and opened under, each command is sealed under it, and
 -- opened again.
-use Rattle.std.proofs.Common.{◌≡◌, ℕ, ◌∙◌, ◌^◌, false, nat_lt, Option, List, [], ◌∷◌, length, refl, sym, ap}
+use Rattle.std.proofs.Common.{◌≡◌, ℕ, ◌∙◌, ◌^◌, false, nat_lt, Option, Some, List, [], ◌∷◌, length, refl, sym, ap}
 use Rattle.std.proofs.Common.{subst, arith, ◌<◌}
 use Rattle.std.specs.List.{All}
 use Rattle.std.proofs.lemmas.Bool.Decides.{nat_tests}
@@ -13,8 +13,7 @@ use Rattle.data_key.specs.declared.key_doc.KeyDoc.{KeyDoc}
 use Rattle.doc_rewrite.specs.Opened.{HasAll, Keyring}
 use Rattle.fle_outside.specs.Blocks.{Block}
 use Rattle.fle_outside.specs.Files.{Files, file_of}
-use Rattle.fle_outside.specs.Seen.{EntropySeen, SinkSeen}
-use Rattle.fle_outside.specs.Writing.{Gains}
+use Rattle.fle_outside.specs.Seen.{EntropySeen, Gains, SinkSeen}
 use Rattle.fle_stream.specs.Did.{Did}
 use Rattle.fle_stream.specs.Ended.{Whole}
 use Rattle.fle_stream.specs.declared.why.Why.{Why}
@@ -32,10 +31,13 @@ use Rattle.fle_runner.specs.HeadlineFiles.{HoldKeys, HoldSetup, HoldsBytes, IsDe
 use Rattle.fle_runner.specs.Mark.{mark_verdict}
 use Rattle.fle_files.specs.Infos.{infos_read}
 use Rattle.fle_runner.specs.ReadBack.{outputs_back, read_whole, stream}
-use Rattle.fle_files.specs.Setup.{infos_limit, infos_or, master_limit, master_or, vault_limit, vault_or}
+use Rattle.fle_files.specs.Limits.{file_limit, master_limit}
+use Rattle.fle_files.specs.Setup.{infos_or, master_or, vault_or}
 use Rattle.fle_files.specs.Setup.{with_infos, with_master, with_vault}
 use Rattle.fle_runner.specs.Verbs.{task, task_of}
-use Rattle.fle_words.specs.Words.{Form}
+use Rattle.fle_words.specs.Words.{Form, decrypt, encrypt, form_of}
+use Rattle.fle_words.proofs.Forms.{decrypt_form_is, encrypt_form_is}
+use Rattle.fle_files.proofs.InfosRead.{infos_are}
 use Rattle.fle_runner.proofs.Backs.{reads_back, writes_back}
 use Rattle.fle_runner.proofs.Headline.{seals_stream}
 use Rattle.fle_runner.proofs.HeadlineBack.{come_back}
@@ -64,11 +66,11 @@ files_lead_to all keys schemas master x to h =
     λ (held : List KeyDoc) (infos : List Collection). with_master 3 (file_of all master) (third held infos) in
     let first : List KeyDoc → Task =
     λ (held : List KeyDoc). with_infos 2 (file_of all schemas) (second held) in
-    leads 1 vault_limit all keys k.vault_bytes (λ bytes. vault_or 1 first (vault bytes)) k.vault_file
+    leads 1 file_limit all keys k.vault_bytes (λ bytes. vault_or 1 first (vault bytes)) k.vault_file
     ∙ ap (vault_or 1 first) k.vault_says
-    ∙ leads 2 infos_limit all schemas h.schemas_bytes (λ bytes. infos_or 2 (second k.vault_keys) (infos_read bytes))
+    ∙ leads 2 file_limit all schemas h.schemas_bytes (λ bytes. infos_or 2 (second k.vault_keys) (infos_read bytes))
     h.schemas_file
-    ∙ ap (infos_or 2 (second k.vault_keys)) h.schemas_say
+    ∙ ap (infos_or 2 (second k.vault_keys)) (infos_are h.schemas_bytes x.infos h.schemas_say)
     ∙ leads 3 master_limit all master k.master_bytes (λ bytes. master_or 3 (third k.vault_keys x.infos)
     (master_in bytes))
     k.master_file
@@ -91,11 +93,18 @@ held_uuids all keys schemas master x h =
     let k = h.held in
     subst AreByUuid (sym k.finds) (vault_uuids k.vault_bytes k.master_key k.vault_keys k.vault_says)
 
+-- the words have the form of `encrypt`
+encrypt_asked : (words : List (List ℕ)) (all : Files) (x : Setup) (h : IsEncrypt words all x)
+    → form_of words ≡ Some (encrypt x.db h.keys h.schemas h.master)
+encrypt_asked words all x h =
+    ap form_of h.form
+    ∙ encrypt_form_is x.db h.keys h.schemas h.master h.database.0 h.database.1 h.others.0 h.others.1 h.others.2
+
 -- words and files ask that each command be sealed
 pub task_is : (now : ℕ) (words : List (List ℕ)) (all : Files) (x : Setup) → IsEncrypt words all x
     → task now words all ≡ each (verdict_of x)
 task_is now words all x h =
-    ap (λ (form : Option Form). task_of now form all) h.form
+    ap (λ (form : Option Form). task_of now form all) (encrypt_asked words all x h)
     ∙ files_lead all h.keys h.schemas h.master x h.files
 
 -- or that each be marked
@@ -104,8 +113,8 @@ pub mark_is : (now : ℕ) (words : List (List ℕ)) (all : Files) (db : List ℕ
 mark_is now words all db infos h =
     let next : List Collection → Task = λ (held : List Collection). each (mark_verdict held db) in
     ap (λ (form : Option Form). task_of now form all) h.form
-    ∙ leads 1 infos_limit all h.schemas h.schemas_bytes (λ bytes. infos_or 1 next (infos_read bytes)) h.schemas_file
-    ∙ ap (infos_or 1 next) h.schemas_say
+    ∙ leads 1 file_limit all h.schemas h.schemas_bytes (λ bytes. infos_or 1 next (infos_read bytes)) h.schemas_file
+    ∙ ap (infos_or 1 next) (infos_are h.schemas_bytes infos h.schemas_say)
 
 -- what a run of `encrypt` wrote whose outputs were all written
 pub encrypts : (now : ℕ) (words : List (List ℕ)) (all : Files) (told : List ℕ) (x : Setup)
@@ -135,17 +144,23 @@ keys_lead all keys master x h =
     λ (held : List KeyDoc) (key : List ℕ). each (decrypt_verdict (ring held key)) in
     let first : List KeyDoc → Task =
     λ (held : List KeyDoc). with_master 2 (file_of all master) (second held) in
-    leads 1 vault_limit all keys h.vault_bytes (λ bytes. vault_or 1 first (vault bytes)) h.vault_file
+    leads 1 file_limit all keys h.vault_bytes (λ bytes. vault_or 1 first (vault bytes)) h.vault_file
     ∙ ap (vault_or 1 first) h.vault_says
     ∙ leads 2 master_limit all master h.master_bytes (λ bytes. master_or 2 (second h.vault_keys) (master_in bytes))
     h.master_file
     ∙ ap (master_or 2 (second h.vault_keys)) h.master_says
     ∙ ap (λ (ks : Keyring). each (decrypt_verdict ks)) (sym h.opens)
 
+-- the words have the form of `decrypt`
+decrypt_asked : (words : List (List ℕ)) (all : Files) (x : Setup) (h : IsDecrypt words all x)
+    → form_of words ≡ Some (decrypt h.keys h.master)
+decrypt_asked words all x h = ap form_of h.form ∙ decrypt_form_is h.keys h.master h.others.0 h.others.1
+
 opening_is : (now : ℕ) (words : List (List ℕ)) (all : Files) (x : Setup) → IsDecrypt words all x
     → task now words all ≡ each (decrypt_verdict x.opens)
 opening_is now words all x h =
-    ap (λ (form : Option Form). task_of now form all) h.form ∙ keys_lead all h.keys h.master x h.files
+    ap (λ (form : Option Form). task_of now form all) (decrypt_asked words all x h)
+    ∙ keys_lead all h.keys h.master x h.files
 
 -- each data key that is had for sealing is had by its id for opening
 pub opens_held : (all : Files) (keys master : List ℕ) (x : Setup) → HoldKeys all keys master x → OpensAgain x

@@ -11,8 +11,7 @@ use Rattle.bson_tree.specs.Tree.{Items}
 use Rattle.context_machine.specs.Rings.{found_in}
 use Rattle.doc_rewrite.specs.Sealed.{sealed}
 use Rattle.fle_outside.specs.Blocks.{AreBlocks, Block, IsBlock}
-use Rattle.fle_outside.specs.Seen.{EntropySeen, SinkSeen}
-use Rattle.fle_outside.specs.Writing.{Gains}
+use Rattle.fle_outside.specs.Seen.{EntropySeen, Gains, SinkSeen}
 use Rattle.fle_stream.specs.Outcome.{Outcome, finished, judged, outcome, rest_finish}
 use Rattle.fle_stream.specs.Plan.{Output, Plan, Verdict, writes, refused, too_long, draws_of, written}
 use Rattle.fle_stream.specs.Run.{Ran}
@@ -26,6 +25,7 @@ use Rattle.fle_runner.specs.Headline.{AreByUuid, AreSealedUnder, OpensFirst, Sea
 use Rattle.fle_runner.specs.Headline.{sites_in, verdict_of}
 use Rattle.fle_runner.specs.ReadBack.{outputs_back, read_whole, stream}
 use Rattle.fle_runner.specs.Verdicts.{plain_plan}
+use Rattle.fle_runner.proofs.Accepted.{accepted_is}
 use Rattle.fle_runner.proofs.Headline.{is_accepted, sealed_under}
 use Rattle.fle_runner.proofs.HeadlineReads.{AreRead, documents_read}
 
@@ -131,7 +131,7 @@ seals_first x told {out = out} {out_after = out_after} uuids all ran =
     record {
       whole = s.whole;
       others = s.others;
-      split = s.split;
+      split = sym (accepted_is x 0 (documents told)) ∙ s.split;
       sealed = s.sealed;
       blocks = ran.first;
       more = ran.more;

@@ -6,10 +6,10 @@ use Rattle.std.proofs.lemmas.Slice.Eq.{bytes_eq-Decides}
 use Rattle.bson_tree.specs.Tree.{Items}
 use Rattle.bson_codec.specs.declared.fault.BsonFault.{BsonFault}
 use Rattle.bson_codec.specs.Reading.{front_document}
+use Rattle.bson_codec.specs.Standings.{Standing, absent, once, repeated, standing}
 use Rattle.context_machine.specs.Kept.{key_by, meets}
 use Rattle.context_machine.specs.Rings.{by_ids, finder, found_key, reasoned, ring, with_own}
 use Rattle.data_key.specs.Key.{◌>>=◌, id_in, key_in, material_in, names_in, or_fault, provider_in}
-use Rattle.data_key.specs.Standings.{Standing, absent, once, repeated, standing}
 use Rattle.data_key.specs.Values.{contents_of, of_length}
 use Rattle.data_key.specs.declared.key_doc.KeyDoc.{KeyDoc}
 use Rattle.data_key.specs.declared.key_doc.KeyFault.{KeyFault}

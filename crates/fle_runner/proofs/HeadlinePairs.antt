@@ -11,8 +11,7 @@ use Rattle.doc_rewrite.specs.Sealed.{sealed}
 use Rattle.encrypt_schema.specs.Language.Collection.{Collection}
 use Rattle.fle_outside.specs.Blocks.{AreBlocks, Block, IsBlock}
 use Rattle.fle_outside.specs.Files.{Files}
-use Rattle.fle_outside.specs.Seen.{EntropySeen, SinkSeen}
-use Rattle.fle_outside.specs.Writing.{Gains}
+use Rattle.fle_outside.specs.Seen.{EntropySeen, Gains, SinkSeen}
 use Rattle.fle_stream.specs.Did.{Did}
 use Rattle.fle_stream.specs.Ended.{Whole}
 use Rattle.fle_stream.specs.Outcome.{Outcome, finished, judged}

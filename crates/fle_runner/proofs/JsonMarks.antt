@@ -16,7 +16,8 @@ use Rattle.ext_json.specs.Infos.{infos_in, json_infos, member_of, member_then, m
 use Rattle.ext_json.specs.declared.fault.JsonFault.{JsonFault}
 use Rattle.ext_json.specs.declared.fault.JsonFault.TheVariants as json_faults
 use Rattle.fle_files.specs.Infos.{infos_read, is_json}
-use Rattle.fle_files.specs.Setup.{infos_limit, infos_or, with_infos, with_master, with_vault}
+use Rattle.fle_files.specs.Limits.{file_limit}
+use Rattle.fle_files.specs.Setup.{infos_or, with_infos, with_master, with_vault}
 use Rattle.fle_files.proofs.InfosRead.{bson_is, json_is}
 use Rattle.fle_stream.specs.Task.{Task, each, fails}
 use Rattle.fle_stream.specs.declared.why.Finish.TheVariants as finishes
@@ -58,7 +59,7 @@ fourth elements more few =
     omega (arith, few) in
     grind (arith, nat_tests)
 
-isnt_json : (is : Items) (more bytes : List ℕ) → bytes ≡ doc_bytes is ++ more → length bytes ≤ infos_limit
+isnt_json : (is : Items) (more bytes : List ℕ) → bytes ≡ doc_bytes is ++ more → length bytes ≤ file_limit
     → is_json bytes ≡ false
 isnt_json is more bytes e few =
     let long : length bytes ≡ length (doc_bytes is) + length more = ap length e ∙ length-append (doc_bytes is) more in
@@ -69,7 +70,7 @@ isnt_json is more bytes e few =
     ∙ fourth (items_bytes is) more (omega (arith, long, size, few)) in
     ap (λ (b : Bool). cond b (nat_lt 0 (length bytes)) (nat_lt 8 (slice_index bytes 3))) some ∙ here
 
-array_isnt : (ds : Values) (bson : List ℕ) → members_of 1 [] ds ≡ Ok bson → length bson ≤ infos_limit
+array_isnt : (ds : Values) (bson : List ℕ) → members_of 1 [] ds ≡ Ok bson → length bson ≤ file_limit
     → is_json bson ≡ false
 array_isnt no_values bson e few =
     let same : bson ≡ [] = cc in
@@ -79,45 +80,45 @@ array_isnt (value_then d ds) bson e few =
     (λ is. members_begin 2 (doc_bytes is) bson ds) e in
     isnt_json first.0 first.1.0 bson first.1.1 few
 
-read_isnt : (o : Option Data) (bson : List ℕ) → infos_in o ≡ Ok bson → length bson ≤ infos_limit
+read_isnt : (o : Option Data) (bson : List ℕ) → infos_in o ≡ Ok bson → length bson ≤ file_limit
     → is_json bson ≡ false
 read_isnt None bson e few = absurd cc
 read_isnt (Some (array ds)) bson e few = array_isnt ds bson e few
 read_isnt (Some d) bson e few = absurd cc
 
 text_isnt : (b : Bool) (o : Option Data) (bson : List ℕ)
-    → cond b (infos_in o) (Err json_faults.Syntax) ≡ Ok bson → length bson ≤ infos_limit → is_json bson ≡ false
+    → cond b (infos_in o) (Err json_faults.Syntax) ≡ Ok bson → length bson ≤ file_limit → is_json bson ≡ false
 text_isnt true o bson e few = read_isnt o bson e few
 text_isnt false o bson e few = absurd cc
 
-bson_isnt : (json bson : List ℕ) → json_infos json ≡ Ok bson → length bson ≤ infos_limit → is_json bson ≡ false
+bson_isnt : (json bson : List ℕ) → json_infos json ≡ Ok bson → length bson ≤ file_limit → is_json bson ≡ false
 unfolding json_infos
 bson_isnt json bson e few = text_isnt (is_utf8 json) (read json) bson e few
 
 -- ---- so both files lead on alike
 
-loaded : (number : ℕ) (next : List Collection → Task) (bytes : List ℕ) → length bytes ≤ infos_limit
+loaded : (number : ℕ) (next : List Collection → Task) (bytes : List ℕ) → length bytes ≤ file_limit
     → with_infos number (Some bytes) next ≡ infos_or number next (infos_read bytes)
 loaded number next bytes fits =
-    let short : nat_lt infos_limit (length bytes) ≡ false = grind (arith, nat_tests) in
+    let short : nat_lt file_limit (length bytes) ≡ false = grind (arith, nat_tests) in
     ap (λ (b : Bool). cond b (fails (finishes.Setup number setups.TooLong 0))
     (infos_or number next (infos_read bytes))) short
 
-json_leads : (number : ℕ) (next : List Collection → Task) (json bson : List ℕ) → length json ≤ infos_limit
-    → length bson ≤ infos_limit → is_json json ≡ true → json_infos json ≡ Ok bson
+json_leads : (number : ℕ) (next : List Collection → Task) (json bson : List ℕ) → length json ≤ file_limit
+    → length bson ≤ file_limit → is_json json ≡ true → json_infos json ≡ Ok bson
     → with_infos number (Some json) next ≡ with_infos number (Some bson) next
 json_leads number next json bson fits fits2 is gives =
     loaded number next json fits
     ∙ (ap (infos_or number next) (json_is json bson is gives ∙ sym (bson_is bson (bson_isnt json bson gives fits2)))
     ∙ sym (loaded number next bson fits2))
 
-pub json_marks : (db json bson : List ℕ) → length json ≤ infos_limit → length bson ≤ infos_limit → is_json json ≡ true
+pub json_marks : (db json bson : List ℕ) → length json ≤ file_limit → length bson ≤ file_limit → is_json json ≡ true
     → json_infos json ≡ Ok bson → mark_task db (Some json) ≡ mark_task db (Some bson)
 json_marks db json bson fits fits2 is gives =
     json_leads 1 (λ infos. each (mark_verdict infos db)) json bson fits fits2 is gives
 
-pub json_seals : (db : List ℕ) (vault master : Option (List ℕ)) (json bson : List ℕ) → length json ≤ infos_limit
-    → length bson ≤ infos_limit → is_json json ≡ true → json_infos json ≡ Ok bson
+pub json_seals : (db : List ℕ) (vault master : Option (List ℕ)) (json bson : List ℕ) → length json ≤ file_limit
+    → length bson ≤ file_limit → is_json json ≡ true → json_infos json ≡ Ok bson
     → encrypt_task db vault (Some json) master ≡ encrypt_task db vault (Some bson) master
 json_seals db vault master json bson fits fits2 is gives =
     λ i. with_vault 1 vault (λ keys. json_leads 2 (λ infos. with_master 3 master

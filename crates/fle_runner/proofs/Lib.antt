@@ -1,3 +1,4 @@
+pub mod Accepted
 pub mod Judgements
 pub mod Engines
 pub mod Marks

@@ -4,9 +4,10 @@ use Rattle.std.proofs.Common.{subst, arith}
 use Rattle.std.specs.Prelude.{codes}
 use Rattle.bson_tree.specs.Tree.{Items, node, item}
 use Rattle.bson_tree.specs.Spelling.{doc_bytes, items_bytes}
+use Rattle.bson_tree.proofs.Sizes.{element_size, framed_size}
 use Rattle.data_key.specs.Written.{binary, history, key_fields, names_field, numbered}
 use Rattle.data_key.specs.declared.key_doc.KeyDoc.{KeyDoc}
-use Rattle.data_key.proofs.Sizes.{binary_size, element_size, framed_size}
+use Rattle.data_key.proofs.Sizes.{binary_size}
 use Rattle.fle_runner.specs.Keygen.{IsOfKey, blank_key, document_size}
 use Rattle.fle_stream.specs.declared.why.Cut.TheVariants as cuts
 use Rattle.fle_stream.specs.declared.why.Why.{Why}

@@ -7,12 +7,12 @@ use Rattle.std.specs.Global.{Global}
 use Rattle.std.proofs.lemmas.List.{take_all}
 use Rattle.encrypt_schema.specs.declared.command.reason.Reason.TheVariants as reasons
 use Rattle.fle_files.specs.Numbers.{reason_number}
-use Rattle.fle_files.specs.Setup.{master_limit, master_or, vault_limit, vault_or, with_keys, with_master}
+use Rattle.fle_files.specs.Limits.{file_limit, master_limit}
+use Rattle.fle_files.specs.Setup.{master_or, vault_or, with_keys, with_master}
 use Rattle.fle_files.specs.declared.setup.KeysFile.{KeysFile}
 use Rattle.fle_outside.specs.Blocks.{Block}
 use Rattle.fle_outside.specs.Files.{Files, file_of}
-use Rattle.fle_outside.specs.Seen.{EntropySeen, FolderSeen, SinkSeen, SourceSeen}
-use Rattle.fle_outside.specs.Writing.{Gains}
+use Rattle.fle_outside.specs.Seen.{EntropySeen, FolderSeen, Gains, SinkSeen, SourceSeen}
 use Rattle.fle_runner.specs.HeadlineRewrap.{IsRewrap, RewritesVault}
 use Rattle.fle_runner.specs.Rewrap.{IsOfVault, rewrap_held, rewrap_plan, rewrap_why, unless_damaged}
 use Rattle.fle_runner.specs.Statuses.{IsUndrawn, IsUnwritten}
@@ -138,7 +138,7 @@ rewrap_is now words all x h =
     ∙ leads 2 master_limit all h.to h.to_held.bytes (λ bytes. master_or 2 (second x.from) (master_in bytes))
     h.to_held.file
     ∙ ap (master_or 2 (second x.from)) h.to_held.says
-    ∙ leads 3 vault_limit all h.keys x.vault.bytes (λ bytes. vault_or 3 (keys bytes) (vault bytes)) h.vault_file
+    ∙ leads 3 file_limit all h.keys x.vault.bytes (λ bytes. vault_or 3 (keys bytes) (vault bytes)) h.vault_file
     ∙ ap (vault_or 3 (keys x.vault.bytes)) h.vault_says
 
 held_unread : (o : Option ℕ) (plan : Plan) → reads_input (unless_damaged o plan) ≡ false

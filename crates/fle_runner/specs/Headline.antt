@@ -1,28 +1,28 @@
 -- MongoDB Client Side Encryption, `encrypt` over a stream of commands: every accepted command was sealed, and nothing
 -- else changed.
-use Rattle.std.specs.Prelude.{◌≡◌, ℕ, ◌+◌, ◌^◌, ◌≤◌, nat_lt, Ok, None, List, [], ◌∷◌, ◌++◌, length, flat_map}
-use Rattle.std.specs.Prelude.{if◌then◌else◌}
+use Rattle.std.specs.Prelude.{◌≡◌, ℕ, ◌+◌, ◌^◌, ◌≤◌, ◌&&◌, Bool, not, nat_lt, Ok, None, is_none, List, [], ◌∷◌, ◌++◌}
+use Rattle.std.specs.Prelude.{length, flat_map, if◌then◌else◌}
 use Rattle.bson_tree.specs.Spelling.{doc_bytes}
 use Rattle.bson_tree.specs.Tree.{Items}
 use Rattle.bson_codec.specs.Layout.{IsDoc}
-use Rattle.encrypt_schema.specs.Commands.Targets.{rows_of}
+use Rattle.encrypt_schema.specs.Commands.Targets.{rows_of, verdict}
 use Rattle.encrypt_schema.specs.Commands.Visits.{content_verdict, roles}
 use Rattle.encrypt_schema.specs.Language.Collection.{Collection}
-use Rattle.context_machine.specs.Rings.{Finder, found_in}
+use Rattle.context_machine.specs.Rings.{Finder, first_keyless, found_in, needs_of}
 use Rattle.doc_rewrite.specs.Keys.{Found}
 use Rattle.doc_rewrite.specs.Opened.{HasAll, Keyring}
 use Rattle.doc_rewrite.specs.PayloadFree.{IsPayloadFree}
 use Rattle.doc_rewrite.specs.Sealed.{sealed}
 use Rattle.doc_rewrite.specs.SealedCommand.{IsSealedCommand}
-use Rattle.doc_rewrite.specs.Sites.{Site, draws_of, sites_of}
+use Rattle.doc_rewrite.specs.Sites.{Site, draws_of, grown, sites_of}
 use Rattle.fle_outside.specs.Blocks.{Block}
-use Rattle.fle_outside.specs.Drawing.{Draws}
-use Rattle.fle_outside.specs.Seen.{EntropySeen, SinkSeen}
-use Rattle.fle_outside.specs.Writing.{Gains}
+use Rattle.fle_outside.specs.Limits.{output_limit}
+use Rattle.fle_outside.specs.Seen.{Draws, EntropySeen, Gains, SinkSeen}
 use Rattle.payload6.specs.Needs.{Need}
 use Rattle.fle_stream.specs.Plan.{Verdict, writes, refused, too_long}
 use Rattle.fle_stream.specs.Streams.{Docs, doc, documents, ends}
-use Rattle.fle_runner.specs.Encrypt.{at_front, encrypt_verdict}
+use Rattle.doc_rewrite.specs.Sites.{at_front}
+use Rattle.fle_runner.specs.Encrypt.{encrypt_verdict}
 
 -- what commands are sealed under: to which data key an id or an alternate name leads, the rules of the collections, the
 -- database; and which data key an id has, under which they are opened
@@ -31,6 +31,10 @@ pub record Setup : Type 0 where
   pub opens : Keyring
   pub infos : List Collection
   pub db : List ℕ
+
+-- the spellings of documents, one after another
+abbrev pub stream : List Items → List ℕ
+stream ds = flat_map doc_bytes ds
 
 -- what a command comes to
 abbrev pub verdict_of : Setup → Items → Verdict
@@ -60,6 +64,21 @@ accepted v taken (doc n c docs) =
 abbrev pub sites_in : Setup → Items → List Site
 sites_in x c = sites_of (rows_of x.infos c) (at_front c) (roles (rows_of x.infos c) 0 c)
 
+-- a command is accepted: it isn't refused, each of its protected values has its key, and its sealed form doesn't have
+-- more than 48,000,000 bytes
+abbrev pub accepts : Setup → Items → Bool
+accepts x c =
+    is_none (verdict x.db x.infos 0 c)
+    && is_none (first_keyless x.keys (needs_of (rows_of x.infos c) (at_front c)))
+    && not (nat_lt output_limit (length (doc_bytes c) + grown (sites_in x c)))
+
+-- the commands of a stream before the first that isn't accepted, and before 2^40 bytes were taken: those that
+-- `accepted` has by their verdicts
+unfoldable pub accepted_in : Setup → ℕ → Docs → List Items
+accepted_in x taken (ends rest) = []
+accepted_in x taken (doc n c docs) =
+    if (nat_lt taken (2 ^ 40) && accepts x c) then c ∷ accepted_in x (taken + n) docs else []
+
 -- a command and its sealed form: exactly its protected values are payloads of them under their rules' policies, and
 -- nothing else changed; its random payloads have these blocks as vectors, in reading order
 pub record IsSealedUnder (x : Setup) (c : Items) (blocks : List Block) (d : Items) : Type 0 where
@@ -87,12 +106,12 @@ pub record SealsAllOf (x : Setup) (commands : List Items) (entropy entropy_after
   pub blocks : List Block
   pub each : AreSealedUnder x commands blocks sealed
   pub draws : Draws entropy entropy_after blocks
-  pub gains : Gains out.told out_after.told (flat_map doc_bytes sealed)
+  pub gains : Gains out.told out_after.told (stream sealed)
 
 -- the same of the commands that it accepted
 abbrev pub SealsStream : Setup → List ℕ → EntropySeen → EntropySeen → SinkSeen → SinkSeen → Type 0
 SealsStream x told entropy entropy_after out out_after =
-    SealsAllOf x (accepted (verdict_of x) 0 (documents told)) entropy entropy_after out out_after
+    SealsAllOf x (accepted_in x 0 (documents told)) entropy entropy_after out out_after
 
 -- whatever cut the run short, it sealed the first of these commands, with the first blocks that it drew, and wrote
 -- their bytes, one after another, and a part of the next output
@@ -107,12 +126,12 @@ pub record SealsFirstOf (x : Setup) (commands : List Items) (entropy entropy_aft
   pub each : AreSealedUnder x whole blocks sealed
   pub draws : Draws entropy entropy_after (blocks ++ more)
   pub part : List ℕ
-  pub gains : Gains out.told out_after.told (flat_map doc_bytes sealed ++ part)
+  pub gains : Gains out.told out_after.told (stream sealed ++ part)
 
 -- the same of the commands that it accepted
 abbrev pub SealsFirst : Setup → List ℕ → EntropySeen → EntropySeen → SinkSeen → SinkSeen → Type 0
 SealsFirst x told entropy entropy_after out out_after =
-    SealsFirstOf x (accepted (verdict_of x) 0 (documents told)) entropy entropy_after out out_after
+    SealsFirstOf x (accepted_in x 0 (documents told)) entropy entropy_after out out_after
 
 -- and of commands that are opened, it wrote the first, and a part of the next output
 pub record OpensFirst (commands : List Items) (out out_after : SinkSeen) : Type 0 where
@@ -120,7 +139,7 @@ pub record OpensFirst (commands : List Items) (out out_after : SinkSeen) : Type 
   pub others : List Items
   pub split : commands ≡ whole ++ others
   pub part : List ℕ
-  pub gains : Gains out.told out_after.told (flat_map doc_bytes whole ++ part)
+  pub gains : Gains out.told out_after.told (stream whole ++ part)
 
 -- commands that their sealed forms open to: each has a spelling, is accepted by its contents, and has no payload
 -- outside its protected values; the sealed one isn't too long for the input

@@ -1,6 +1,6 @@
 -- `encrypt DB KEYS SCHEMAS MASTER` and `decrypt KEYS MASTER`: what the files of the words say commands are sealed and
 -- opened under, and what a run then wrote.
-use Rattle.std.specs.Prelude.{◌≡◌, ℕ, ◌<◌, ◌≤◌, ◌^◌, Some, Ok, List, length}
+use Rattle.std.specs.Prelude.{◌≡◌, ℕ, ◌<◌, ◌≤◌, ◌^◌, Some, Ok, List, [], ◌∷◌, codes, length}
 use Rattle.std.specs.List.{All}
 use Rattle.bson_tree.specs.Tree.{Items}
 use Rattle.context_machine.specs.Rings.{finder, ring}
@@ -8,17 +8,16 @@ use Rattle.data_key.specs.declared.key_doc.KeyDoc.{KeyDoc}
 use Rattle.encrypt_schema.specs.Language.Collection.{Collection}
 use Rattle.fle_outside.specs.Blocks.{Block}
 use Rattle.fle_outside.specs.Files.{Files, file_of}
-use Rattle.fle_outside.specs.Writing.{Gains}
+use Rattle.fle_outside.specs.Seen.{Gains}
 use Rattle.fle_stream.specs.Ended.{IsSettled, World}
 use Rattle.fle_stream.specs.declared.status.Status.{Status}
 use Rattle.fle_stream.specs.declared.status.Status.TheVariants as statuses
 use Rattle.key_vault.specs.Loading.{vault}
 use Rattle.local_kms.specs.Master.{master_in}
-use Rattle.fle_runner.specs.Headline.{AreReadable, AreSealedUnder, OpensFirst, SealsFirst, SealsStream, Setup}
-use Rattle.fle_files.specs.Infos.{infos_read}
-use Rattle.fle_runner.specs.ReadBack.{stream}
-use Rattle.fle_files.specs.Setup.{infos_limit, master_limit, vault_limit}
-use Rattle.fle_words.specs.Words.{decrypt, encrypt, form_of, mark}
+use Rattle.fle_runner.specs.Headline.{AreReadable, AreSealedUnder, OpensFirst, SealsFirst, SealsStream, Setup, stream}
+use Rattle.fle_files.specs.Infos.{infos_of}
+use Rattle.fle_files.specs.Limits.{file_limit, master_limit}
+use Rattle.fle_words.specs.Words.{form_of, mark}
 
 -- the file of this name is there, and has these bytes, at most so many
 pub record HoldsBytes (all : Files) (name : List ℕ) (limit : ℕ) (bytes : List ℕ) : Type 0 where
@@ -29,7 +28,7 @@ pub record HoldsBytes (all : Files) (name : List ℕ) (limit : ℕ) (bytes : Lis
 -- leads, and which data key an id has
 pub record HoldKeys (all : Files) (keys master : List ℕ) (x : Setup) : Type 0 where
   pub vault_bytes : List ℕ
-  pub vault_file : HoldsBytes all keys vault_limit vault_bytes
+  pub vault_file : HoldsBytes all keys file_limit vault_bytes
   pub vault_keys : List KeyDoc
   pub vault_says : vault vault_bytes ≡ Ok vault_keys
   pub master_bytes : List ℕ
@@ -43,15 +42,18 @@ pub record HoldKeys (all : Files) (keys master : List ℕ) (x : Setup) : Type 0 
 pub record HoldSetup (all : Files) (keys schemas master : List ℕ) (x : Setup) : Type 0 where
   pub held : HoldKeys all keys master x
   pub schemas_bytes : List ℕ
-  pub schemas_file : HoldsBytes all schemas infos_limit schemas_bytes
-  pub schemas_say : infos_read schemas_bytes ≡ Ok x.infos
+  pub schemas_file : HoldsBytes all schemas file_limit schemas_bytes
+  pub schemas_say : infos_of schemas_bytes ≡ Some x.infos
 
--- the words are `encrypt DB KEYS SCHEMAS MASTER`, and the files are there, within their limits, and say this
+-- the words are `encrypt DB KEYS SCHEMAS MASTER`: DB has 1 to 63 bytes, and the others aren't empty; and the files are
+-- there, within their limits, and say this
 pub record IsEncrypt (words : List (List ℕ)) (all : Files) (x : Setup) : Type 0 where
   pub keys : List ℕ
   pub schemas : List ℕ
   pub master : List ℕ
-  pub form : form_of words ≡ Some (encrypt x.db keys schemas master)
+  pub form : words ≡ codes "encrypt" ∷ x.db ∷ keys ∷ schemas ∷ master ∷ []
+  pub database : (0 < length x.db) × (length x.db ≤ 63)
+  pub others : (0 < length keys) × (0 < length schemas) × (0 < length master)
   pub files : HoldSetup all keys schemas master x
 
 -- the words are `mark DB SCHEMAS`, and the file is there, within its limit, and says this
@@ -59,14 +61,16 @@ pub record IsMark (words : List (List ℕ)) (all : Files) (db : List ℕ) (infos
   pub schemas : List ℕ
   pub form : form_of words ≡ Some (mark db schemas)
   pub schemas_bytes : List ℕ
-  pub schemas_file : HoldsBytes all schemas infos_limit schemas_bytes
-  pub schemas_say : infos_read schemas_bytes ≡ Ok infos
+  pub schemas_file : HoldsBytes all schemas file_limit schemas_bytes
+  pub schemas_say : infos_of schemas_bytes ≡ Some infos
 
--- the words are `decrypt KEYS MASTER`, and the files are there, within their limits, and say this
+-- the words are `decrypt KEYS MASTER`, neither of which is empty, and the files are there, within their limits, and say
+-- this
 pub record IsDecrypt (words : List (List ℕ)) (all : Files) (x : Setup) : Type 0 where
   pub keys : List ℕ
   pub master : List ℕ
-  pub form : form_of words ≡ Some (decrypt keys master)
+  pub form : words ≡ codes "decrypt" ∷ keys ∷ master ∷ []
+  pub others : (0 < length keys) × (0 < length master)
   pub files : HoldKeys all keys master x
 
 -- `encrypt`: the first of the accepted commands were sealed and written, whatever cut the run short; and where no

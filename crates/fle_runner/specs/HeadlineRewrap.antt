@@ -1,12 +1,10 @@
 -- `rewrap OLD NEW KEYS`: what the files of the words hold, and what a run then wrote.
 use Rattle.std.specs.Prelude.{◌≡◌, ℕ, ◌<◌, Some, None, Ok, List, length}
 use Rattle.std.specs.List.{All}
-use Rattle.fle_files.specs.Setup.{master_limit, vault_limit}
+use Rattle.fle_files.specs.Limits.{file_limit, master_limit}
 use Rattle.fle_outside.specs.Blocks.{Block}
-use Rattle.fle_outside.specs.Drawing.{Draws}
 use Rattle.fle_outside.specs.Files.{Files}
-use Rattle.fle_outside.specs.Seen.{EntropySeen, SinkSeen}
-use Rattle.fle_outside.specs.Writing.{Gains}
+use Rattle.fle_outside.specs.Seen.{Draws, EntropySeen, Gains, SinkSeen}
 use Rattle.fle_runner.specs.HeadlineFiles.{HoldsBytes}
 use Rattle.fle_runner.specs.declared.rewrap.RewrapFiles.{RewrapFiles}
 use Rattle.fle_stream.specs.Ended.{World}
@@ -33,7 +31,7 @@ pub record IsRewrap (words : List (List ℕ)) (all : Files) (x : RewrapFiles) : 
   pub form : form_of words ≡ Some (rewrap from to keys)
   pub from_held : HoldsMaster all from x.from
   pub to_held : HoldsMaster all to x.to
-  pub vault_file : HoldsBytes all keys vault_limit x.vault.bytes
+  pub vault_file : HoldsBytes all keys file_limit x.vault.bytes
   pub vault_says : vault x.vault.bytes ≡ Ok x.vault.keys
 
 -- the run drew a block for each local key, each of which opened under the old master key; it wrote the file of the

@@ -5,8 +5,7 @@ use Rattle.data_key.specs.Written.{key_fields}
 use Rattle.data_key.specs.declared.key_doc.KeyDoc.{KeyDoc}
 use Rattle.data_key.specs.declared.key_doc.Provider.TheVariants as providers
 use Rattle.fle_outside.specs.Blocks.{Block}
-use Rattle.fle_outside.specs.Drawing.{Draws}
-use Rattle.fle_outside.specs.Seen.{EntropySeen}
+use Rattle.fle_outside.specs.Seen.{Draws, EntropySeen}
 use Rattle.fle_stream.specs.Plan.{Plan}
 use Rattle.fle_files.specs.Setup.{with_master}
 use Rattle.fle_stream.specs.Task.{Task, makes}

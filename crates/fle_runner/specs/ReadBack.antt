@@ -1,11 +1,12 @@
 -- A stream of documents read back: each of them comes to the bytes of a document of a list.
-use Rattle.std.specs.Prelude.{◌≡◌, ℕ, ◌+◌, ◌^◌, ◌≤◌, List, [], ◌∷◌, length, flat_map}
+use Rattle.std.specs.Prelude.{◌≡◌, ℕ, ◌+◌, ◌^◌, ◌≤◌, List, [], ◌∷◌, length}
 use Rattle.bson_tree.specs.Spelling.{doc_bytes}
 use Rattle.bson_tree.specs.Tree.{Items}
 use Rattle.bson_codec.specs.Layout.{IsDoc}
 use Rattle.fle_stream.specs.Outcome.{Outcome}
 use Rattle.fle_stream.specs.Plan.{Output, Verdict, writes}
 use Rattle.fle_stream.specs.declared.why.Finish.TheVariants as finishes
+pub use Rattle.fle_runner.specs.Headline.{stream}
 use Rattle.fle_runner.specs.Verdicts.{plain_plan}
 
 -- documents of the input one by one, each of which comes to the bytes of the document in its place in the list before
@@ -15,10 +16,6 @@ ComesTo v [] (d ∷ ds) = ⊥
 ComesTo v (c ∷ cs) [] = ⊥
 ComesTo v (c ∷ cs) (d ∷ ds) =
     IsDoc d × (length (doc_bytes d) ≤ 2 ^ 24) × (v d ≡ writes (plain_plan (doc_bytes c))) × ComesTo v cs ds
-
--- the spellings of documents, one after another
-abbrev pub stream : List Items → List ℕ
-stream ds = flat_map doc_bytes ds
 
 -- the outputs of these documents
 abbrev pub outputs_back : List Items → List Items → List Output

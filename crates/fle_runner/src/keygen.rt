@@ -4,9 +4,8 @@ ghost use Rattle.std.specs.Prelude.{◌≡◌, ◌≤◌, ◌⊎◌, List, ℕ, 
 ghost use Rattle.bson_tree.specs.Spelling.{doc_bytes};
 ghost use Rattle.data_key.specs.Written.{key_fields, size_of as names_size};
 ghost use Rattle.fle_outside.specs.Blocks.{Block};
-ghost use Rattle.fle_outside.specs.Drawing.{Draws};
 ghost use Rattle.fle_outside.specs.Files.{file_of};
-ghost use Rattle.fle_outside.specs.Seen.{EntropySeen, FolderSeen, SourceSeen};
+ghost use Rattle.fle_outside.specs.Seen.{Draws, EntropySeen, FolderSeen, SourceSeen};
 ghost use Rattle.fle_runner.specs.Keygen.{DrawsEight, IsOfKey, IsOfKeygen, document_size, keygen_plan, keygen_task};
 ghost use Rattle.fle_stream.specs.Acted.{Acted, AreAny, AreTold, objects};
 ghost use Rattle.fle_stream.specs.Codes.{status_of};

@@ -20,7 +20,7 @@ ghost use Rattle.fle_runner.specs.HeadlinePairs.{AreRightPairs, IsEncryptWith, c
 ghost use Rattle.fle_files.specs.Infos.{infos_read, is_json};
 ghost use Rattle.fle_runner.specs.Mark.{mark_task, mark_verdict};
 ghost use Rattle.fle_runner.specs.ReadBack.{ComesTo, read_whole, stream};
-ghost use Rattle.fle_files.specs.Setup.{infos_limit};
+ghost use Rattle.fle_files.specs.Limits.{file_limit};
 ghost use Rattle.fle_runner.specs.TwoStreams.{EndAlike, HaveEqualSkeletons};
 ghost use Rattle.fle_runner.specs.Verbs.{task};
 ghost use Rattle.fle_stream.specs.Ended.{Whole};
@@ -42,10 +42,10 @@ pub fn empty_input_is_done()
 
 /// `mark` and `encrypt` over a file in JSON are `mark` and `encrypt` over its documents in BSON.
 pub fn json_infos_are_their_bson()
-    ensures mark { (db json bson : List ℕ) → length json ≤ infos_limit → length bson ≤ infos_limit → is_json json ≡ true
+    ensures mark { (db json bson : List ℕ) → length json ≤ file_limit → length bson ≤ file_limit → is_json json ≡ true
         → json_infos json ≡ Ok bson → mark_task db (Some json) ≡ mark_task db (Some bson) }
-    ensures encrypt { (db : List ℕ) (vault master : Option (List ℕ)) (json bson : List ℕ) → length json ≤ infos_limit
-        → length bson ≤ infos_limit → is_json json ≡ true → json_infos json ≡ Ok bson
+    ensures encrypt { (db : List ℕ) (vault master : Option (List ℕ)) (json bson : List ℕ) → length json ≤ file_limit
+        → length bson ≤ file_limit → is_json json ≡ true → json_infos json ≡ Ok bson
         → encrypt_task db vault (Some json) master ≡ encrypt_task db vault (Some bson) master }
 {}
 

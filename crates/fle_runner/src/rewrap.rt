@@ -1,7 +1,8 @@
 //! `rewrap OLD NEW KEYS`: the keys of a vault under another master key.
 
 ghost use Rattle.std.specs.Prelude.{true, ◌≡◌, ◌≤◌, length, IfErr, IfOk, Ok, Some};
-ghost use Rattle.fle_files.specs.Setup.{Leads, vault_limit};
+ghost use Rattle.fle_files.specs.Limits.{file_limit};
+ghost use Rattle.fle_files.specs.Setup.{Leads};
 ghost use Rattle.fle_outside.specs.Counts.{Rose};
 ghost use Rattle.fle_outside.specs.Files.{Files, file_of};
 ghost use Rattle.fle_outside.specs.Seen.{FolderSeen, SourceSeen};
@@ -84,7 +85,7 @@ fn load_rewrap<F: Folder>(
         → Leads (with_rewrap (file_of all words.entry.from.now) (file_of all words.entry.to.now)
         (file_of all words.entry.vault.now)) result }
     ensures loaded { IfOk result (λ held. vault_of held.vault.bytes ≡ Ok held.vault.keys) }
-    ensures small { IfOk result (λ held. length held.vault.bytes ≤ vault_limit) }
+    ensures small { IfOk result (λ held. length held.vault.bytes ≤ file_limit) }
     ensures kind { IfErr result IsOfFiles }
     ensures cause { IfErr result (λ why. why ≡ Why.Cut Cut.Folder
         → Rose (F.seen files.old).faults (F.seen files.new).faults) }
@@ -115,7 +116,7 @@ fn write_rewrapped<O: Sink, N: Entropy, B: Block256>(
 ) -> End
     requires hooks { B.answers hooks.now }
     requires loaded { vault_of held.now.vault.bytes ≡ Ok held.now.vault.keys }
-    requires small { length held.now.vault.bytes ≤ vault_limit }
+    requires small { length held.now.vault.bytes ≤ file_limit }
     ensures run { (input : SourceSeen) (files : FolderSeen) → Acted AreAny (λ _. rewrap_held time held.now) one_document
         (objects input files (O.seen out.old) (N.seen entropy.old))
         (objects input files (O.seen out.new) (N.seen entropy.new)) result }

@@ -2,9 +2,7 @@
 use Rattle.std.proofs.Common.{◌≡◌, ℕ, Option, List, [], ◌++◌, refl, sym, ◌∙◌, ap, subst, append-nil}
 use Rattle.fle_outside.specs.Blocks.{Block}
 use Rattle.fle_outside.specs.Counts.{Rose}
-use Rattle.fle_outside.specs.Drawing.{Draws}
-use Rattle.fle_outside.specs.Seen.{EntropySeen, SinkSeen}
-use Rattle.fle_outside.specs.Writing.{Gains}
+use Rattle.fle_outside.specs.Seen.{Draws, EntropySeen, Gains, SinkSeen}
 use Rattle.fle_stream.specs.Codes.{status_of, status_of_finish}
 use Rattle.fle_stream.specs.Ended.{Whole, IsSettled, World, Unfailed}
 use Rattle.fle_stream.specs.Outcome.{Outcome}

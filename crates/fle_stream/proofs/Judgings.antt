@@ -4,9 +4,7 @@ use Rattle.std.proofs.Common.{false, refl, sym, ◌∙◌, ap, subst, arith, app
 use Rattle.std.proofs.lemmas.Bool.Decides.{nat_tests}
 use Rattle.bson_tree.specs.Tree.{Items}
 use Rattle.fle_outside.specs.Blocks.{Block}
-use Rattle.fle_outside.specs.Drawing.{Draws}
-use Rattle.fle_outside.specs.Seen.{EntropySeen, SinkSeen}
-use Rattle.fle_outside.specs.Writing.{Gains}
+use Rattle.fle_outside.specs.Seen.{Draws, EntropySeen, Gains, SinkSeen}
 use Rattle.fle_stream.specs.Judge.{JudgeIs}
 use Rattle.fle_stream.specs.Outcome.{Outcome, finished, rest_finish, judged, outcome}
 use Rattle.fle_stream.specs.Plan.{Output, Verdict, writes, refused, too_long, size_of, draws_of, size_in, draws_in}

@@ -2,9 +2,8 @@
 use Rattle.std.proofs.Common.{◌≡◌, ℕ, ◌+◌, ◌*◌, ◌-◌, ◌^◌, ◌<◌, ◌≤◌, min, List, [], ◌∷◌, length, Option}
 use Rattle.std.proofs.Common.{refl, ap, arith}
 use Rattle.bson_tree.specs.Tree.{Items}
-use Rattle.fle_outside.specs.Drawing.{Draws}
 use Rattle.fle_outside.specs.Filling.{RoseBy, RoseWithin}
-use Rattle.fle_outside.specs.Seen.{EntropySeen, SinkSeen}
+use Rattle.fle_outside.specs.Seen.{Draws, EntropySeen, SinkSeen}
 use Rattle.fle_stream.specs.Check.{CheckIs}
 use Rattle.fle_stream.specs.Next.{Handed}
 use Rattle.fle_stream.specs.Outcome.{Outcome, finished, judged, rest_finish}

@@ -3,9 +3,8 @@ use Rattle.std.proofs.Common.{◌≡◌, ℕ, ◌<◌, ◌≤◌, ◌∙◌, Opt
 use Rattle.std.proofs.Common.{subst, arith, append-nil}
 use Rattle.std.proofs.lemmas.List.{take_all}
 use Rattle.fle_outside.specs.Blocks.{Block}
-use Rattle.fle_outside.specs.Drawing.{Draws}
-use Rattle.fle_outside.specs.Seen.{EntropySeen, SinkSeen}
-use Rattle.fle_outside.specs.Writing.{Gains, IsProperPrefix}
+use Rattle.fle_outside.specs.Seen.{Draws, EntropySeen, Gains, SinkSeen}
+use Rattle.fle_outside.specs.Writing.{IsProperPrefix}
 use Rattle.fle_stream.specs.Did.{Did}
 use Rattle.fle_stream.specs.Plan.{Plan, Output, written}
 use Rattle.fle_stream.specs.Run.{EndsIn}

@@ -4,8 +4,7 @@ use Rattle.std.proofs.Common.{Option, Some, None, refl, sym, ap, subst, arith}
 use Rattle.std.proofs.lemmas.Bool.Decides.{nat_tests}
 use Rattle.std.proofs.lemmas.List.{drop-drop, length-drop}
 use Rattle.bson_tree.specs.Tree.{Items}
-use Rattle.fle_outside.specs.Drawing.{Draws}
-use Rattle.fle_outside.specs.Seen.{EntropySeen, SinkSeen}
+use Rattle.fle_outside.specs.Seen.{Draws, EntropySeen, SinkSeen}
 use Rattle.fle_stream.specs.Check.{CheckIs}
 use Rattle.fle_stream.specs.Next.{Handed}
 use Rattle.fle_stream.specs.Outcome.{Outcome, finished}

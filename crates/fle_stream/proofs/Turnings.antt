@@ -5,9 +5,7 @@ use Rattle.std.proofs.Common.{add_assoc, zero-add, length-append}
 use Rattle.std.proofs.Common.{length-drop}
 use Rattle.std.proofs.lemmas.List.{take_all, take-append-le, drop-append-le, drop-drop}
 use Rattle.fle_outside.specs.Blocks.{Block}
-use Rattle.fle_outside.specs.Drawing.{Draws}
-use Rattle.fle_outside.specs.Seen.{EntropySeen, SinkSeen}
-use Rattle.fle_outside.specs.Writing.{Gains}
+use Rattle.fle_outside.specs.Seen.{Draws, EntropySeen, Gains, SinkSeen}
 use Rattle.fle_outside.proofs.Drawings.{draws_none, draws_then}
 use Rattle.fle_stream.specs.Plan.{Output, read_of, documents_of, draws_of, size_of, written}
 use Rattle.fle_stream.specs.Outcome.{Outcome, Course, preceded}

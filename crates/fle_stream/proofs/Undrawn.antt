@@ -4,8 +4,7 @@ use Rattle.std.proofs.Common.{arith, inl, inr, length-append}
 use Rattle.std.proofs.lemmas.Bool.{cases_lt}
 use Rattle.bson_tree.specs.Tree.{Items}
 use Rattle.fle_outside.specs.Blocks.{Block}
-use Rattle.fle_outside.specs.Drawing.{Draws}
-use Rattle.fle_outside.specs.Seen.{EntropySeen, SinkSeen}
+use Rattle.fle_outside.specs.Seen.{Draws, EntropySeen, SinkSeen}
 use Rattle.fle_outside.proofs.Drawings.{draws_none}
 use Rattle.fle_stream.specs.Did.{Did}
 use Rattle.fle_stream.specs.Outcome.{Outcome, judged, outcome}

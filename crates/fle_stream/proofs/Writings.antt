@@ -4,8 +4,7 @@ use Rattle.std.proofs.Common.{sym, ◌∙◌, ap, subst, arith, Vec, Global}
 use Rattle.std.proofs.lemmas.Bool.{false≢true}
 use Rattle.bson_tree.specs.Tree.{Items}
 use Rattle.fle_outside.specs.Counts.{Rose}
-use Rattle.fle_outside.specs.Drawing.{Draws}
-use Rattle.fle_outside.specs.Seen.{EntropySeen, SinkSeen}
+use Rattle.fle_outside.specs.Seen.{Draws, EntropySeen, SinkSeen}
 use Rattle.fle_outside.specs.Writing.{WritesWhole}
 use Rattle.fle_outside.specs.declared.answers.Failed.{Failed}
 use Rattle.fle_stream.specs.Judge.{JudgeIs}

@@ -2,10 +2,9 @@
 use Rattle.std.specs.Prelude.{◌≡◌, ℕ, ◌≤◌, Result, Some, List, length}
 use Rattle.fle_outside.specs.Blocks.{Block}
 use Rattle.fle_outside.specs.Counts.{Rose}
-use Rattle.fle_outside.specs.Drawing.{Draws}
 use Rattle.fle_outside.specs.Files.{Files}
-use Rattle.fle_outside.specs.Seen.{SourceSeen, FolderSeen, SinkSeen, EntropySeen}
-use Rattle.fle_outside.specs.Writing.{Gains, WritesWhole}
+use Rattle.fle_outside.specs.Seen.{Draws, EntropySeen, FolderSeen, Gains, SinkSeen, SourceSeen}
+use Rattle.fle_outside.specs.Writing.{WritesWhole}
 use Rattle.fle_outside.specs.declared.answers.Failed.{Failed}
 use Rattle.fle_stream.specs.Acted.{Acted, Objects, objects}
 use Rattle.fle_stream.specs.Codes.{status_of, status_of_finish}

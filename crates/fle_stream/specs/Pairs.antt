@@ -1,6 +1,7 @@
 -- What a run over pairs of documents comes to: each first document is judged by itself, then with the one behind it.
 use Rattle.std.specs.Prelude.{◌≡◌, ℕ, ◌+◌, ◌^◌, List, [], Option, Some, None, nat_lt, ◌-◌, ◌∷◌, if◌then◌else◌}
 use Rattle.bson_tree.specs.Tree.{Items}
+use Rattle.fle_outside.specs.Limits.{output_limit}
 use Rattle.fle_stream.specs.Outcome.{Outcome, finished, judged, rest_finish}
 use Rattle.fle_stream.specs.Plan.{Output, Verdict}
 use Rattle.fle_stream.specs.Streams.{Docs, doc, ends, Rest, nothing, rest_size, first_size}
@@ -54,7 +55,7 @@ unfoldable mutual
 
 -- the most bytes that the second document of a pair may have
 abbrev pub answer_limit : ℕ
-answer_limit = 48000000
+answer_limit = output_limit
 
 -- the bytes of the documents of a pair, of so many bytes that are left: each as many as it has, or all that is left
 abbrev pub pair_spans : Docs → ℕ → List ℕ

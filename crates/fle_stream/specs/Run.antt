@@ -1,9 +1,8 @@
 -- What a run did, whatever cut it short.
 use Rattle.std.specs.Prelude.{◌≡◌, ℕ, ◌+◌, ◌<◌, ◌≤◌, Option, Some, List, [], ◌∷◌, ◌++◌, length, take, drop}
 use Rattle.fle_outside.specs.Blocks.{Block}
-use Rattle.fle_outside.specs.Drawing.{Draws}
-use Rattle.fle_outside.specs.Seen.{EntropySeen, SinkSeen}
-use Rattle.fle_outside.specs.Writing.{Gains, IsProperPrefix}
+use Rattle.fle_outside.specs.Seen.{Draws, EntropySeen, Gains, SinkSeen}
+use Rattle.fle_outside.specs.Writing.{IsProperPrefix}
 use Rattle.fle_stream.specs.Plan.{Plan, Output, read_of, documents_of, draws_of, written}
 use Rattle.fle_stream.specs.Outcome.{Outcome, Course, preceded}
 use Rattle.fle_stream.specs.declared.why.Finish.{Finish}

@@ -1,6 +1,7 @@
 -- What one turn of a verb that reads the input does.
 use Rattle.std.specs.Prelude.{◌≡◌, ℕ, ◌+◌, ◌*◌, ◌-◌, ◌^◌, ◌≤◌, min, Option, List}
 use Rattle.fle_outside.specs.Filling.{RoseBy}
+use Rattle.fle_outside.specs.Limits.{output_limit}
 use Rattle.fle_outside.specs.Seen.{EntropySeen, SinkSeen}
 use Rattle.fle_stream.specs.Outcome.{Course}
 use Rattle.fle_stream.specs.Run.{OneStep, LastStep}
@@ -81,4 +82,4 @@ EndsAt number (turns.Ended at why) = at ≡ number
 abbrev pub TookBehind : ℕ → ℕ → ℕ → ℕ → Turn → Type 0
 TookBehind size number before after (turns.Wrote n d) = (size ≤ n) × RoseBy before after (n - size)
 TookBehind size number before after (turns.Ended at why) =
-    (number ≤ at) × (at ≤ number + 1) × (min before (2 ^ 64 - 1) ≤ after) × (after ≤ before + 48000000)
+    (number ≤ at) × (at ≤ number + 1) × (min before (2 ^ 64 - 1) ≤ after) × (after ≤ before + output_limit)

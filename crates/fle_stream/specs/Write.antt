@@ -1,8 +1,7 @@
 -- What writing a document's output answers, by what the document comes to.
 use Rattle.std.specs.Prelude.{◌≡◌, Result, Ok, Err, List, [], length}
 use Rattle.fle_outside.specs.Blocks.{Block}
-use Rattle.fle_outside.specs.Drawing.{Draws}
-use Rattle.fle_outside.specs.Seen.{EntropySeen, SinkSeen}
+use Rattle.fle_outside.specs.Seen.{Draws, EntropySeen, SinkSeen}
 use Rattle.fle_outside.specs.Writing.{WritesWhole}
 use Rattle.fle_outside.specs.declared.answers.Failed.{Failed}
 use Rattle.fle_stream.specs.Judge.{DrawsShort}

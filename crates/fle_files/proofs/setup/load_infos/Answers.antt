@@ -2,13 +2,14 @@
 use Rattle.std.proofs.Common.{◌∙◌, List, ℕ, Err, ap, subst}
 use Rattle.fle_outside.specs.Files.{file_of}
 use Rattle.fle_files.specs.Infos.{ReadsAs, infos_read}
-use Rattle.fle_files.specs.Setup.{infos_limit, infos_or}
+use Rattle.fle_files.specs.Limits.{file_limit}
+use Rattle.fle_files.specs.Setup.{infos_or}
 use Rattle.fle_files.proofs.Loaded.{infos_fail, leads_load}
 use Rattle.fle_files.proofs.setup.load_infos.Goals as goal
 
 pub returns-in-Err-clause-leads : goal.returns-in-Err-clause-leads
 returns-in-Err-clause-leads g c = λ all has.
-    leads_load c.args.number infos_limit (file_of all c.args.name.now) c.in-Err.why
+    leads_load c.args.number file_limit (file_of all c.args.name.now) c.in-Err.why
     (λ next bytes. infos_or c.args.number next (infos_read bytes)) (c.in-Err.ensures.load all has)
 
 pub returns-in-Ok-read_infos-clause-leads : goal.returns-in-Ok-read_infos-clause-leads

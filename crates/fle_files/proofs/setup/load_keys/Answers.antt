@@ -2,13 +2,14 @@
 use Rattle.std.proofs.Common.{◌∙◌, ap}
 use Rattle.fle_outside.specs.Files.{file_of}
 use Rattle.key_vault.specs.Loading.{vault}
-use Rattle.fle_files.specs.Setup.{vault_limit, vault_or}
+use Rattle.fle_files.specs.Limits.{file_limit}
+use Rattle.fle_files.specs.Setup.{vault_or}
 use Rattle.fle_files.proofs.Loaded.{keys_fail, leads_load}
 use Rattle.fle_files.proofs.setup.load_keys.Goals as goal
 
 pub returns-in-Err-clause-leads : goal.returns-in-Err-clause-leads
 returns-in-Err-clause-leads g c = λ all has.
-    leads_load c.args.number vault_limit (file_of all c.args.name.now) c.in-Err.why
+    leads_load c.args.number file_limit (file_of all c.args.name.now) c.in-Err.why
     (λ next bytes. vault_or c.args.number (λ keys. next (record { bytes = bytes; keys = keys })) (vault bytes))
     (c.in-Err.ensures.load all has)
 

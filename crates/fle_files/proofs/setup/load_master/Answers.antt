@@ -2,7 +2,8 @@
 use Rattle.std.proofs.Common.{◌∙◌, ap, sym}
 use Rattle.fle_outside.specs.Files.{file_of}
 use Rattle.local_kms.specs.Master.{master_in}
-use Rattle.fle_files.specs.Setup.{master_limit, master_or}
+use Rattle.fle_files.specs.Limits.{master_limit}
+use Rattle.fle_files.specs.Setup.{master_or}
 use Rattle.fle_files.proofs.Loaded.{leads_load, master_fail}
 use Rattle.fle_files.proofs.setup.load_master.Goals as goal
 
