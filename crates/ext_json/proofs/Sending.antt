@@ -3,8 +3,8 @@ use Rattle.std.proofs.Common.{◌≡◌, Result, Ok, Err, List, ℕ, Some, [], �
 use Rattle.std.proofs.Common.{append_assoc, append-nil}
 use Rattle.std.specs.Prelude.{unwrap_or}
 use Rattle.std.proofs.Math.Seq.{take-append_seam}
-use Rattle.fle_outside.specs.Seen.{SinkSeen}
-use Rattle.fle_outside.specs.Writing.{Gains, Puts, WritesWhole}
+use Rattle.fle_outside.specs.Seen.{Gains, SinkSeen}
+use Rattle.fle_outside.specs.Writing.{Puts, WritesWhole}
 use Rattle.fle_outside.specs.declared.answers.Failed.{Failed}
 use Rattle.fle_outside.proofs.PartWay.{PartWay, part_put, part_put_stop, part_end}
 use Rattle.ext_json.specs.Pieces.{Sends}

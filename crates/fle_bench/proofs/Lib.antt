@@ -1,7 +1,6 @@
 pub mod Messages
 pub mod SameBlocks
 pub mod SameVectors
-pub mod Sealable
 pub mod Asked
 pub mod Payloads
 pub mod Turns

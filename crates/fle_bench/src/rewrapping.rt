@@ -5,6 +5,7 @@ ghost use Rattle.std.specs.Prelude.{◌≡◌, ◌<◌, ◌≤◌, length, IfSom
 ghost use Rattle.fle_bench.specs.Checksum.{checksum};
 ghost use Rattle.fle_bench.specs.Vaults.{rewrapped_by};
 ghost use Rattle.fle_vectors.specs.declared.data_key.TheConstants.{DATA_KEY};
+ghost use Rattle.fle_vectors.specs.declared.master_key.TheConstants.{MASTER_KEY};
 ghost use Rattle.key_vault.specs.Loading.{vault as vault_of};
 
 use crate::checksum::checksum;
@@ -12,21 +13,11 @@ use crate::documents::SameBlock;
 use crate::payload::VECTOR;
 use crypto_hooks::Tables;
 use data_key::KeyDoc;
-use fle_vectors::DATA_KEY;
+use fle_vectors::{DATA_KEY, MASTER_KEY};
 use key_vault::Vault;
 use local_kms::{MasterKey, unwrap_key, wrap_key};
 use rewrap_keys::rewrap_vault;
 use std::alloc::Global;
-
-/// The bytes 00 to 5F: the master key of examples/keys.bson.
-const MASTER: [u8; 96] = [
-    0x00, 0x01, 0x02, 0x03, 0x04, 0x05, 0x06, 0x07, 0x08, 0x09, 0x0a, 0x0b, 0x0c, 0x0d, 0x0e, 0x0f,
-    0x10, 0x11, 0x12, 0x13, 0x14, 0x15, 0x16, 0x17, 0x18, 0x19, 0x1a, 0x1b, 0x1c, 0x1d, 0x1e, 0x1f,
-    0x20, 0x21, 0x22, 0x23, 0x24, 0x25, 0x26, 0x27, 0x28, 0x29, 0x2a, 0x2b, 0x2c, 0x2d, 0x2e, 0x2f,
-    0x30, 0x31, 0x32, 0x33, 0x34, 0x35, 0x36, 0x37, 0x38, 0x39, 0x3a, 0x3b, 0x3c, 0x3d, 0x3e, 0x3f,
-    0x40, 0x41, 0x42, 0x43, 0x44, 0x45, 0x46, 0x47, 0x48, 0x49, 0x4a, 0x4b, 0x4c, 0x4d, 0x4e, 0x4f,
-    0x50, 0x51, 0x52, 0x53, 0x54, 0x55, 0x56, 0x57, 0x58, 0x59, 0x5a, 0x5b, 0x5c, 0x5d, 0x5e, 0x5f,
-];
 
 /// Seals the keys of a vault's file under the data key in the place of a master key, some times over, and gives the
 /// checksum of the last file; `None` where the bytes are no vault, where a key doesn't open, or for want of memory.
@@ -44,7 +35,7 @@ fn rewrap(alloc: Global, bytes: &[u8], vault: &Vault, turns: u32) -> Option<u32>
     requires loaded { vault_of bytes.now ≡ Ok vault.now }
     requires small { length bytes.now ≤ 67108864 }
     ensures sum { IfSome result (λ sum. 0 < turns
-        → sum ≡ checksum (rewrapped_by MASTER DATA_KEY vault.now bytes.now)) }
+        → sum ≡ checksum (rewrapped_by MASTER_KEY DATA_KEY vault.now bytes.now)) }
 {
     let file = rewrap_turns(alloc, bytes, vault, turns)?;
     Some(checksum(&file))
@@ -55,9 +46,9 @@ fn rewrap_turns(alloc: Global, bytes: &[u8], vault: &Vault, turns: u32) -> Optio
     requires loaded { vault_of bytes.now ≡ Ok vault.now }
     requires small { length bytes.now ≤ 67108864 }
     ensures file { IfSome result (λ file. 0 < turns
-        → file.items ≡ rewrapped_by MASTER DATA_KEY vault.now bytes.now) }
+        → file.items ≡ rewrapped_by MASTER_KEY DATA_KEY vault.now bytes.now) }
 {
-    let from = MasterKey::new(MASTER);
+    let from = MasterKey::new(MASTER_KEY);
     let to = MasterKey::new(DATA_KEY);
     let mut file = Some(Vec::new(alloc));
     for _turn in 0..turns {
@@ -97,7 +88,7 @@ pub fn run_keys(alloc: Global, bytes: &[u8], turns: u32) -> Option<u32>
     let Ok(vault) = Vault::load(alloc, bytes) else {
         return None;
     };
-    let from = MasterKey::new(MASTER);
+    let from = MasterKey::new(MASTER_KEY);
     let to = MasterKey::new(DATA_KEY);
     let mut last = [0; 160];
     for _turn in 0..turns {

@@ -140,7 +140,6 @@ fn seal(
 }
 
 /// Plans a document and seals it, where it fits; false where it doesn't.
-#[tactic(auto, using(crate::proofs::SameBlocks::sealed_same))]
 fn seal_once(
     document: &RawDoc<'_>,
     marks: &Marks,

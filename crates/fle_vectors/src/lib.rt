@@ -2,8 +2,8 @@
 //! key), SP 800-38A (CBC), RFC 4231 (HMAC with SHA-512) and RFC 7518 (both joined).
 //!
 //! Each constant names its standard and section, and holds the standard's own values: what a test
-//! compares an answer with comes from here, and never from the code under test. [`DATA_KEY`] alone is no
-//! standard's: a key that is the same in all tests.
+//! compares an answer with comes from here, and never from the code under test. [`DATA_KEY`] and
+//! [`MASTER_KEY`] alone are no standard's: keys that are the same in all tests.
 //!
 //! ```text
 //! let vector = fle_vectors::CBC_AES256;
@@ -17,6 +17,7 @@ mod aes256;
 mod cbc_aes256;
 mod data_key;
 mod hmac_sha512;
+mod master_key;
 
 pub use aead::{AEAD_B3, AeadVector};
 pub use aes256::{BLOCK_C3, BlockVector, EXPANSION_A3, ExpansionVector};
@@ -26,3 +27,4 @@ pub use hmac_sha512::{
     HMAC_SHA512_CASE_1, HMAC_SHA512_CASE_2, HMAC_SHA512_CASE_3, HMAC_SHA512_CASE_4,
     HMAC_SHA512_CASE_5, HMAC_SHA512_CASE_6, HMAC_SHA512_CASE_7, HmacVector,
 };
+pub use master_key::MASTER_KEY;

@@ -3,13 +3,13 @@
 
 use crate::hostile_tests::nested;
 use crate::pair_samples::{
-    N, RANDOM_A, RESULT_NAME, SEALED_SSN, SSN, binary_of, reply_of, reply_with,
+    RANDOM_A, RESULT_NAME, SEALED_SSN, SSN, binary_of, reply_of, reply_with,
 };
 use crate::pair_tests::{BLOCKS, answering, answers};
 use crate::runs::{Run, document, joined, marking, opening, output, sealing, writes};
 use crate::size_tests::insert_of;
 use fle_stream::Status;
-use sample_documents::reply_parts::{FIRST, KI, MARKED_SSN, RESULT, SECOND};
+use sample_documents::reply_parts::{FIRST, KI, MARKED_SSN, N, RESULT, SECOND};
 use sample_documents::{INSERT, REPLY, SEALED_INSERT};
 use std::alloc::Global;
 use std::process::Abort;

@@ -2,11 +2,12 @@
 //! provider or damaged: the line has the command's number, and nothing of that pair is drawn or written.
 
 use crate::keys_tests::VAULT;
-use crate::pair_samples::{BOTH_REPLY, OK, RANDOM_REPLY};
+use crate::pair_samples::{BOTH_REPLY, RANDOM_REPLY};
 use crate::pair_tests::{BLOCKS, answering};
 use crate::runs::{MASTER, Run, document, expect, joined, next_block, stops, writes};
 use crate::seal_tests::RANDOM;
 use fle_stream::Status;
+use sample_documents::reply_parts::OK;
 use sample_documents::{BOTH, INSERT, NOTES, NOTES_REPLY, REPLY};
 use std::alloc::Global;
 use std::process::Abort;

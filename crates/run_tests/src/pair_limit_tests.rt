@@ -1,13 +1,13 @@
 //! Whole runs of `encrypt-with` at the limits of size: of a command, of a reply, of a sealed command.
 
 use crate::limit_tests::largest;
-use crate::pair_samples::{OK, RANDOM_A, binary_of, reply_of};
+use crate::pair_samples::{RANDOM_A, binary_of, reply_of};
 use crate::pair_tests::{answering, answers};
 use crate::runs::{Run, document, expect, joined, writes};
 use crate::size_tests::insert_of;
 use crate::verdict_tests::unmarked;
 use fle_stream::Status;
-use sample_documents::reply_parts::{FIRST, KI, RESULT, SECOND};
+use sample_documents::reply_parts::{FIRST, KI, OK, RESULT, SECOND};
 use sample_documents::{INSERT, NOTES, NOTES_REPLY, REPLY, SEALED_INSERT};
 use std::alloc::Global;
 use std::process::Abort;

@@ -1,8 +1,9 @@
 //! Whole runs of `encrypt-with` over markings (MongoDB Client Side Encryption): a binary of subtype 06 of 00 and a
 //! document of three fields, in whatever order.
 
-use crate::pair_samples::{A, N, RANDOM_A, V, answered, binary_of, reply_of};
-use sample_documents::reply_parts::{KI, KJ, MARKED_SALARY, OLD_KI, OTHER_KI, SHORT_KI};
+use crate::pair_samples::{RANDOM_A, answered, binary_of, reply_of};
+use sample_documents::reply_parts::{A, KI, KJ, MARKED_SALARY, N, OLD_KI, OTHER_KI, SHORT_KI, V};
+use sample_documents::reply_shapes::{FIELD_ORDERS, WRONG_FIELDS};
 use std::alloc::Global;
 use std::process::Abort;
 
@@ -24,33 +25,14 @@ fn differs(rt: &impl Abort, alloc: Global, fields: &[&[u8]]) {
 
 #[test]
 fn the_fields_of_a_marking_stand_in_any_order(rt: HostRuntime) {
-    let markings: &[&[&[u8]]] = &[
-        &[V, A, KI],
-        &[V, KI, A],
-        &[A, V, KI],
-        &[A, KI, V],
-        &[KI, V, A],
-        &[KI, A, V],
-    ];
-    for fields in markings {
+    for fields in FIELD_ORDERS {
         told(&rt, rt.alloc(), HEAD, fields, b"", "");
     }
 }
 
 #[test]
 fn each_field_stands_once_and_alone(rt: HostRuntime) {
-    let markings: &[&[&[u8]]] = &[
-        &[],
-        &[A, KI],
-        &[V, KI],
-        &[V, A],
-        &[V, V, A, KI],
-        &[V, A, A, KI],
-        &[V, A, KI, KI],
-        &[V, V, KI],
-        &[V, A, KI, N],
-    ];
-    for fields in markings {
+    for fields in WRONG_FIELDS {
         differs(&rt, rt.alloc(), fields);
     }
 }

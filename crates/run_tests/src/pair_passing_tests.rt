@@ -1,11 +1,11 @@
 //! Whole runs of `encrypt-with` over commands of which nothing is protected, or that are refused before their reply.
 
-use crate::pair_samples::{OK, RESULT_NAME};
+use crate::pair_samples::RESULT_NAME;
 use crate::pair_tests::answers;
 use crate::runs::document;
 use crate::verdict_tests::unmarked;
 use fle_stream::Status;
-use sample_documents::reply_parts::{FIRST, FIRST_OFF, SECOND, SECOND_OFF};
+use sample_documents::reply_parts::{FIRST, FIRST_OFF, OK, SECOND, SECOND_OFF};
 use sample_documents::{
     INSERT, INTO_UNKNOWN, INTO_VIEW, NOTES, NOTES_REPLY, NUMBER, PING, REPLY, SEALED_INSERT,
 };

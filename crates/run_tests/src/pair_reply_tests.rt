@@ -2,17 +2,18 @@
 //! twice, have another type or differ: the reason and the element.
 
 use crate::pair_samples::{
-    N, OK, RANDOM_A, RESULT_NAME, SALARY, SEALED_SALARY, SEALED_SSN, SSN, answered, binary_of,
-    reply_of, reply_with,
+    RANDOM_A, RESULT_NAME, SALARY, SEALED_SALARY, SEALED_SSN, SSN, answered, binary_of, reply_of,
+    reply_with,
 };
 use crate::pair_tests::{BLOCKS, answering};
 use crate::runs::{Run, document, joined, next_block, stops, writes};
 use crate::size_tests::insert_of;
 use fle_stream::Status;
 use sample_documents::reply_parts::{
-    FIRST, FIRST_CUT, FIRST_INT, FIRST_NULL, FIRST_OFF, KI, MARKED_SALARY, MARKED_SSN, RESULT,
-    SECOND, SECOND_INT, SECOND_OFF, SECOND_TEXT,
+    FIRST, FIRST_INT, FIRST_NULL, FIRST_OFF, KI, MARKED_SALARY, MARKED_SSN, N, OK, RESULT, SECOND,
+    SECOND_INT, SECOND_OFF, SECOND_TEXT,
 };
+use sample_documents::reply_shapes::{INCOMPLETE, ORDERS, WITH_OTHERS};
 use sample_documents::{INSERT, NOTES, SEALED_INSERT};
 use std::alloc::Global;
 use std::process::Abort;
@@ -25,68 +26,21 @@ fn told(rt: &impl Abort, alloc: Global, elements: &[&[u8]], line: &str) {
 
 #[test]
 fn the_elements_that_are_read_stand_in_any_order(rt: HostRuntime) {
-    let replies: &[&[&[u8]]] = &[
-        &[FIRST, SECOND, RESULT],
-        &[FIRST, RESULT, SECOND],
-        &[SECOND, FIRST, RESULT],
-        &[SECOND, RESULT, FIRST],
-        &[RESULT, FIRST, SECOND],
-        &[RESULT, SECOND, FIRST],
-    ];
-    for elements in replies {
+    for elements in ORDERS {
         told(&rt, rt.alloc(), elements, "");
     }
 }
 
 #[test]
 fn other_elements_are_not_read(rt: HostRuntime) {
-    let replies: &[&[&[u8]]] = &[
-        &[OK, FIRST, OK, SECOND, N, RESULT, OK],
-        &[
-            FIRST,
-            b"\x08ok\x00\x00",
-            SECOND,
-            b"\x02errmsg\x00\x02\x00\x00\x00x\x00",
-            RESULT,
-        ],
-        &[
-            b"\x10resul\x00\x01\x00\x00\x00",
-            FIRST,
-            SECOND,
-            RESULT,
-            b"\x10results\x00\x01\x00\x00\x00",
-        ],
-        &[
-            b"\x10Result\x00\x01\x00\x00\x00",
-            FIRST,
-            b"\x10\x00\x01\x00\x00\x00",
-            SECOND,
-            RESULT,
-        ],
-        &[
-            FIRST_CUT,
-            FIRST,
-            SECOND,
-            RESULT,
-            b"\x0aschemaRequiresEncryptions\x00",
-        ],
-    ];
-    for elements in replies {
+    for elements in WITH_OTHERS {
         told(&rt, rt.alloc(), elements, "");
     }
 }
 
 #[test]
 fn each_of_the_three_is_wanted(rt: HostRuntime) {
-    let replies: &[&[&[u8]]] = &[
-        &[],
-        &[OK],
-        &[SECOND, RESULT, OK],
-        &[FIRST, RESULT, OK],
-        &[FIRST, SECOND, OK],
-        &[FIRST_OFF, SECOND_OFF, OK],
-    ];
-    for elements in replies {
+    for elements in INCOMPLETE {
         told(&rt, rt.alloc(), elements, "fle: 1 2 25 -\n");
     }
 }

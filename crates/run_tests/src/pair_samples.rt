@@ -5,16 +5,13 @@ use crate::pair_tests::answers;
 use crate::runs::{document, joined};
 use crate::size_tests::insert_of;
 use fle_stream::Status;
-use sample_documents::reply_parts::{FIRST, SECOND};
+use sample_documents::reply_parts::{FIRST, OK, SECOND};
 use sample_documents::{INSERT, SEALED_INSERT};
 use std::alloc::Global;
 use std::process::Abort;
 
 /// The type and the name of a result.
 pub(crate) const RESULT_NAME: &[u8] = b"\x03result\x00";
-
-/// `ok: 1.0`
-pub(crate) const OK: &[u8] = b"\x01ok\x00\x00\x00\x00\x00\x00\x00\xf0?";
 
 /// `ssn: "123-45-6789"`
 pub(crate) const SSN: &[u8] = b"\x02ssn\x00\x0c\x00\x00\x00123-45-6789\x00";
@@ -33,15 +30,6 @@ pub(crate) const SEALED_SALARY: &[u8] =
     b"\x05salary\x00R\x00\x00\x00\x06\x02\x00\x11\"3DUFw\x88\x99\xaa\xbb\xcc\xdd\xee\xff\x10\x01\x01\x01\x01\x01\x01\
     \x01\x01\x01\x01\x01\x01\x01\x01\x01\x01\xb8\x11\xbf\xe9\xa2\x81\x17\xdfo5H!\xdcl\x0e\x91Q\x9e\x04!\xd1\x80\x1b@\
     \x92P\xef\xed\xce\x13V\x03\x8fl\xae\xe3\x0e\xec\x1d\xa4\x16\x0ew\xd2\xf6\xdf\x17\x15";
-
-/// `n: int 1`
-pub(crate) const N: &[u8] = b"\x10n\x00\x01\x00\x00\x00";
-
-/// The value in the marking of `ssn`.
-pub(crate) const V: &[u8] = b"\x02v\x00\x0c\x00\x00\x00123-45-6789\x00";
-
-/// Its algorithm.
-pub(crate) const A: &[u8] = b"\x10a\x00\x01\x00\x00\x00";
 
 /// The other algorithm.
 pub(crate) const RANDOM_A: &[u8] = b"\x10a\x00\x02\x00\x00\x00";

@@ -46,7 +46,7 @@ fn without_its_target_a_value_is_refused(rt: HostRuntime) {
 }
 
 #[test]
-fn a_target_is_a_clear_string_in_documents_that_stand_once(rt: HostRuntime) {
+fn a_target_stands_in_documents_that_stand_once(rt: HostRuntime) {
     let alloc = rt.alloc();
     let cases: &[(&[&[u8]], &str)] = &[
         (
@@ -71,6 +71,16 @@ fn a_target_is_a_clear_string_in_documents_that_stand_once(rt: HostRuntime) {
             ],
             "fle: 1 1 23 1.0.1\n",
         ),
+    ];
+    for (elements, line) in cases {
+        refuses_named(&rt, alloc, &insert(&rt, alloc, FILE, elements), line);
+    }
+}
+
+#[test]
+fn a_target_is_a_clear_string(rt: HostRuntime) {
+    let alloc = rt.alloc();
+    let cases: &[(&[&[u8]], &str)] = &[
         (
             &[b"\x02self\x00\x07\x00\x00\x00hr-key\x00"],
             "fle: 1 1 23 1.0.0\n",

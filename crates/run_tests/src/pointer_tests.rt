@@ -135,10 +135,18 @@ fn a_value_is_sealed_under_the_key_that_its_document_names(rt: HostRuntime) {
     seals_named(&rt, alloc, run, &update(&rt, alloc, CLIENT, sealed));
 }
 
+/// The insert of each first list of elements is sealed to that of the second one.
+fn seals_each(rt: &impl Abort, alloc: Global, cases: &[(&[&[u8]], &[&[u8]])]) {
+    let keys = vault(rt, alloc);
+    for (plain, sealed) in cases {
+        let command = insert(rt, alloc, FILE, plain);
+        let run = named(&keys, &command);
+        seals_named(rt, alloc, run, &insert(rt, alloc, FILE, sealed));
+    }
+}
+
 #[test]
 fn each_pointer_leads_to_its_own_key(rt: HostRuntime) {
-    let alloc = rt.alloc();
-    let keys = vault(&rt, alloc);
     let cases: &[(&[&[u8]], &[&[u8]])] = &[
         (&[OWNER, NOTE], &[OWNER, b"\x05note\x00", HR]),
         (
@@ -157,6 +165,13 @@ fn each_pointer_leads_to_its_own_key(rt: HostRuntime) {
                 FINANCE_SECOND,
             ],
         ),
+    ];
+    seals_each(&rt, rt.alloc(), cases);
+}
+
+#[test]
+fn a_target_stands_behind_its_value_or_outside_its_document(rt: HostRuntime) {
+    let cases: &[(&[&[u8]], &[&[u8]])] = &[
         (
             &[AT_FILE, NOTE, OWNER],
             &[b"\x05file\x00", HR, b"\x05note\x00", HR_SECOND, OWNER],
@@ -178,17 +193,11 @@ fn each_pointer_leads_to_its_own_key(rt: HostRuntime) {
             ],
         ),
     ];
-    for (plain, sealed) in cases {
-        let command = insert(&rt, alloc, FILE, plain);
-        let run = named(&keys, &command);
-        seals_named(&rt, alloc, run, &insert(&rt, alloc, FILE, sealed));
-    }
+    seals_each(&rt, rt.alloc(), cases);
 }
 
 #[test]
 fn names_are_any_bytes(rt: HostRuntime) {
-    let alloc = rt.alloc();
-    let keys = vault(&rt, alloc);
     let cases: &[(&[&[u8]], &[&[u8]])] = &[
         (
             &[b"\x02owner\x00\x01\x00\x00\x00\x00", NOTE],
@@ -218,11 +227,7 @@ fn names_are_any_bytes(rt: HostRuntime) {
             ],
         ),
     ];
-    for (plain, sealed) in cases {
-        let command = insert(&rt, alloc, FILE, plain);
-        let run = named(&keys, &command);
-        seals_named(&rt, alloc, run, &insert(&rt, alloc, FILE, sealed));
-    }
+    seals_each(&rt, rt.alloc(), cases);
 }
 
 #[test]

@@ -2,13 +2,13 @@
 
 use crate::keys_tests::VAULT;
 use crate::other_names_tests::{DIARY, LEDGER, SCORES};
-use crate::schema_tests::{NOTES, STAFF, VIEW};
+use crate::schema_tests::NOTES;
 use crate::update_tests::PAIR;
 use crypto_hooks::{Block256, Tables};
 use fle_outside::{Entropy, MemEntropy, MemFolder, MemSink, MemSource};
 use fle_runner::fle;
 use fle_stream::Status;
-use sample_documents::PEOPLE;
+use sample_documents::{PEOPLE, STAFF_INFO, VIEW_INFO};
 use std::alloc::Global;
 use std::process::Abort;
 
@@ -18,7 +18,9 @@ pub(crate) const MASTER: &[u8] =
      \x18\x19\x1a\x1b\x1c\x1d\x1e\x1f\x20!\"#$%&'()*+,-./0123456789:;<=>?@ABCDEFGHIJKLMNOPQRSTUVWXYZ[\\]^_";
 
 /// The infos of `people`, `staff`, `notes`, the view `v`, `pair`, `scores`, `ledger` and `diary`.
-pub(crate) const INFOS: [&[u8]; 8] = [PEOPLE, STAFF, NOTES, VIEW, PAIR, SCORES, LEDGER, DIARY];
+pub(crate) const INFOS: [&[u8]; 8] = [
+    PEOPLE, STAFF_INFO, NOTES, VIEW_INFO, PAIR, SCORES, LEDGER, DIARY,
+];
 
 /// The words of `mark`, `encrypt` and `decrypt`.
 const MARK: [&str; 3] = ["mark", "hr", "infos"];

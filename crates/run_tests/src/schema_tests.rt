@@ -3,18 +3,7 @@
 use crate::keys_tests::VAULT;
 use crate::runs::{Run, joined, marking, sealing, seals, stops, writes};
 use fle_stream::Status;
-use sample_documents::{INSERT, PEOPLE, SEALED_INSERT};
-
-/// The info of `staff`: `a.b` deterministic and an int, its key and algorithm stated by `encryptMetadata` of `a`.
-pub(crate) const STAFF: &[u8] =
-    b"6\x01\x00\x00\x02name\x00\x06\x00\x00\x00staff\x00\x02type\x00\x0b\x00\x00\x00collection\x00\
-     \x03options\x00\x03\x01\x00\x00\x03validator\x00\xf3\x00\x00\x00\x03$jsonSchema\x00\xe1\x00\x00\
-     \x00\x03properties\x00\xd0\x00\x00\x00\x03a\x00\xc8\x00\x00\x00\x02bsonType\x00\x07\x00\x00\x00\
-     object\x00\x03encryptMetadata\x00d\x00\x00\x00\x04keyId\x00\x1d\x00\x00\x00\x050\x00\x10\x00\
-     \x00\x00\x04\x00\x11\x223DUFw\x88\x99\xaa\xbb\xcc\xdd\xee\xff\x00\x02algorithm\x00,\x00\x00\x00\
-     AEAD_AES_256_CBC_HMAC_SHA_512-Deterministic\x00\x00\x03properties\x00-\x00\x00\x00\x03b\x00%\
-     \x00\x00\x00\x03encrypt\x00\x17\x00\x00\x00\x02bsonType\x00\x04\x00\x00\x00int\x00\x00\x00\x00\
-     \x00\x00\x00\x00\x00\x00";
+use sample_documents::{INSERT, PEOPLE, SEALED_INSERT, STAFF_INFO};
 
 /// An info of `people` with `ssn` deterministic and a double.
 const DOUBLE: &[u8] =
@@ -24,11 +13,6 @@ const DOUBLE: &[u8] =
      \x00\x04keyId\x00\x1d\x00\x00\x00\x050\x00\x10\x00\x00\x00\x04\x00\x11\x223DUFw\x88\x99\xaa\xbb\
      \xcc\xdd\xee\xff\x00\x02algorithm\x00,\x00\x00\x00AEAD_AES_256_CBC_HMAC_SHA_512-Deterministic\
      \x00\x02bsonType\x00\x07\x00\x00\x00double\x00\x00\x00\x00\x00\x00\x00\x00";
-
-/// The info of the view `v`.
-pub(crate) const VIEW: &[u8] =
-    b".\x00\x00\x00\x02name\x00\x02\x00\x00\x00v\x00\x02type\x00\x05\x00\x00\x00view\x00\x03options\
-     \x00\x05\x00\x00\x00\x00\x00";
 
 /// The info of `notes`, which has no schema.
 pub(crate) const NOTES: &[u8] =
@@ -62,8 +46,8 @@ fn the_first_faulty_info_is_told_with_its_fault(rt: HostRuntime) {
             "fle: 4 2 31 2\n",
         ),
         (&[NOTES, NOTES], "fle: 4 1 32 2\n", "fle: 4 2 32 2\n"),
-        (&[DOUBLE, STAFF], "fle: 4 1 49 1\n", "fle: 4 2 49 1\n"),
-        (&[STAFF, DOUBLE], "fle: 4 1 49 2\n", "fle: 4 2 49 2\n"),
+        (&[DOUBLE, STAFF_INFO], "fle: 4 1 49 1\n", "fle: 4 2 49 1\n"),
+        (&[STAFF_INFO, DOUBLE], "fle: 4 1 49 2\n", "fle: 4 2 49 2\n"),
     ];
     for (infos, first, second) in cases {
         let run = Run {

@@ -12,6 +12,7 @@ mod commands;
 mod infos;
 mod replies;
 pub mod reply_parts;
+pub mod reply_shapes;
 mod sealed;
 mod vaults;
 
@@ -19,7 +20,7 @@ pub use commands::{
     ARRAY, BOTH, INSERT, INTO_UNKNOWN, INTO_VIEW, NESTED, NO_DOCUMENTS, NOTES, NULL, NUMBER,
     OTHER_DB, PING, SET,
 };
-pub use infos::{CLIENTS, PEOPLE, PEOPLE_SCHEMA, STAFF};
+pub use infos::{CLIENTS, PEOPLE, PEOPLE_SCHEMA, STAFF, STAFF_INFO, VIEW_INFO};
 pub use replies::{NESTED_REPLY, NOTES_REPLY, REPLY};
-pub use sealed::{SEALED_BOTH, SEALED_INSERT};
-pub use vaults::TWO_KEYS;
+pub use sealed::{SEALED_BOTH, SEALED_INSERT, SSN_PAYLOAD};
+pub use vaults::{KEY_ID, KEY_MATERIAL, TWO_KEYS};

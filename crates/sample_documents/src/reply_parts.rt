@@ -28,6 +28,12 @@ pub const SECOND_INT: &[u8] = b"\x10schemaRequiresEncryption\x00\x01\x00\x00\x00
 /// `schemaRequiresEncryption: "y"`
 pub const SECOND_TEXT: &[u8] = b"\x02schemaRequiresEncryption\x00\x02\x00\x00\x00y\x00";
 
+/// `ok: 1.0`
+pub const OK: &[u8] = b"\x01ok\x00\x00\x00\x00\x00\x00\x00\xf0?";
+
+/// `n: int 1`
+pub const N: &[u8] = b"\x10n\x00\x01\x00\x00\x00";
+
 /// The right result of `INSERT` where `people` has its rules, 142 bytes: a marking stands for `ssn`.
 pub const RESULT: &[u8] =
     b"\x03result\x00\x86\x00\x00\x00\x02insert\x00\x07\x00\x00\x00people\x00\x04documents\x00W\x00\x00\x00\x030\x00O\
@@ -45,7 +51,13 @@ pub const MARKED_SALARY: &[u8] =
     b"\x05salary\x00-\x00\x00\x00\x06\x00,\x00\x00\x00\x10v\x00\x07\x00\x00\x00\x10a\x00\x02\x00\x00\x00\x05ki\x00\
     \x10\x00\x00\x00\x04\x00\x11\"3DUFw\x88\x99\xaa\xbb\xcc\xdd\xee\xff\x00";
 
-/// The id of the key in the marking of `ssn`.
+/// The value in the marking of `ssn`.
+pub const V: &[u8] = b"\x02v\x00\x0c\x00\x00\x00123-45-6789\x00";
+
+/// Its algorithm.
+pub const A: &[u8] = b"\x10a\x00\x01\x00\x00\x00";
+
+/// The id of its key.
 pub const KI: &[u8] =
     b"\x05ki\x00\x10\x00\x00\x00\x04\x00\x11\"3DUFw\x88\x99\xaa\xbb\xcc\xdd\xee\xff";
 

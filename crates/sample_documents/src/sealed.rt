@@ -1,4 +1,10 @@
-//! Sealed commands, by Python's hmac and OpenSSL's AES-256-CBC.
+//! A sealed value and sealed commands, by Python's hmac and OpenSSL's AES-256-CBC.
+
+/// The payload of the string "123-45-6789", deterministic, under the first key of the vault, 98 bytes.
+pub const SSN_PAYLOAD: &[u8; 98] =
+    b"\x01\x00\x11\"3DUFw\x88\x99\xaa\xbb\xcc\xdd\xee\xff\x02N:J;\xc6L\\I\x96\x01\xbe\xff\xad\x19\xd3\xc2a\xa5\x9f\xe4z\
+    f\xa6\xd8b\x8e\xc3\x0e\x92\x07L\xb1\xd4\xeap\xd8\x0fa\x15.{w\xb8\xbb\xc48u\xcfVl\x13\xfa\xfa\x1fG>\xa4\xafG\x0aR\
+    \x93\xdb7\xb7\x11\x10ug|y\xc4\xc0{\xa0O\xc1b\x10\x0b";
 
 /// `INSERT` with its `ssn` sealed under the first key of the vault, 175 bytes.
 pub const SEALED_INSERT: &[u8; 175] =

@@ -1,5 +1,18 @@
 //! Data keys as BSON (bsonspec.org), sealed under the master key of the bytes 00 to 5F.
 
+/// The id of the first key of `TWO_KEYS`, the UUID 00112233-4455-4677-8899-aabbccddeeff.
+pub const KEY_ID: [u8; 16] = [
+    0x00, 0x11, 0x22, 0x33, 0x44, 0x55, 0x46, 0x77, 0x88, 0x99, 0xaa, 0xbb, 0xcc, 0xdd, 0xee, 0xff,
+];
+
+/// Its material: the bytes 80 to DF sealed under the IV F0 to FF, by Python's hmac and `cryptography`.
+pub const KEY_MATERIAL: &[u8; 160] =
+    b"\xf0\xf1\xf2\xf3\xf4\xf5\xf6\xf7\xf8\xf9\xfa\xfb\xfc\xfd\xfe\xff\xeb\x1b\xd9^L\x87\xa6\x0e\xd8P\xb5W\x90-U(\x88vk\
+    f\xbdJ)\xac.\xad't<\x08=\x9aP\x9a\x9b\xca<b\xf8\xe5i\x02\"\xe2'\x98\xca\x9dS\xed|C\xa2\xd1\xf0\xd0\x01\x19 \xaf\xbf\
+    X7n\xad\x8a\xe8\x14\x0dw\x08\xcc\xc2\x17#\xf8\xa1]{\x16\x0e\x140QE\x16\x9a\x08j\x90*+\x8e\xd8\xeb\xed\x17\xa4\x1d\
+    \x03\x9f\x91n1\x86\x82\x91zZ\xb9\xdc|\x0c\xda\x9a\"n\xa1\x1c\x80\xbes\xeb\x8b\xeb\xbcv\x8b5Uo$\xc2\xad\xf2\xf8\xb70\
+    \xb7\x16BD\x11\xcd";
+
 /// A vault of two keys, the first with the name `hr-key`, the second with `finance` and `audit`: `examples/keys.bson`,
 /// sealed by Python's hmac and `cryptography`, written by a plain program of BSON's grammar.
 pub const TWO_KEYS: &[u8; 676] =

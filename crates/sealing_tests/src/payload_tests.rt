@@ -9,27 +9,12 @@ use payload6::{
     DETERMINISTIC, PartsFault, PayloadFault, RANDOM, det_iv, marking, marking_named,
     open_payload_into, parts, payload_len, seal_payload_into,
 };
+use sample_documents::{KEY_ID, SSN_PAYLOAD};
 use std::alloc::Global;
 use std::process::Abort;
 
-/// The id of the data key, the UUID 00112233-4455-4677-8899-aabbccddeeff.
-const ID: [u8; 16] = [
-    0x00, 0x11, 0x22, 0x33, 0x44, 0x55, 0x46, 0x77, 0x88, 0x99, 0xaa, 0xbb, 0xcc, 0xdd, 0xee, 0xff,
-];
-
 /// The string "123-45-6789" as BSON has it: its length, its bytes and 00.
 const SSN: &[u8; 16] = b"\x0c\x00\x00\x00123-45-6789\x00";
-
-/// Its deterministic payload, as Python's hmac and OpenSSL's AES-256-CBC have it.
-const SEALED_SSN: [u8; 98] = [
-    0x01, 0x00, 0x11, 0x22, 0x33, 0x44, 0x55, 0x46, 0x77, 0x88, 0x99, 0xaa, 0xbb, 0xcc, 0xdd, 0xee,
-    0xff, 0x02, 0x4e, 0x3a, 0x4a, 0x3b, 0xc6, 0x4c, 0x5c, 0x49, 0x96, 0x01, 0xbe, 0xff, 0xad, 0x19,
-    0xd3, 0xc2, 0x61, 0xa5, 0x9f, 0xe4, 0x7a, 0x66, 0xa6, 0xd8, 0x62, 0x8e, 0xc3, 0x0e, 0x92, 0x07,
-    0x4c, 0xb1, 0xd4, 0xea, 0x70, 0xd8, 0x0f, 0x61, 0x15, 0x2e, 0x7b, 0x77, 0xb8, 0xbb, 0xc4, 0x38,
-    0x75, 0xcf, 0x56, 0x6c, 0x13, 0xfa, 0xfa, 0x1f, 0x47, 0x3e, 0xa4, 0xaf, 0x47, 0x0a, 0x52, 0x93,
-    0xdb, 0x37, 0xb7, 0x11, 0x10, 0x75, 0x67, 0x7c, 0x79, 0xc4, 0xc0, 0x7b, 0xa0, 0x4f, 0xc1, 0x62,
-    0x10, 0x0b,
-];
 
 /// A random payload of a string under a right tag, made in the same way, whose block opens to zeros.
 const WRONGLY_PADDED: [u8; 82] = [
@@ -71,10 +56,10 @@ fn a_payload_is_taken_apart(rt: HostRuntime) {
 #[test]
 fn a_value_is_sealed_as_elsewhere(rt: HostRuntime) {
     let key = DataKey::new(DATA_KEY);
-    let iv = det_iv(&key, ID, 2, SSN);
+    let iv = det_iv(&key, KEY_ID, 2, SSN);
     let mut out = [0; 98];
-    seal_payload_into(&Tables, &key, DETERMINISTIC, ID, 2, iv, SSN, &mut out);
-    assert!(rt; out == SEALED_SSN);
+    seal_payload_into(&Tables, &key, DETERMINISTIC, KEY_ID, 2, iv, SSN, &mut out);
+    assert!(rt; out == *SSN_PAYLOAD);
 }
 
 /// What the opening of a payload answers, of at most 98 bytes.
@@ -94,7 +79,7 @@ fn opened(bytes: &[u8], out: &mut [u8; 98]) -> Option<Result<usize, PayloadFault
 #[test]
 fn a_value_is_opened(rt: HostRuntime) {
     let mut out = [7; 98];
-    assert!(rt; opened(&SEALED_SSN, &mut out) == Some(Ok(16)));
+    assert!(rt; opened(SSN_PAYLOAD, &mut out) == Some(Ok(16)));
     assert!(rt; out.starts_with(SSN));
 }
 
@@ -106,7 +91,7 @@ fn a_wrong_padding_under_a_right_tag_is_refused(rt: HostRuntime) {
 
 #[test]
 fn a_changed_key_id_is_refused_by_the_tag(rt: HostRuntime) {
-    let mut bytes = SEALED_SSN;
+    let mut bytes = *SSN_PAYLOAD;
     bytes[1] = 1;
     let mut out = [7; 98];
     let answer = opened(&bytes, &mut out);
@@ -121,7 +106,9 @@ fn answer_for(tag: u8, plain: &[u8]) -> Option<Result<usize, PayloadFault>> {
     }
     let key = DataKey::new(DATA_KEY);
     let mut bytes = [0; 82];
-    seal_payload_into(&Tables, &key, RANDOM, ID, tag, [9; 16], plain, &mut bytes);
+    seal_payload_into(
+        &Tables, &key, RANDOM, KEY_ID, tag, [9; 16], plain, &mut bytes,
+    );
     let mut out = [0; 98];
     opened(&bytes, &mut out)
 }

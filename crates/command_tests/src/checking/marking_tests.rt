@@ -1,9 +1,10 @@
 //! Markings in a reply: a binary of subtype 06 of 00 and a document of three fields, in whatever order.
 
 use crate::checking::reply_samples::{
-    A, V, differs_at, document_with, insert_with, is_right, reply_with,
+    differs_at, document_with, insert_with, is_right, reply_with,
 };
-use sample_documents::reply_parts::{KI, KJ, OLD_KI, OTHER_KI, SHORT_KI};
+use sample_documents::reply_parts::{A, KI, KJ, OLD_KI, OTHER_KI, SHORT_KI, V};
+use sample_documents::reply_shapes::{FIELD_ORDERS, WRONG_FIELDS};
 use std::alloc::Global;
 
 /// What a marking begins with: its subtype and 00.
@@ -51,34 +52,14 @@ fn differs(alloc: Global, head: &[u8], fields: &[&[u8]], behind: &[u8]) -> bool 
 
 #[test]
 fn its_fields_stand_in_any_order(rt: HostRuntime) {
-    let markings: &[&[&[u8]]] = &[
-        &[V, A, KI],
-        &[V, KI, A],
-        &[A, V, KI],
-        &[A, KI, V],
-        &[KI, V, A],
-        &[KI, A, V],
-    ];
-    for fields in markings {
+    for fields in FIELD_ORDERS {
         assert!(rt; are_right(rt.alloc(), fields));
     }
 }
 
 #[test]
 fn each_of_its_fields_stands_once(rt: HostRuntime) {
-    let markings: &[&[&[u8]]] = &[
-        &[],
-        &[A, KI],
-        &[V, KI],
-        &[V, A],
-        &[V, V, A, KI],
-        &[V, A, A, KI],
-        &[V, A, KI, KI],
-        &[V, V, KI],
-        &[KI, A, KI],
-        &[V, A, KI, b"\x10n\x00\x01\x00\x00\x00"],
-    ];
-    for fields in markings {
+    for fields in WRONG_FIELDS {
         assert!(rt; differs(rt.alloc(), HEAD, fields, b""));
     }
 }

@@ -1,9 +1,9 @@
 //! Replies to a command that no rule concerns: both flags are off, and the result is the command.
 
-use crate::checking::reply_samples::{FIRST_NAME, N, OFF, OK, document_with};
+use crate::checking::reply_samples::{FIRST_NAME, OFF, document_with};
 use crate::documents::document_of;
 use reply_check::{WrongReply, check_passed};
-use sample_documents::reply_parts::{FIRST, SECOND, SECOND_OFF};
+use sample_documents::reply_parts::{FIRST, N, OK, SECOND, SECOND_OFF};
 use sample_documents::{INSERT, NOTES, NOTES_REPLY, PING, REPLY};
 use std::alloc::Global;
 

@@ -6,6 +6,7 @@ use bson_codec::RawDoc;
 use command_marker::{Target, mark_command, target};
 use encrypt_schema::Rows;
 use reply_check::{WrongReply, check_reply};
+use sample_documents::reply_parts::OK;
 use sample_documents::{INSERT, PEOPLE_SCHEMA};
 use std::alloc::Global;
 
@@ -20,18 +21,6 @@ pub(crate) const PLAIN: &[u8] =
     b"\x03result\x00X\x00\x00\x00\x02insert\x00\x07\x00\x00\x00people\x00\x04documents\x00)\x00\
     \x00\x00\x030\x00!\x00\x00\x00\x02ssn\x00\x0c\x00\x00\x00123-45-6789\x00\x10n\x00\x01\x00\
     \x00\x00\x00\x00\x02$db\x00\x03\x00\x00\x00hr\x00\x00";
-
-/// `ok: 1.0`
-pub(crate) const OK: &[u8] = b"\x01ok\x00\x00\x00\x00\x00\x00\x00\xf0?";
-
-/// `n: int 1`
-pub(crate) const N: &[u8] = b"\x10n\x00\x01\x00\x00\x00";
-
-/// The value in that marking.
-pub(crate) const V: &[u8] = b"\x02v\x00\x0c\x00\x00\x00123-45-6789\x00";
-
-/// Its algorithm.
-pub(crate) const A: &[u8] = b"\x10a\x00\x01\x00\x00\x00";
 
 /// A document or an array of these elements, and those before and behind them.
 pub(crate) fn document(

@@ -1,12 +1,12 @@
 //! The result of a reply: the command, but for its protected values.
 
 use crate::checking::reply_samples::{
-    N, differs_at, document_with, found_under, insert_with, is_right, reply_with,
+    differs_at, document_with, found_under, insert_with, is_right, reply_with,
 };
 use crate::documents::whole;
 use reply_check::WrongReply;
 use sample_documents::PEOPLE_SCHEMA;
-use sample_documents::reply_parts::{MARKED_SALARY, MARKED_SSN};
+use sample_documents::reply_parts::{MARKED_SALARY, MARKED_SSN, N};
 use std::alloc::Global;
 
 /// `ssn: "123-45-6789"`

@@ -1,11 +1,12 @@
 //! The three elements of a reply that are read: each exactly once, of its type, in any order.
 
 use crate::checking::reply_samples::{
-    FIRST_NAME, OFF, OK, PLAIN, differs_at, document_with, is_misshapen_at, is_right,
+    FIRST_NAME, OFF, PLAIN, differs_at, document_with, is_misshapen_at, is_right,
 };
 use sample_documents::reply_parts::{
-    FIRST, FIRST_CUT, FIRST_INT, FIRST_NULL, RESULT, SECOND, SECOND_INT, SECOND_OFF, SECOND_TEXT,
+    FIRST, FIRST_INT, FIRST_NULL, OK, RESULT, SECOND, SECOND_INT, SECOND_OFF, SECOND_TEXT,
 };
+use sample_documents::reply_shapes::{INCOMPLETE, ORDERS, WITH_OTHERS};
 use std::alloc::Global;
 
 /// `result: true`
@@ -43,69 +44,21 @@ fn are_misshapen_at(alloc: Global, elements: &[&[u8]], place: u32) -> bool {
 
 #[test]
 fn the_three_stand_in_any_order(rt: HostRuntime) {
-    let replies: &[&[&[u8]]] = &[
-        &[FIRST, SECOND, RESULT],
-        &[FIRST, RESULT, SECOND],
-        &[SECOND, FIRST, RESULT],
-        &[SECOND, RESULT, FIRST],
-        &[RESULT, FIRST, SECOND],
-        &[RESULT, SECOND, FIRST],
-    ];
-    for elements in replies {
+    for elements in ORDERS {
         assert!(rt; are_right(rt.alloc(), elements));
     }
 }
 
 #[test]
 fn other_elements_are_not_read(rt: HostRuntime) {
-    let replies: &[&[&[u8]]] = &[
-        &[OK, FIRST, OK, SECOND, RESULT, OK],
-        &[
-            FIRST,
-            b"\x08ok\x00\x00",
-            SECOND,
-            b"\x02errmsg\x00\x02\x00\x00\x00x\x00",
-            RESULT,
-        ],
-        &[
-            b"\x10resul\x00\x01\x00\x00\x00",
-            FIRST,
-            SECOND,
-            RESULT,
-            b"\x10results\x00\x01\x00\x00\x00",
-        ],
-        &[
-            b"\x10Result\x00\x01\x00\x00\x00",
-            FIRST,
-            b"\x10\x00\x01\x00\x00\x00",
-            SECOND,
-            RESULT,
-        ],
-        &[FIRST_CUT, FIRST, SECOND, RESULT],
-        &[
-            FIRST,
-            SECOND,
-            b"\x08schemaRequiresEncryptions\x00\x00",
-            RESULT,
-        ],
-    ];
-    for elements in replies {
+    for elements in WITH_OTHERS {
         assert!(rt; are_right(rt.alloc(), elements));
     }
 }
 
 #[test]
 fn each_of_the_three_is_wanted(rt: HostRuntime) {
-    let replies: &[&[&[u8]]] = &[
-        &[],
-        &[OK],
-        &[SECOND, RESULT, OK],
-        &[FIRST, RESULT, OK],
-        &[FIRST, SECOND, OK],
-        &[FIRST_NAME, OFF, SECOND, OK],
-        &[FIRST, b"\x08schemaRequiresEncryptio\x00\x01", RESULT],
-    ];
-    for elements in replies {
+    for elements in INCOMPLETE {
         assert!(rt; are_misshapen_at(rt.alloc(), elements, 0));
     }
 }

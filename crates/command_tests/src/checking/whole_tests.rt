@@ -1,12 +1,12 @@
 //! Whole replies: those that were worked out elsewhere, and those that stand inside another document.
 
 use crate::checking::reply_samples::{
-    FIRST_NAME, OFF, OK, PLAIN, document, document_with, found, found_under,
+    FIRST_NAME, OFF, PLAIN, document, document_with, found, found_under,
 };
 use crate::documents::{document_of, rows_of};
 use bson_codec::RawDoc;
 use reply_check::WrongReply;
-use sample_documents::reply_parts::{FIRST, RESULT, SECOND, SECOND_OFF};
+use sample_documents::reply_parts::{FIRST, OK, RESULT, SECOND, SECOND_OFF};
 use sample_documents::{
     INSERT, NESTED, NESTED_REPLY, NOTES, NOTES_REPLY, PEOPLE_SCHEMA, REPLY, STAFF,
 };

@@ -2,7 +2,7 @@
 
 use crate::documents::document_of;
 use crate::machine::decrypting_samples::{
-    ID, OTHER_ID, is_filter_of_two, is_opened, is_three_opened, master, sealed, three_sealed,
+    OTHER_ID, is_filter_of_two, is_opened, is_three_opened, master, sealed, three_sealed,
 };
 use crate::machine::fed_keys::{Fed, keys};
 use crate::machine::filters::is_filter_of_one;
@@ -12,6 +12,7 @@ use data_key::KeyDoc;
 use doc_rewrite::Spot;
 use encrypt_schema::{MarkFault, Reason};
 use key_vault::KeyCache;
+use sample_documents::KEY_ID;
 use std::alloc::Global;
 
 /// The state in which a document asks for its keys, with these fed; `None` where it isn't reached.
@@ -77,7 +78,7 @@ fn needs(asking: &DecryptNeedKeys<'_>, ids: &[[u8; 16]]) -> bool {
 fn a_document_asks_for_its_key(rt: HostRuntime) {
     let bytes = sealed();
     let asking = fed(rt.alloc(), &bytes, &[]).expect(&rt, "no keys are asked for");
-    assert!(rt; needs(&asking, &[ID]));
+    assert!(rt; needs(&asking, &[KEY_ID]));
     assert!(rt; matches!(&asking.op(rt.alloc()), Ok(f) if is_filter_of_one(f)));
 }
 
@@ -85,7 +86,7 @@ fn a_document_asks_for_its_key(rt: HostRuntime) {
 fn a_document_asks_once_for_each_key_in_order_of_first_use(rt: HostRuntime) {
     let bytes = three_sealed();
     let asking = fed(rt.alloc(), &bytes, &[]).expect(&rt, "no keys are asked for");
-    assert!(rt; needs(&asking, &[OTHER_ID, ID]));
+    assert!(rt; needs(&asking, &[OTHER_ID, KEY_ID]));
     assert!(rt; matches!(&asking.op(rt.alloc()), Ok(f) if is_filter_of_two(f)));
 }
 

@@ -1,16 +1,17 @@
 //! The keys that the tests feed.
 
-use crate::machine::decrypting_samples::{ID, OTHER_ID, material, other_material};
+use crate::machine::decrypting_samples::{OTHER_ID, material, other_material};
 use crate::machine::named_samples::{NAME, OLD_NAME};
 use crate::machine::sealing_samples::SECOND_ID;
 use bson_tree::{Bytes, Names};
 use data_key::{KeyDoc, Provider};
+use sample_documents::KEY_ID;
 use std::alloc::Global;
 
 /// Which key is fed.
 #[derive(Clone, Copy)]
 pub(crate) enum Fed {
-    /// The key of `ID`.
+    /// The key of `KEY_ID`.
     Right,
     /// The same, the last byte of its tag another.
     Damaged,
@@ -33,7 +34,7 @@ impl Fed {
             Fed::Second => SECOND_ID,
             Fed::Other => OTHER_ID,
             Fed::Unneeded => [9; 16],
-            _ => ID,
+            _ => KEY_ID,
         }
     }
 

@@ -1,7 +1,7 @@
 //! Commands that are refused, each at its place, and the states that come back and go on.
 
 use crate::documents::document_of;
-use crate::machine::decrypting_samples::{ID, master};
+use crate::machine::decrypting_samples::master;
 use crate::machine::fed_keys::{Fed, keys};
 use crate::machine::sealing_samples::{
     SECOND_ID, infos, into_a_view, is_two_documents_sealed, is_two_keys_sealed, null_stored,
@@ -13,6 +13,7 @@ use crypto_hooks::Tables;
 use data_key::KeyDoc;
 use encrypt_schema::{MarkFault, Reason};
 use key_vault::KeyCache;
+use sample_documents::KEY_ID;
 use std::alloc::Global;
 
 /// Whether a fault is this refusal.
@@ -35,7 +36,7 @@ fn refused(reason: Reason, at: u32) -> KeysStop {
 
 /// Why these keys don't do for the command of two documents; `None` where they do, or are never asked for.
 fn stop(alloc: Global, keys: &[Fed]) -> Option<KeysStop> {
-    let held = having(alloc, ID, keys)?;
+    let held = having(alloc, KEY_ID, keys)?;
     let (_, stop) = stopped(alloc, fed(alloc, &held, two_documents())?)?;
     Some(stop)
 }
@@ -54,20 +55,20 @@ fn a_field_that_is_wrong_by_itself_is_refused_at_once(rt: HostRuntime) {
 
 #[test]
 fn a_view_is_refused_at_the_first_field(rt: HostRuntime) {
-    let infos = infos(rt.alloc(), ID).expect(&rt, "no infos");
+    let infos = infos(rt.alloc(), KEY_ID).expect(&rt, "no infos");
     let told = told(&infos, into_a_view(), b"v");
     assert!(rt; matches!(&told, Some(Err(fault)) if is_refusal(fault, Reason::View, 12)));
 }
 
 #[test]
 fn an_info_of_another_collection_isnt_kept(rt: HostRuntime) {
-    let infos = infos(rt.alloc(), ID).expect(&rt, "no infos");
+    let infos = infos(rt.alloc(), KEY_ID).expect(&rt, "no infos");
     assert!(rt; matches!(&told(&infos, one_string(), b"v"), Some(Ok(_))));
 }
 
 #[test]
 fn a_value_that_isnt_allowed_is_refused_where_it_stands(rt: HostRuntime) {
-    let infos = infos(rt.alloc(), ID).expect(&rt, "no infos");
+    let infos = infos(rt.alloc(), KEY_ID).expect(&rt, "no infos");
     let marks = marks(&infos, null_stored()).expect(&rt, "no marks are asked for");
     let back = marks.mark_here(rt.alloc()).err();
     let (marks, fault) = back.expect(&rt, "it isn't refused");
@@ -89,7 +90,12 @@ fn a_key_that_isnt_to_be_had_is_told_at_the_first_value(rt: HostRuntime) {
 
 #[test]
 fn the_first_key_of_an_id_seals(rt: HostRuntime) {
-    let bytes = sealed_with(rt.alloc(), ID, &[Fed::Right, Fed::Damaged], two_documents());
+    let bytes = sealed_with(
+        rt.alloc(),
+        KEY_ID,
+        &[Fed::Right, Fed::Damaged],
+        two_documents(),
+    );
     assert!(rt; matches!(&bytes, Some(b) if is_two_documents_sealed(b)));
 }
 
@@ -131,7 +137,7 @@ fn cached_stop(alloc: Global, cache: &mut KeyCache, waits: NeedKeys<'_>) -> Opti
 
 /// Whether the command of one value is ready by a cache with this key alone, at `None`, or isn't, for this.
 fn caches(alloc: Global, cache: &mut KeyCache, key: Fed, stop: Option<KeysStop>) -> bool {
-    let Some(held) = having(alloc, ID, &[key]) else {
+    let Some(held) = having(alloc, KEY_ID, &[key]) else {
         return false;
     };
     match fed(alloc, &held, one_string()) {

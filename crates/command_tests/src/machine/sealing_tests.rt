@@ -1,7 +1,7 @@
 //! Commands sealed state by state, as elsewhere.
 
 use crate::documents::document_of;
-use crate::machine::decrypting_samples::{ID, master};
+use crate::machine::decrypting_samples::master;
 use crate::machine::fed_keys::{Fed, keys};
 use crate::machine::filters::{is_filter_of_one, is_filter_of_people};
 use crate::machine::sealing_samples::{
@@ -14,6 +14,7 @@ use data_key::KeyDoc;
 use encrypt_schema::{Infos, MarkFault};
 use fle_outside::MemEntropy;
 use key_vault::KeyCache;
+use sample_documents::KEY_ID;
 use std::alloc::Global;
 
 /// The state in which the info of a command's collection is asked for; `None` where it isn't.
@@ -134,21 +135,21 @@ fn needs_alone(waits: &NeedKeys<'_>, id: [u8; 16], at: u32) -> bool {
 
 #[test]
 fn the_keys_are_asked_for_by_their_ids(rt: HostRuntime) {
-    let held = having(rt.alloc(), ID, &[]).expect(&rt, "no memory");
+    let held = having(rt.alloc(), KEY_ID, &[]).expect(&rt, "no memory");
     let waits = fed(rt.alloc(), &held, two_documents()).expect(&rt, "no keys are asked for");
     assert!(rt; matches!(&waits.op(rt.alloc()), Ok(f) if is_filter_of_one(f)));
-    assert!(rt; needs_alone(&waits, ID, 53));
+    assert!(rt; needs_alone(&waits, KEY_ID, 53));
 }
 
 #[test]
 fn one_value_is_sealed_as_elsewhere(rt: HostRuntime) {
-    let bytes = sealed_with(rt.alloc(), ID, &[Fed::Right], one_string());
+    let bytes = sealed_with(rt.alloc(), KEY_ID, &[Fed::Right], one_string());
     assert!(rt; matches!(&bytes, Some(b) if is_one_string_sealed(b)));
 }
 
 #[test]
 fn random_values_are_sealed_with_a_block_each(rt: HostRuntime) {
-    let bytes = sealed_with(rt.alloc(), ID, &[Fed::Right], two_documents());
+    let bytes = sealed_with(rt.alloc(), KEY_ID, &[Fed::Right], two_documents());
     assert!(rt; matches!(&bytes, Some(b) if is_two_documents_sealed(b)));
 }
 
@@ -161,7 +162,7 @@ fn finished_by(alloc: Global, cache: &mut KeyCache, waits: NeedKeys<'_>) -> Opti
 
 /// The command of one value, sealed by a cache; `None` where it isn't.
 fn sealed_by(alloc: Global, cache: &mut KeyCache) -> Option<Vec<u8>> {
-    let held = having(alloc, ID, &[Fed::Right])?;
+    let held = having(alloc, KEY_ID, &[Fed::Right])?;
     finished_by(alloc, cache, fed(alloc, &held, one_string())?)
 }
 
@@ -180,7 +181,7 @@ fn keys_that_a_cache_opened_seal_the_same(rt: HostRuntime) {
 
 #[test]
 fn a_command_without_protected_values_needs_no_key(rt: HostRuntime) {
-    let held = having(rt.alloc(), ID, &[]).expect(&rt, "no memory");
+    let held = having(rt.alloc(), KEY_ID, &[]).expect(&rt, "no memory");
     let waits = fed(rt.alloc(), &held, unknown()).expect(&rt, "it isn't marked");
     assert!(rt; waits.needed(0).is_none());
     let bytes = sealed(rt.alloc(), waits);
@@ -199,7 +200,7 @@ fn keys_are_fed_in_any_order_and_number(rt: HostRuntime) {
     let fed_keys = &[Fed::Unneeded, Fed::Right, Fed::Second, Fed::Right];
     let held = having(rt.alloc(), SECOND_ID, fed_keys).expect(&rt, "no memory");
     let waits = fed(rt.alloc(), &held, two_documents()).expect(&rt, "no keys are asked for");
-    assert!(rt; is_id(waits.needed(0), SECOND_ID) && is_id(waits.needed(1), ID));
+    assert!(rt; is_id(waits.needed(0), SECOND_ID) && is_id(waits.needed(1), KEY_ID));
     assert!(rt; matches!(&sealed(rt.alloc(), waits), Some(b) if is_two_keys_sealed(b)));
 }
 
@@ -220,7 +221,7 @@ fn sealed_anew(alloc: Global, ready: Ready<'_>) -> Option<Vec<u8>> {
 
 #[test]
 fn after_a_failed_draw_all_blocks_are_drawn_anew(rt: HostRuntime) {
-    let held = having(rt.alloc(), ID, &[Fed::Right]).expect(&rt, "no memory");
+    let held = having(rt.alloc(), KEY_ID, &[Fed::Right]).expect(&rt, "no memory");
     let waits = fed(rt.alloc(), &held, two_documents()).expect(&rt, "no keys are asked for");
     let ready = ready(rt.alloc(), waits).expect(&rt, "not ready");
     assert!(rt; matches!(&sealed_anew(rt.alloc(), ready), Some(b) if is_two_documents_sealed(b)));

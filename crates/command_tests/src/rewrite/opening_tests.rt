@@ -16,12 +16,8 @@ use doc_rewrite::{FindFault, KeyTable, Spot, find_payloads, open_through};
 use encrypt_schema::Reason;
 use fle_aead::DataKey;
 use fle_vectors::DATA_KEY;
+use sample_documents::KEY_ID;
 use std::alloc::Global;
-
-/// The id of the data key, the UUID 00112233-4455-4677-8899-aabbccddeeff.
-const ID: [u8; 16] = [
-    0x00, 0x11, 0x22, 0x33, 0x44, 0x55, 0x46, 0x77, 0x88, 0x99, 0xaa, 0xbb, 0xcc, 0xdd, 0xee, 0xff,
-];
 
 /// Why a document isn't opened.
 #[derive(Clone, Copy, PartialEq, Eq)]
@@ -38,7 +34,7 @@ pub(crate) fn refusal(reason: Reason, at: u32) -> Refused {
 /// The data key of the tests, alone.
 pub(crate) fn key_of_tests(alloc: Global) -> Option<KeyTable> {
     let mut keys = KeyTable::new(alloc);
-    keys.add(ID, DataKey::new(DATA_KEY)).ok()?;
+    keys.add(KEY_ID, DataKey::new(DATA_KEY)).ok()?;
     Some(keys)
 }
 

@@ -1,8 +1,9 @@
 //! Documents with payloads that were made outside this repository, by Python's hmac and OpenSSL's AES-256-CBC.
 
-use crate::rewrite::sample_bytes::{SALARY_7_BY_02, SALARY_8_BY_03, SSN};
+use crate::rewrite::sample_bytes::{SALARY_7_BY_02, SALARY_8_BY_03};
 use crate::rewrite::samples::{BOTH_FRONT, Sample};
 use encrypt_schema::{Mark, Role};
+use sample_documents::SSN_PAYLOAD;
 
 /// `{insert: "people", documents: [{salary: payload}], $db: "hr"}`, its payload
 /// sealed over a document that holds what begins as one.
@@ -88,7 +89,7 @@ pub(crate) const TWO_DOCUMENTS_ANEW: &[&[u8]] = &[
     b"\x00\x030\x00d\x00\x00\x00\x05salary\x00R\x00\x00\x00\x06",
     SALARY_7_BY_02,
     b"\x00\x031\x00\xd0\x00\x00\x00\x05ssn\x00b\x00\x00\x00\x06",
-    SSN,
+    SSN_PAYLOAD,
     b"\x05salary\x00R\x00\x00\x00\x06",
     SALARY_8_BY_03,
     b"\x00\x00\x02$db\x00\x03\x00\x00\x00hr\x00\x00",

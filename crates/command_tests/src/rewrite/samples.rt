@@ -1,7 +1,8 @@
 //! Commands with what they are sealed to under the random blocks of 01 and of 02.
 
-use crate::rewrite::sample_bytes::{AB, SALARY_7, SALARY_8, SALARY_70000, SSN, X, Y};
+use crate::rewrite::sample_bytes::{AB, SALARY_7, SALARY_8, SALARY_70000, X, Y};
 use encrypt_schema::{Mark, Role};
+use sample_documents::SSN_PAYLOAD;
 
 /// A command, the marks of its protected values, and what it is sealed to, texts and payloads one behind the other.
 #[derive(Drop)]
@@ -31,7 +32,7 @@ pub(crate) const ONE_STRING: Sample = Sample {
     sealed: &[
         b"\xaf\x00\x00\x00\x02insert\x00\x07\x00\x00\x00people\x00\x04documents\x00\x80",
         b"\x00\x00\x00\x030\x00x\x00\x00\x00\x05ssn\x00b\x00\x00\x00\x06",
-        SSN,
+        SSN_PAYLOAD,
         b"\x10n\x00\x01\x00\x00\x00\x00\x00\x02$db\x00\x03\x00\x00\x00hr\x00\x00",
     ],
 };
@@ -104,7 +105,7 @@ pub(crate) const TWO_DOCUMENTS: Sample = Sample {
         b"\x00\x030\x00d\x00\x00\x00\x05salary\x00R\x00\x00\x00\x06",
         SALARY_7,
         b"\x00\x031\x00\xd0\x00\x00\x00\x05ssn\x00b\x00\x00\x00\x06",
-        SSN,
+        SSN_PAYLOAD,
         b"\x05salary\x00R\x00\x00\x00\x06",
         SALARY_8,
         b"\x00\x00\x02$db\x00\x03\x00\x00\x00hr\x00\x00",
@@ -297,7 +298,7 @@ pub(crate) const FROM_A_DRIVER: Sample = Sample {
         b"uments\x00\xf7\x00\x00\x00\x030\x00\xef\x00\x00\x00\x07_id\x00\x00\x01\x02\x03",
         b"\x04\x05\x06\x07\x08\x09\x0a\x0b\x02name\x00\x04\x00\x00\x00Ada\x00\x05ssn\x00b",
         b"\x00\x00\x00\x06",
-        SSN,
+        SSN_PAYLOAD,
         b"\x05salary\x00R\x00\x00\x00\x06",
         SALARY_70000,
         b"\x00\x00\x02$db\x00\x03\x00\x00\x00hr\x00\x00",

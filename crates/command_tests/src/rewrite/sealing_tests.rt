@@ -3,7 +3,6 @@
 use crate::documents::{document_of, whole};
 use crate::rewrite::deep_samples::UNDER_47_NAMES;
 use crate::rewrite::payload_samples::{OF_A_DOCUMENT, TWO_DOCUMENTS_ANEW};
-use crate::rewrite::sample_bytes::INFOS;
 use crate::rewrite::samples::{
     DOTTED, EMPTY_LIST, EQUAL_NAMES, FROM_A_DRIVER, IN_LIST, NESTED, ONE_INT, ONE_STRING, Sample,
     TWO_DOCUMENTS,
@@ -16,18 +15,14 @@ use encrypt_schema::{Infos, Mark, Marks, Rows};
 use fle_aead::DataKey;
 use fle_outside::{Failed, MemEntropy};
 use fle_vectors::DATA_KEY;
+use sample_documents::{KEY_ID, PEOPLE, STAFF_INFO};
 use std::alloc::Global;
-
-/// The id of the data key, the UUID 00112233-4455-4677-8899-aabbccddeeff.
-const ID: [u8; 16] = [
-    0x00, 0x11, 0x22, 0x33, 0x44, 0x55, 0x46, 0x77, 0x88, 0x99, 0xaa, 0xbb, 0xcc, 0xdd, 0xee, 0xff,
-];
 
 /// The data key of the tests behind another one.
 fn keys_of_tests(alloc: Global) -> Option<KeyTable> {
     let mut keys = KeyTable::new(alloc);
     keys.add([7; 16], DataKey::new([0; 96])).ok()?;
-    keys.add(ID, DataKey::new(DATA_KEY)).ok()?;
+    keys.add(KEY_ID, DataKey::new(DATA_KEY)).ok()?;
     Some(keys)
 }
 
@@ -87,13 +82,22 @@ fn seal_sample(
     seal(alloc, rows, document, &marks, &keys, entropy)
 }
 
+/// The infos of `people` (`ssn` deterministic, `salary` random) and of `staff` (`a.b` deterministic).
+fn infos(alloc: Global) -> Option<Infos> {
+    let file = whole(alloc, &[PEOPLE, STAFF_INFO])?;
+    if file.len() > 10_000 {
+        return None;
+    }
+    Infos::load(alloc, &file).ok()
+}
+
 /// What a sample is sealed to, or that a draw failed; `None` where that couldn't be tried.
 fn sealed_by(
     alloc: Global,
     sample: &Sample,
     entropy: &mut MemEntropy,
 ) -> Option<Result<Vec<u8>, Failed>> {
-    let infos = Infos::load(alloc, INFOS).ok()?;
+    let infos = infos(alloc)?;
     let info = infos.info_of(sample.collection)?;
     let bytes = whole(alloc, sample.command)?;
     let document = document_of(&bytes)?;

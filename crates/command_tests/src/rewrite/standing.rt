@@ -24,14 +24,6 @@ fn site_at<'a>(sites: &Sites<'a>, i: usize) -> Option<Site<'a>>
     if i < sites.len() { sites.get(i) } else { None }
 }
 
-/// The mark of this number, counted from 0.
-fn mark_at(marks: &Marks, i: usize) -> Option<Mark>
-    ensures first { MatchOption result (drop i marks.now ≡ [])
-        (λ m. drop i marks.now ≡ m ∷ drop (i + 1) marks.now) }
-{
-    marks.get(i)
-}
-
 /// The number of the site behind those of an element.
 #[cycle(stand)]
 fn stand_at(sites: &Sites<'_>, next: usize, item: &RawItem<'_>) -> Option<usize>
@@ -75,7 +67,7 @@ fn are_ruled(marks: &Marks, rows: &Rows) -> bool
     ensures ruled { IsTrue result → AreRuled (length rows.now) marks.now }
 {
     for i in 0..marks.len() {
-        match mark_at(marks, i) {
+        match marks.get(i) {
             Some(mark) => if mark.policy >= rows.len() {
                 return false;
             },
@@ -114,7 +106,7 @@ fn are_named(document: &RawDoc<'_>, marks: &Marks, rows: &Rows) -> bool
     ensures named { IsTrue result → AreNamed rows.now document.now marks.now }
 {
     for i in 0..marks.len() {
-        match mark_at(marks, i) {
+        match marks.get(i) {
             Some(mark) => if !is_named(document, &mark, rows) {
                 return false;
             },

@@ -1,8 +1,8 @@
 use Rattle.std.proofs.Common.{sym}
-use Rattle.fle_bench.proofs.Sealable.{marked_stand}
+use Rattle.doc_rewrite.proofs.Stands.{marked_stand}
 use Rattle.fle_bench.proofs.sealing.seal_marked.Goals as goal
 
 pub seal-requires-clause-stands : goal.seal-requires-clause-stands
 seal-requires-clause-stands c =
-    marked_stand c.args.marked.now c.rows.result.now c.marks.result.now c.command.result
+    marked_stand c.args.marked.now.rows c.rows.result.now c.args.marked.now.command c.marks.result.now c.command.result
     (sym c.command.ensures.command) c.rows.ensures.rows c.marks.ensures.marks c.marks.ensures.accepted

@@ -1,5 +1,0 @@
-use Rattle.doc_rewrite.proofs.Policies.{first_left}
-use Rattle.command_tests.proofs.rewrite.standing.mark_at.Goals as goal
-
-pub returns : goal.returns
-returns c = record { first = first_left c.args.i c.args.marks.now c.get.result c.get.ensures.mark }
