@@ -3,7 +3,7 @@
  * BYTES is the length of the binary's contents, which count up from 0 to 250, again and again; the key and
  * its id are those of fle_bench. Prints the number of bytes of the last payload or value, and exits with 1 where
  * the library refuses. Each turn seals or opens the same, since the library takes a key id only where it has the key,
- * and draws its vectors: the answers of fle_bench, whose turns are fed by one another, aren't its own. */
+ * and draws its IVs: the answers of fle_bench, whose turns are fed by one another, aren't its own. */
 #include <bson/bson.h>
 #include <mongocrypt.h>
 #include <stdio.h>

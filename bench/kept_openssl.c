@@ -24,7 +24,7 @@ static const unsigned char key_id[16] = {0x00, 0x11, 0x22, 0x33, 0x44, 0x55, 0x4
                                          0x88, 0x99, 0xaa, 0xbb, 0xcc, 0xdd, 0xee, 0xff};
 static const unsigned char bits[8] = {0, 0, 0, 0, 0, 0, 0, 144};
 static unsigned char key[96];
-static HMAC_CTX *mac, *vector, *running;
+static HMAC_CTX *mac, *iv_mac, *running;
 static EVP_CIPHER_CTX *sealing, *opening;
 
 static void die(const char *what) {
@@ -32,8 +32,8 @@ static void die(const char *what) {
     exit(1);
 }
 
-/* The code of up to three parts from a kept state. */
-static void code(HMAC_CTX *kept, const unsigned char *a, size_t na, const unsigned char *b, size_t nb,
+/* The MAC of up to three parts from a kept state. */
+static void mac_of(HMAC_CTX *kept, const unsigned char *a, size_t na, const unsigned char *b, size_t nb,
                  const unsigned char *c, size_t nc, unsigned char out[64]) {
     unsigned size = 64;
     if (!HMAC_CTX_copy(running, kept) || !HMAC_Update(running, a, na) || !HMAC_Update(running, b, nb) ||
@@ -64,18 +64,18 @@ static size_t encrypted(const unsigned char *iv, const unsigned char *plain, siz
     return (size_t)(n + rest);
 }
 
-/* A value: vector, blocks, tag, with 18 bytes of associated data; the vector is derived where none is given. */
+/* A value: IV, blocks, tag, with 18 bytes of associated data; the IV is derived where none is given. */
 static size_t seal(const unsigned char *iv, const unsigned char aad[18], const unsigned char *plain, size_t size,
                    unsigned char *out) {
     unsigned char sum[64];
     if (iv) {
         memcpy(out, iv, 16);
     } else {
-        code(vector, aad, 18, bits, 8, plain, size, sum);
+        mac_of(iv_mac, aad, 18, bits, 8, plain, size, sum);
         memcpy(out, sum, 16);
     }
     size_t n = 16 + encrypted(out, plain, size, out + 16);
-    code(mac, aad, 18, out, n, bits, 8, sum);
+    mac_of(mac, aad, 18, out, n, bits, 8, sum);
     memcpy(out + n, sum, 32);
     return n + 32;
 }
@@ -83,7 +83,7 @@ static size_t seal(const unsigned char *iv, const unsigned char aad[18], const u
 static void open_value(const unsigned char aad[18], const unsigned char *sealed, size_t size, unsigned char *out) {
     unsigned char sum[64];
     int n = 0, rest = 0;
-    code(mac, aad, 18, sealed, size - 32, bits, 8, sum);
+    mac_of(mac, aad, 18, sealed, size - 32, bits, 8, sum);
     if (CRYPTO_memcmp(sum, sealed + size - 32, 32)) die("tag");
     if (!EVP_DecryptInit_ex(opening, NULL, NULL, NULL, sealed) ||
         !EVP_DecryptUpdate(opening, out, &n, sealed + 16, (int)(size - 48)) ||
@@ -97,7 +97,7 @@ static void print_line(char **words, const unsigned char *bytes, size_t size) {
     printf("%s %s %s %02x%02x%02x%02x\n", words[1], words[2], words[3], digest[0], digest[1], digest[2], digest[3]);
 }
 
-/* The last block of each answer is the next vector. */
+/* The last block of each answer is the next IV. */
 static void cbc_seal(char **words, const unsigned char *plain, size_t size, unsigned long turns, unsigned char *out) {
     unsigned char iv[16];
     size_t n = 16 * (size / 16 + 1);
@@ -122,13 +122,13 @@ static void cbc_open(char **words, const unsigned char *plain, size_t size, unsi
     print_line(words, out, n);
 }
 
-/* The last 16 bytes of each code stand in place of the next text's first 16. */
-static void codes(char **words, const unsigned char *text, size_t size, unsigned long turns) {
+/* The last 16 bytes of each MAC stand in place of the next text's first 16. */
+static void macs(char **words, const unsigned char *text, size_t size, unsigned long turns) {
     unsigned char sum[64] = {0}, block[16];
-    if (size < 16) die("the message of a code is shorter than 16 bytes");
+    if (size < 16) die("the message of a MAC is shorter than 16 bytes");
     memcpy(block, counting, 16);
     for (unsigned long turn = 0; turn < turns; turn++) {
-        code(mac, block, 16, text + 16, size - 16, NULL, 0, sum);
+        mac_of(mac, block, 16, text + 16, size - 16, NULL, 0, sum);
         memcpy(block, sum + 48, 16);
     }
     print_line(words, sum, 64);
@@ -182,12 +182,12 @@ int main(int count, char **words) {
         opens ? cbc_open(words, plain, size, turns, out, next) : cbc_seal(words, plain, size, turns, out);
     } else if (!strncmp(words[1], "hmac", 4)) {
         mac = begun(cbc_key);
-        codes(words, plain, size, turns);
+        macs(words, plain, size, turns);
     } else if (payload || !strncmp(words[1], "aead", 4)) {
         const unsigned char *iv = random ? counting : NULL;
         ciphers(key + 32);
         mac = begun(key);
-        vector = begun(key + 64);
+        iv_mac = begun(key + 64);
         aad[0] = random ? 2 : 1;
         memcpy(aad + 1, key_id, 16);
         aad[17] = payload ? 5 : 2;

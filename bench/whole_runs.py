@@ -10,7 +10,7 @@ from forge import cbc, data_key, sealed as sealed_blocks
 KEY_ID = bytes.fromhex("00112233445546778899aabbccddeeff")  # that of examples/people.schemas.json
 ENCRYPT = ["encrypt", "hr", "keys.bson", "schemas.json", "master.key"]
 DECRYPT = ["decrypt", "keys.bson", "master.key"]
-HEAD, VECTOR, TAG = 18, 16, 32  # how long the parts of a payload are around its blocks
+HEAD, IV, TAG = 18, 16, 32  # how long the parts of a payload are around its blocks
 TAG_PLACES = (0, 10, 21, 31)
 # Ends of a last block that stand in place of 03 03 03, and are no padding.
 WRONG_ENDS = [bytes.fromhex(end) for end in
@@ -109,8 +109,8 @@ def with_wrong_paddings(sealed, folder):
     with open(f"{folder}/master.key", "rb") as master, open(f"{folder}/keys.bson", "rb") as keys:
         key = data_key(master.read(), keys.read())
     payload = payloads_of(elements_of(sealed))[-1]
-    head, vector, blocks = payload[:HEAD], payload[HEAD:HEAD + VECTOR], payload[HEAD + VECTOR:-TAG]
-    plain = cbc("-d", key[32:64], vector, blocks)
+    head, iv, blocks = payload[:HEAD], payload[HEAD:HEAD + IV], payload[HEAD + IV:-TAG]
+    plain = cbc("-d", key[32:64], iv, blocks)
     if not plain.endswith(b"\3\3\3"):
         raise ValueError("the last value has another padding than three bytes")
     return [sealed.replace(payload, head + sealed_blocks(key, head, plain[:-3] + end)) for end in WRONG_ENDS]

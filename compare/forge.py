@@ -7,11 +7,11 @@ import subprocess
 
 from documents import field
 
-VECTOR = bytes(range(0x40, 0x50))
+IV = bytes(range(0x40, 0x50))
 
 
-def cbc(direction, key, vector, blocks):
-    words = ["openssl", "enc", direction, "-aes-256-cbc", "-nopad", "-K", key.hex(), "-iv", vector.hex()]
+def cbc(direction, key, iv, blocks):
+    words = ["openssl", "enc", direction, "-aes-256-cbc", "-nopad", "-K", key.hex(), "-iv", iv.hex()]
     return subprocess.run(words, input=blocks, stdout=subprocess.PIPE, check=True).stdout
 
 
@@ -21,8 +21,8 @@ def padded(plain):
 
 
 def sealed(key, associated, blocks):
-    """Whole blocks sealed under the first 64 bytes of a key: vector, blocks, tag."""
-    text = VECTOR + cbc("-e", key[32:64], VECTOR, blocks)
+    """Whole blocks sealed under the first 64 bytes of a key: IV, blocks, tag."""
+    text = IV + cbc("-e", key[32:64], IV, blocks)
     length = struct.pack(">Q", 8 * len(associated))
     return text + hmac.new(key[:32], associated + text + length, hashlib.sha512).digest()[:32]
 

@@ -92,16 +92,16 @@ def cipher_back(keys, state):
     return state
 
 
-def plainly_sealed(key, vector, blocks):
-    keys, last, sealed = round_keys(key), number(vector), b""
+def plainly_sealed(key, iv, blocks):
+    keys, last, sealed = round_keys(key), number(iv), b""
     for at in range(0, len(blocks), 16):
         last = cipher(keys, number(blocks[at:at + 16]) ^ last)
         sealed += last.to_bytes(16, "big")
     return sealed
 
 
-def plainly_opened(key, vector, blocks):
-    keys, last, opened = round_keys(key), number(vector), b""
+def plainly_opened(key, iv, blocks):
+    keys, last, opened = round_keys(key), number(iv), b""
     for at in range(0, len(blocks), 16):
         block = number(blocks[at:at + 16])
         opened += (cipher_back(keys, block) ^ last).to_bytes(16, "big")
@@ -109,15 +109,15 @@ def plainly_opened(key, vector, blocks):
     return opened
 
 
-def cbc_sealed(key, vector, blocks):
+def cbc_sealed(key, iv, blocks):
     if Cipher is None:
-        return plainly_sealed(key, vector, blocks)
-    sealing = Cipher(algorithms.AES(key), modes.CBC(vector)).encryptor()
+        return plainly_sealed(key, iv, blocks)
+    sealing = Cipher(algorithms.AES(key), modes.CBC(iv)).encryptor()
     return sealing.update(blocks) + sealing.finalize()
 
 
-def cbc_opened(key, vector, blocks):
+def cbc_opened(key, iv, blocks):
     if Cipher is None:
-        return plainly_opened(key, vector, blocks)
-    opening = Cipher(algorithms.AES(key), modes.CBC(vector)).decryptor()
+        return plainly_opened(key, iv, blocks)
+    opening = Cipher(algorithms.AES(key), modes.CBC(iv)).decryptor()
     return opening.update(blocks) + opening.finalize()

@@ -4,7 +4,7 @@ import base64
 
 from plain.bson import ARRAY, BINARY, DATE, DOCUMENT, INT, STRING, array, binary, spell, text
 from plain.chance import KEY_NAMES, NAMES, RAW, TYPES, some_raw
-from plain.sealing import Vault, derived_vector, padded, sealed
+from plain.sealing import Vault, derived_iv, padded, sealed
 
 FOREIGN = ["aws", "azure", "gcp", "kmip", "Local", "local:a", "loca", ""]
 
@@ -101,8 +101,8 @@ def some_payload(chance, vault, ids):
     key_id, (tag, plain) = chance.choice(ids), some_plain(chance)
     key, head = vault.data_key(key_id), bytes([chance.choice([1, 2]), *key_id, tag])
     key = chance.randbytes(96) if isinstance(key, int) else key
-    vector = derived_vector(key, head, plain) if head[0] == 1 else chance.randbytes(16)
-    contents = head + sealed(key, head, vector, some_blocks(chance, plain) if chance.random() < 0.02 else padded(plain))
+    iv = derived_iv(key, head, plain) if head[0] == 1 else chance.randbytes(16)
+    contents = head + sealed(key, head, iv, some_blocks(chance, plain) if chance.random() < 0.02 else padded(plain))
     return changed(chance, contents) if chance.random() < 0.02 else contents
 
 

@@ -1,6 +1,6 @@
 """Sealing and opening, plainly: AEAD_AES_256_CBC_HMAC_SHA_512 and local data keys as MongoDB Client Side Encryption has
 them, in payloads of BSON's binary subtype 06. A data key, and a master key, has 96 bytes: 32 for the tag, 32 for the
-cipher, 32 for derived vectors.
+cipher, 32 for derived IVs.
 """
 import hmac
 import struct
@@ -11,10 +11,10 @@ from plain.reading import LEVELS, is_value
 from plain.rules import UNSTORABLE
 
 KINDS = {"D": b"\1", "R": b"\2"}
-HEAD = 18  # bytes before the vector
+HEAD = 18  # bytes before the IV
 
 
-def code(key, contents):
+def mac(key, contents):
     return hmac.digest(key, contents, "sha512")
 
 
@@ -23,11 +23,11 @@ def bits_of(head):
 
 
 def tag_of(key, head, contents):
-    return code(key[:32], head + contents + bits_of(head))[:32]
+    return mac(key[:32], head + contents + bits_of(head))[:32]
 
 
-def derived_vector(key, head, plain):
-    return code(key[64:], head + bits_of(head) + plain)[:16]
+def derived_iv(key, head, plain):
+    return mac(key[64:], head + bits_of(head) + plain)[:16]
 
 
 def padded(plain):
@@ -35,8 +35,8 @@ def padded(plain):
     return plain + bytes([count]) * count
 
 
-def sealed(key, head, vector, blocks):
-    contents = vector + cbc_sealed(key[32:64], vector, blocks)
+def sealed(key, head, iv, blocks):
+    contents = iv + cbc_sealed(key[32:64], iv, blocks)
     return contents + tag_of(key, head, contents)
 
 
@@ -94,8 +94,8 @@ def seal(marks, command, vault, blocks):
     for place, tag, value, algorithm, need in protected:
         key_id = vault.id_for(need)
         key, head, plain = vault.data_key(key_id), KINDS[algorithm] + key_id + bytes([tag]), spell(value)
-        vector = derived_vector(key, head, plain) if algorithm == "D" else next(blocks)
-        values[place] = BINARY, binary(6, head + sealed(key, head, vector, padded(plain)))
+        iv = derived_iv(key, head, plain) if algorithm == "D" else next(blocks)
+        values[place] = BINARY, binary(6, head + sealed(key, head, iv, padded(plain)))
     return spell(with_values(command, values)), None
 
 
@@ -138,9 +138,9 @@ def id_of(elements):
     return next(value[5:] for _, name, value in elements if name == "_id")
 
 
-def rewrapped(elements, key, master, vector, time):
+def rewrapped(elements, key, master, iv, time):
     """The document of this data key under another master key, at this time."""
-    changed = {(BINARY, "keyMaterial"): binary(0, sealed(master, b"", vector, padded(key))),
+    changed = {(BINARY, "keyMaterial"): binary(0, sealed(master, b"", iv, padded(key))),
                (DATE, "updateDate"): struct.pack("<q", time)}
     return [(tag, name, changed.get((tag, name), value)) for tag, name, value in elements]
 

@@ -103,7 +103,7 @@ fle_answer fle_open(fle_slot *slot, const uint8_t *db, size_t db_size, const uin
  * @param slot    A slot. Its engine stays, whatever is answered.
  * @param command One command, a whole BSON document.
  * @param blocks  Random bytes of a cryptographic generator, drawn for this call alone: for each value of the random
- *                algorithm, in reading order, the next 16 are its vector. Behind a call that wrote, none of them may
+ *                algorithm, in reading order, the next 16 are its IV. Behind a call that wrote, none of them may
  *                be handed in again for another command. What is behind the last whole 16 isn't looked at.
  * @param out     Room for the sealed command. Nothing is written there but a whole one, and this with FLE_DONE alone.
  * @returns FLE_DONE, FLE_REFUSED, FLE_MALFORMED, FLE_ENTROPY, FLE_MEMORY, FLE_LIMIT, FLE_NO_ROOM or FLE_NOT_OPEN.

@@ -10,7 +10,7 @@
 //! let opened = inv_cipher(&schedule, sealed);
 //! ```
 //!
-//! No call refuses and none takes memory. No branch and no address depends on a key or a block: the tables have 16
+//! No call refuses and none allocates. No branch and no address depends on a key or a block: the tables have 16
 //! entries and stand in vector registers. No contract says so, and no memory is wiped.
 #![tactic(auto)]
 

@@ -1,5 +1,5 @@
-// Cipher and InvCipher by look-ups in tables of 16 entries that stand in vector registers (FIPS 197, 5.1 and 5.3):
-// no address and no branch depends on key or block.
+// AES by vector permutation (Hamburg, 2009), in constant time: Cipher and InvCipher (FIPS 197, 5.1 and 5.3) by look-ups
+// in tables of 16 entries that stand in vector registers; no address and no branch depends on key or block.
 
 ghost use Rattle.std.specs.Prelude.{◌≡◌};
 ghost use Rattle.aes_block.specs.Cipher.{cipher, inv_cipher};

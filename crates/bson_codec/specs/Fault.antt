@@ -1,4 +1,4 @@
--- Answers of readers: a value, or the first fault; and what a function that takes memory returns.
+-- Answers of readers: a value, or the first fault; and what a function that allocates returns.
 use Rattle.std.specs.Prelude.{◌≡◌, ℕ, Bool, Result, Ok, Err, if◌then◌else◌}
 use Rattle.bson_codec.specs.declared.fault.BsonKind.{BsonKind}
 use Rattle.bson_codec.specs.declared.fault.BsonKind.TheVariants as kinds
@@ -30,7 +30,7 @@ abbrev pub ◌>>=◌ : {A B : Type 0} → Result A BsonFault → (A → Result B
 (Ok x) >>= f = f x
 (Err e) >>= f = Err e
 
--- an error of a function that takes memory: it says something of the reading unless memory ran out
+-- an error of a function that allocates: it says something of the reading unless memory ran out
 abbrev pub Fails : {Y : Type 0} → CodecFault → Result Y BsonFault → Type 0
 Fails errors.Memory read = Unit {0}
 Fails (errors.Bson f) read = read ≡ Err f
@@ -45,6 +45,6 @@ GivesBy F view (Err e) read = F e read
 abbrev pub Gives : {X Y : Type 0} → (X → Y) → Result X CodecFault → Result Y BsonFault → Type 0
 Gives view result read = GivesBy Fails view result read
 
--- the same of a function that takes no memory
+-- the same of a function that allocates nothing
 abbrev pub Seen : {X Y : Type 0} → (X → Y) → Result X BsonFault → Result Y BsonFault → Type 0
 Seen view result read = GivesBy (λ f read. read ≡ Err f) view result read

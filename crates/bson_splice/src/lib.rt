@@ -10,7 +10,7 @@
 //! splice_values(&document, &values, &mut out);
 //! ```
 //!
-//! It takes no memory, and doesn't judge whether the bytes of a value are a spelling of its type.
+//! It allocates nothing, and doesn't judge whether the bytes of a value are a spelling of its type.
 #![tactic(auto)]
 
 pub mod laws;

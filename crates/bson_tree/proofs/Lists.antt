@@ -6,7 +6,7 @@ use Rattle.bson_tree.specs.declared.tree.Value.{Value}
 use Rattle.bson_tree.specs.Tree.{no_items, item, count, join, after, name_at, nth}
 use Rattle.bson_tree.specs.View.{tree, items_of}
 
--- the list has as many children as the vector has elements
+-- the list has as many children as the `Vec` has elements
 pub count_items : (pairs : List (List ℕ × Value)) → count (items_of pairs) ≡ length pairs
 count_items [] = refl
 count_items (pair ∷ pairs) = omega (arith, count_items pairs)

@@ -32,14 +32,14 @@ impl Bytes {
         }
     }
 
-    /// The bytes of a `Vec`, which takes no memory.
+    /// The bytes of a `Vec`, which allocates nothing.
     pub fn from_vec(bytes: Vec<u8>) -> Bytes
         ensures same { result ≡ bytes.items }
     {
         Bytes { bytes }
     }
 
-    /// The bytes as a `Vec`, which takes no memory.
+    /// The bytes as a `Vec`, which allocates nothing.
     pub fn into_vec(self) -> Vec<u8>
         ensures same { result.items ≡ self }
     {

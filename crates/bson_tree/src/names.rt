@@ -22,7 +22,7 @@ impl Model for Names {
 }
 
 impl Names {
-    /// The empty list; it takes no memory.
+    /// The empty list; it allocates nothing.
     pub fn new(alloc: Global) -> Names
         ensures empty { result ≡ [] }
     {
@@ -31,14 +31,14 @@ impl Names {
         }
     }
 
-    /// The names of a `Vec`, which takes no memory.
+    /// The names of a `Vec`, which allocates nothing.
     pub fn from_vec(names: Vec<Bytes>) -> Names
         ensures same { result ≡ names.items }
     {
         Names { names }
     }
 
-    /// The names as a `Vec`, which takes no memory.
+    /// The names as a `Vec`, which allocates nothing.
     pub fn into_vec(self) -> Vec<Bytes>
         ensures same { result.items ≡ self }
     {

@@ -36,14 +36,14 @@ impl Place {
         }
     }
 
-    /// The place with the child numbers of a `Vec`, which takes no memory.
+    /// The place with the child numbers of a `Vec`, which allocates nothing.
     pub fn from_vec(steps: Vec<u32>) -> Place
         ensures same { result ≡ steps.items }
     {
         Place { steps }
     }
 
-    /// The child numbers as a `Vec`, which takes no memory.
+    /// The child numbers as a `Vec`, which allocates nothing.
     pub fn into_vec(self) -> Vec<u32>
         ensures same { result.items ≡ self }
     {

@@ -64,7 +64,7 @@ impl Model for Kids {
 
 #[tactic(auto, using(crate::proofs::Lists::children))]
 impl Kids {
-    /// The empty list; it takes no memory.
+    /// The empty list; it allocates nothing.
     pub fn new(alloc: Global) -> Kids
         ensures empty { result ≡ no_items }
     {

@@ -39,9 +39,9 @@ pub fn holes()
         → option_map_or has_role (station_at rows c place) false ≡ true → is_shown rows c place ≡ true }
 {}
 
-/// Commands with equal skeletons have equal roles, equal offences at each place that lies below no hole, whichever
-/// pass it belongs to, and equal verdicts, told at equal places: what is refused, and where, depends on protected
-/// values by their types, their lengths and whether they are binaries of subtype 06 alone.
+/// Noninterference: commands with equal skeletons have equal roles, equal offences at each place that lies below no
+/// hole, whichever pass it belongs to, and equal verdicts, told at equal places: what is refused, and where, depends on
+/// protected values by their types, their lengths and whether they are binaries of subtype 06 alone.
 pub fn two_worlds()
     ensures roles { (rows : List Row) (at : ℕ) (c d : Items) → skeleton rows c ≡ skeleton rows d
         → roles rows at c ≡ roles rows at d }

@@ -14,7 +14,7 @@ use crate::items::{
     judge_updates,
 };
 use bson_codec::{RawDoc, RawItem};
-use encrypt_schema::{Next, Place, Reason, Rows};
+use encrypt_schema::{JudgingPlace, Next, Reason, Rows};
 use filter_rules::FilterPlace;
 use update_rules::UpdatePlace;
 
@@ -54,7 +54,7 @@ pub(crate) enum CommandPlace {
     Update(UpdatePlace),
 }
 
-impl Place for CommandPlace {
+impl JudgingPlace for CommandPlace {
     ghost station_by = { command_station };
 
     ghost stands = { CommandStands };

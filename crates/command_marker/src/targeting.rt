@@ -18,7 +18,7 @@ use encrypt_schema::{MarkFault, Reason, is_named};
 /// string or the empty one, for the command's name again, for `$db` again and for a `$db` that is no string,
 /// and `WrongDb` for another database. `Target::Pass` exactly for the commands that pass unchanged, whose other fields
 /// nothing looks at, `$db` among them. Whether the collection is a view is the caller's to ask. The command may stand
-/// inside another document. It takes no memory, and never tells `Memory`.
+/// inside another document. It allocates nothing, and never tells `Memory`.
 pub fn target<'a>(db: &[u8], command: &RawDoc<'a>) -> Result<Target<'a>, MarkFault>
     ensures aims { AimsAt db.now command.now result }
 {

@@ -115,7 +115,7 @@ impl<'a> DecryptNeedKeys<'a> {
         self.wanted.needed(i)
     }
 
-    /// Keeps a key where it meets a need, by its id, that no kept key meets. It takes no memory.
+    /// Keeps a key where it meets a need, by its id, that no kept key meets. It allocates nothing.
     pub fn feed(&mut self, key: &'a KeyDoc)
         ensures fed { self.new ≡ record {
           document = self.old.document;

@@ -61,7 +61,7 @@ impl<'a> DecryptReady<'a> {
         self.asked.document()
     }
 
-    /// Opens the document: the value of its original type in the place of each payload. It takes no memory.
+    /// Opens the document: the value of its original type in the place of each payload. It allocates nothing.
     ///
     /// Otherwise the first payload, in reading order, whose tag, padding or value is wrong.
     pub fn finalize<B: Block256>(self, hooks: &B) -> Result<DecryptDone<'a>, Spot>

@@ -37,7 +37,7 @@ impl<'a> EncryptStart<'a> {
     }
 
     /// Looks at the fields of the command by themselves, as `command_marker::target` does: it passes, or the info of
-    /// its collection is asked for, or the first field at fault is refused. It takes no memory, and never tells
+    /// its collection is asked for, or the first field at fault is refused. It allocates nothing, and never tells
     /// `Memory`.
     pub fn begin(self) -> Result<Begun<'a>, MarkFault>
         ensures begun { BeginsAs self.entry result }

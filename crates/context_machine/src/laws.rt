@@ -1,5 +1,5 @@
-//! Laws of the keys that are kept, of tables of data keys, and of two commands that differ in protected values alone.
-//! The functions do nothing; their clauses are the laws.
+//! Laws of the keys that are kept, of tables of data keys, and of noninterference: two commands that differ in
+//! protected values alone. The functions do nothing; their clauses are the laws.
 
 mod inverse;
 mod worlds;

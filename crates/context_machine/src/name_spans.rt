@@ -18,7 +18,7 @@ pub(crate) struct NameSpans {
 }
 
 impl NameSpans {
-    /// No text. It takes no memory.
+    /// No text. It allocates nothing.
     pub(crate) fn new(alloc: Global) -> NameSpans
         ensures none { (span : SpanSeen) → has_span result span ≡ false }
     {

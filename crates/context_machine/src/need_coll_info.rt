@@ -75,7 +75,7 @@ impl<'a> NeedCollInfo<'a> {
         self.name
     }
 
-    /// Keeps an info where it has the name of the command's collection and none is kept. It takes no memory.
+    /// Keeps an info where it has the name of the command's collection and none is kept. It allocates nothing.
     pub fn feed(&mut self, info: &'a Info)
         ensures fed { self.new ≡ fed_info self.old info.entry.now }
     {
@@ -85,7 +85,7 @@ impl<'a> NeedCollInfo<'a> {
     }
 
     /// Asks for the marks, without an info where none is kept: `View` at the value of the command's first field, where
-    /// the collection is a view. It takes no memory, and never tells `Memory`.
+    /// the collection is a view. It allocates nothing, and never tells `Memory`.
     pub fn done(self) -> Result<NeedMarkings<'a>, MarkFault>
         ensures done { AsksMarkings self.entry result }
     {

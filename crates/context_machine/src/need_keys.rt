@@ -116,7 +116,7 @@ impl<'a> NeedKeys<'a> {
     }
 
     /// Keeps a key where it meets a need of the command that no kept key meets: by its id, or by one of its alternate
-    /// names. It takes no memory.
+    /// names. It allocates nothing.
     pub fn feed(&mut self, key: &'a KeyDoc)
         ensures fed { self.new ≡ fed_key self.old key.entry.now }
     {
@@ -124,7 +124,7 @@ impl<'a> NeedKeys<'a> {
     }
 
     /// Gets the command ready: the data key of each value is opened under the master key, the sealed command's length
-    /// is computed, and the memory for it taken. Refused is the first value whose key isn't to be had; else `TooLong`
+    /// is computed, and as much allocated. Refused is the first value whose key isn't to be had; else `TooLong`
     /// comes exactly where the sealed command would have more than 48,000,000 bytes. After a fault the state is given
     /// back as it was: more keys may be handed in. `Memory` may come at any time.
     pub fn done<B: Block256>(

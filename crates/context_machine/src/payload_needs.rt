@@ -53,7 +53,7 @@ impl<'a> Listener for PayloadNeeds<'a> {
 }
 
 impl<'a> PayloadNeeds<'a> {
-    /// No payload was told of yet. It takes no memory.
+    /// No payload was told of yet. It allocates nothing.
     pub(crate) fn new(alloc: Global) -> PayloadNeeds<'a>
         ensures none { result ≡ record { needs = []; short = false } }
     {

@@ -54,7 +54,7 @@ impl<'a> Ready<'a> {
 
     /// Seals the command: each of its values under the key of its rule, those of the random algorithm with a block
     /// each, drawn in reading order. `Failed` where a block couldn't be drawn: the state is given back as it was, and
-    /// sealing it again draws all blocks anew. It takes no memory.
+    /// sealing it again draws all blocks anew. It allocates nothing.
     pub fn finalize<B: Block256, N: Entropy>(
         self,
         hooks: &B,

@@ -25,7 +25,7 @@ pub(crate) struct Slots<'a> {
 }
 
 impl<'a> Slots<'a> {
-    /// No slot. It takes no memory.
+    /// No slot. It allocates nothing.
     pub(crate) fn new(alloc: Global) -> Slots<'a>
         ensures none { AreSlots [] [] result }
     {
@@ -95,7 +95,7 @@ impl<'a> Slots<'a> {
         }
     }
 
-    /// Puts a key's number into each free slot that the key meets. It takes no memory.
+    /// Puts a key's number into each free slot that the key meets. It allocates nothing.
     pub(crate) fn fill(&mut self, key: &KeyDoc, number: usize)
         ensures filled { (need : NeedSeen) → slot_of self.new need
             ≡ (if is_free (slot_of self.old need) && meets need key.now then Some (Some number)

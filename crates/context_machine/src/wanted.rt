@@ -43,7 +43,7 @@ impl<'a> Model for Wanted<'a> {
 }
 
 impl<'a> Wanted<'a> {
-    /// No key is needed. It takes no memory.
+    /// No key is needed. It allocates nothing.
     pub(crate) fn none(alloc: Global) -> Wanted<'a>
         ensures none { result ≡ record { needs = []; kept = [] } }
     {
@@ -87,7 +87,7 @@ impl<'a> Wanted<'a> {
         }
     }
 
-    /// Keeps a key where it meets a need that no kept key meets. It takes no memory.
+    /// Keeps a key where it meets a need that no kept key meets. It allocates nothing.
     pub(crate) fn feed(&mut self, key: &'a KeyDoc)
         ensures needs { self.new.needs ≡ self.old.needs }
         ensures fed { self.new.kept ≡ fed self.old.needs self.old.kept key.entry.now }

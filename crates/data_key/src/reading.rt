@@ -30,7 +30,7 @@ pub(crate) struct KeyFields<'a> {
 }
 
 /// The key of a document, with its bytes copied. A fault other than `Memory` comes exactly where the document has it,
-/// the first one where it has several; it comes before memory is taken.
+/// the first one where it has several; it comes before anything is allocated.
 pub fn read_key(alloc: Global, document: &RawDoc<'_>) -> Result<KeyDoc, KeyFault>
     ensures read { Reads result (key_in document.now.tree) }
 {

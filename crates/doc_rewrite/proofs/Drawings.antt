@@ -1,4 +1,4 @@
--- The vector of a value under the random algorithm is the block that is drawn.
+-- The IV of a value under the random algorithm is the block that is drawn.
 use Rattle.std.proofs.Common.{◌≡◌, ◌∙◌, ℕ, Some, None, Option, Ok, Err, List, [], ◌∷◌, ◌++◌, refl, sym, ap, arith}
 use Rattle.std.proofs.lemmas.List.Elements.{All-cons, All-nil}
 use Rattle.bson_tree.specs.Tree.{Tree}
@@ -8,13 +8,13 @@ use Rattle.fle_outside.specs.Blocks.{Block, IsBlock, DrawTakes, DrawCause, DrawA
 use Rattle.fle_outside.specs.Seen.{EntropySeen}
 use Rattle.fle_outside.specs.declared.answers.Failed.{Failed}
 use Rattle.doc_rewrite.specs.declared.label.Label.{Label}
-use Rattle.doc_rewrite.specs.Vectors.{IsDrawnVector, DrawFails}
+use Rattle.doc_rewrite.specs.Ivs.{IsDrawnIv, DrawFails}
 
-pub vector_drawn : (l : Label) (key : List ℕ) (t : Tree) (before after : EntropySeen) (block : Block)
+pub iv_drawn : (l : Label) (key : List ℕ) (t : Tree) (before after : EntropySeen) (block : Block)
     → l.algorithm ≡ Random
     → DrawTakes before.told after.told (Ok block) → DrawCause before.faults after.faults (Ok block)
-    → DrawAssured before.assured after.assured (Ok block) → IsBlock block → IsDrawnVector l key t before after block
-vector_drawn l key t before after block random takes cause sure is = rw random (record {
+    → DrawAssured before.assured after.assured (Ok block) → IsBlock block → IsDrawnIv l key t before after block
+iv_drawn l key t before after block random takes cause sure is = rw random (record {
   drawn = block ∷ [];
   count = refl;
   draws = record {

@@ -13,7 +13,7 @@ pub mod Covered
 pub mod Names
 pub mod ToPlaces
 pub mod ByStations
-pub mod Codes
+pub mod Macs
 pub mod MadePayloads
 pub mod WithinBytes
 pub mod SealedAsStated

@@ -10,33 +10,33 @@ use Rattle.encrypt_schema.specs.declared.schema.policy.Algorithm.TheVariants.{De
 use Rattle.fle_aead.specs.Sealed.{body, tag, derived_iv}
 use Rattle.fle_outside.specs.Blocks.{Block, IsBlock}
 use Rattle.payload6.specs.Needs.{Need, Name}
-use Rattle.payload6.specs.Payload.{algorithm_number, head, IsPayload, IsSealedPayload, IsVector}
+use Rattle.payload6.specs.Payload.{algorithm_number, head, IsPayload, IsSealedPayload, IsIv}
 use Rattle.payload6.proofs.PayloadForm.{payload_of}
 use Rattle.doc_rewrite.specs.Keys.{Found, Lookup}
-use Rattle.doc_rewrite.specs.Payloads.{vector, payload}
+use Rattle.doc_rewrite.specs.Payloads.{chosen_iv, payload}
 use Rattle.doc_rewrite.specs.Sealed.{any_block, sealed_value}
 use Rattle.doc_rewrite.specs.SealedCommand.{HasNamed}
 use Rattle.doc_rewrite.specs.SealedTrees.{IsSealedBy, IsSealedValue}
 use Rattle.doc_rewrite.specs.Sites.{Site}
-use Rattle.doc_rewrite.proofs.Codes.{code_bytes}
+use Rattle.doc_rewrite.proofs.Macs.{mac_bytes}
 use Rattle.doc_rewrite.proofs.Sizes.{derived_size}
 
 pub any_is : IsBlock any_block
 any_is = record { len = refl; bytes = search rules }
 
-vector_block : (algorithm : Algorithm) (key a p : List ℕ) (block : Block) → IsBlock block
-    → aes.IsBlock (vector algorithm key a p block)
+iv_is_block : (algorithm : Algorithm) (key a p : List ℕ) (block : Block) → IsBlock block
+    → aes.IsBlock (chosen_iv algorithm key a p block)
 unfolding derived_iv
-vector_block Deterministic key a p block b = record {
+iv_is_block Deterministic key a p block b = record {
   len = derived_size key a p;
-  bytes = All-take (λ x. x < 256) 16 _ (code_bytes _ _);
+  bytes = All-take (λ x. x < 256) 16 _ (mac_bytes _ _);
 }
-vector_block Random key a p block b = record { len = b.len; bytes = b.bytes }
+iv_is_block Random key a p block b = record { len = b.len; bytes = b.bytes }
 
-vector_is : (algorithm : Algorithm) (key a p : List ℕ) (block : Block)
-    → IsVector algorithm key a p (vector algorithm key a p block)
-vector_is Deterministic key a p block = refl
-vector_is Random key a p block = tt
+iv_is : (algorithm : Algorithm) (key a p : List ℕ) (block : Block)
+    → IsIv algorithm key a p (chosen_iv algorithm key a p block)
+iv_is Deterministic key a p block = refl
+iv_is Random key a p block = tt
 
 payload_made : (algorithm : Algorithm) (id key : List ℕ) (type : ℕ) (p : List ℕ) (block : Block) → length id ≡ 16
     → IsBlock block → All (λ x. x < 256) p
@@ -45,15 +45,15 @@ unfolding payload
 payload_made algorithm id key type p block long b bytes =
     let kind = algorithm_number algorithm in
     let a = head kind id type in
-    let iv = vector algorithm key a p block in
+    let iv = chosen_iv algorithm key a p block in
     let s = body key iv p in
     let form : IsSealedPayload kind id key type iv p (a ++ (s ++ tag key a s)) = record {
       sealed = s ++ tag key a s;
       id_size = long;
       parts = refl;
-      message = record { vector = vector_block algorithm key a p block b; plain = bytes; form = refl };
+      message = record { iv_block = iv_is_block algorithm key a p block b; plain = bytes; form = refl };
     } in
-    payload_of algorithm kind id key type iv p (a ++ (s ++ tag key a s)) form refl (vector_is algorithm key a p block)
+    payload_of algorithm kind id key type iv p (a ++ (s ++ tag key a s)) form refl (iv_is algorithm key a p block)
 
 value_made : (keys : Lookup) (site : Site) (t : Tree) (block : Block) (f : Found) → length f.id ≡ 16
     → keys site.need ≡ Some f → IsBlock block → All (λ x. x < 256) (value_bytes t)

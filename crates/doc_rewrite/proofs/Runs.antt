@@ -17,7 +17,7 @@ use Rattle.doc_rewrite.specs.Keys.{Lookup, Table, key_in}
 use Rattle.doc_rewrite.specs.Sealed.{put_of, seals, sealed, first_block, other_blocks}
 use Rattle.doc_rewrite.specs.Sealing.{SealsOne, SealsNone, FellShort, IsSealedWhole}
 use Rattle.doc_rewrite.specs.Sites.{Site, draws_of, grown, spans_of}
-use Rattle.doc_rewrite.specs.Vectors.{DrawFails}
+use Rattle.doc_rewrite.specs.Ivs.{DrawFails}
 use Rattle.doc_rewrite.proofs.Growth.{removed, trades_one, whole_size}
 use Rattle.doc_rewrite.proofs.Sizes.{first_same, others_are}
 

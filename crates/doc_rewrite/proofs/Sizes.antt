@@ -11,11 +11,11 @@ use Rattle.fle_aead.specs.Key.{iv_key}
 use Rattle.fle_aead.specs.Sealed.{bit_length, body, derived_iv, tag}
 use Rattle.fle_aead.proofs.SealedForm.{length-body, length-tag}
 use Rattle.fle_outside.specs.Blocks.{Block, IsBlock, AreBlocks}
-use Rattle.hmac_sha512.proofs.CodeLength.{length-hmac}
+use Rattle.hmac_sha512.proofs.MacLength.{length-hmac}
 use Rattle.payload6.specs.Payload.{algorithm_number, head}
 use Rattle.payload6.proofs.PayloadForm.{head-size}
 use Rattle.doc_rewrite.specs.Keys.{Found, GivesLongIds, IsLong, Lookup}
-use Rattle.doc_rewrite.specs.Payloads.{vector, payload}
+use Rattle.doc_rewrite.specs.Payloads.{chosen_iv, payload}
 use Rattle.doc_rewrite.specs.Sealed.{any_key, key_at, sealed_value, first_block, other_blocks}
 use Rattle.doc_rewrite.specs.Sites.{Site, draw, sealed_width}
 
@@ -23,10 +23,10 @@ pub derived_size : (key a p : List ℕ) → length (derived_iv key a p) ≡ 16
 unfolding derived_iv
 derived_size key a p = length-take-le 16 _ (omega (arith, length-hmac (iv_key key) ((a ++ bit_length a) ++ p)))
 
-vector_size : (algorithm : Algorithm) (key a p : List ℕ) (block : Block) → length block ≡ 16
-    → length (vector algorithm key a p block) ≡ 16
-vector_size Deterministic key a p block h = derived_size key a p
-vector_size Random key a p block h = h
+iv_size : (algorithm : Algorithm) (key a p : List ℕ) (block : Block) → length block ≡ 16
+    → length (chosen_iv algorithm key a p block) ≡ 16
+iv_size Deterministic key a p block h = derived_size key a p
+iv_size Random key a p block h = h
 
 payload_size : (algorithm : Algorithm) (id key : List ℕ) (type : ℕ) (p : List ℕ) (block : Block) → length id ≡ 16
     → length block ≡ 16
@@ -34,14 +34,14 @@ payload_size : (algorithm : Algorithm) (id key : List ℕ) (type : ℕ) (p : Lis
 unfolding payload
 payload_size algorithm id key type p block long h =
     let a = head (algorithm_number algorithm) id type in
-    let iv = vector algorithm key a p block in
+    let iv = chosen_iv algorithm key a p block in
     let s = body key iv p in
     omega (
       arith,
       length-append a (s ++ tag key a s),
       length-append s (tag key a s),
       head-size (algorithm_number algorithm) id type long,
-      length-body key iv p (vector_size algorithm key a p block h),
+      length-body key iv p (iv_size algorithm key a p block h),
       length-tag key a s,
     )
 

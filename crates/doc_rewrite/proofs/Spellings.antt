@@ -10,14 +10,14 @@ use Rattle.fle_outside.specs.Blocks.{Block}
 use Rattle.payload6.specs.Marking.{binary}
 use Rattle.payload6.specs.Payload.{algorithm_number, head, IsSealedPayload}
 use Rattle.doc_rewrite.specs.Keys.{Found, Lookup}
-use Rattle.doc_rewrite.specs.Payloads.{vector, payload, payload_under}
+use Rattle.doc_rewrite.specs.Payloads.{chosen_iv, payload, payload_under}
 use Rattle.doc_rewrite.specs.Sealed.{key_at, label_of, sealed_value}
 use Rattle.doc_rewrite.specs.Sites.{Site}
 
--- what is sealed under the vector of a block is the payload
+-- what is sealed under the IV of a block is the payload
 pub payload_is : (algorithm : Algorithm) (id key : List ℕ) (type : ℕ) (iv p b : List ℕ) (block : Block)
     → IsSealedPayload (algorithm_number algorithm) id key type iv p b
-    → iv ≡ vector algorithm key (head (algorithm_number algorithm) id type) p block
+    → iv ≡ chosen_iv algorithm key (head (algorithm_number algorithm) id type) p block
     → b ≡ payload algorithm id key type p block
 unfolding payload
 payload_is algorithm id key type iv p b block s e =

@@ -40,7 +40,7 @@ module _ (kind : ℕ) (id key : List ℕ) (type levels : ℕ) (h c : List ℕ) (
       let sort = type_is kind id type h c long is in
       rw (plain, sort) (value_is type p (spells_value levels type p low o.spelled))
 
-  -- and is shorter than what stood there, by vector, tag and padding
+  -- and is shorter than what stood there, by IV, tag and padding
   pub shorter_is : (p : List ℕ) → IsSealedPayload kind id key type (iv_of c) p (h ++ c) → length p + 49 ≤ length c
   shorter_is p s = omega (
     arith,

@@ -4,7 +4,7 @@ pub mod Payloads
 pub mod Sites
 pub mod Sealed
 pub mod Plans
-pub mod Vectors
+pub mod Ivs
 pub mod Sealing
 pub mod Standing
 pub mod SealedTrees

@@ -35,7 +35,7 @@ abbrev pub first_wrong : (Place → Option Reason) → List Place → Option Ref
 first_wrong judge [] = None
 first_wrong judge (p ∷ ps) = or_else (refused_at p.start (judge p)) (first_wrong judge ps)
 
--- BSON binary subtype 6: 18 bytes, and behind them a vector, one or more blocks of 16 bytes and a tag, 66 and 16 for
+-- BSON binary subtype 6: 18 bytes, and behind them an IV, one or more blocks of 16 bytes and a tag, 66 and 16 for
 -- each block
 abbrev pub is_payload_length : ℕ → Bool
 is_payload_length n = nat_lt 66 n && (n - 66) % 16 == 0

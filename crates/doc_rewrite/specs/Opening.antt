@@ -10,7 +10,7 @@ use Rattle.doc_rewrite.specs.declared.unsealing.Spot.{Spot}
 use Rattle.doc_rewrite.specs.Founds.{Place, opened_value, opened_items}
 use Rattle.doc_rewrite.specs.Opened.{Keyring, first_wrong, opened, opened_whole, spoilt, value_of}
 
--- MongoDB Client Side Encryption, BSON binary subtype 6: beside the value a payload has 18 bytes of its head, a vector
+-- MongoDB Client Side Encryption, BSON binary subtype 6: beside the value a payload has 18 bytes of its head, an IV
 -- of 16, a tag of 32 and one or more of padding, and 5 of its binary before it, so that its value is shorter by so many
 abbrev pub spared : ℕ
 spared = 72

@@ -10,7 +10,7 @@ use Rattle.fle_outside.specs.Seen.{Draws, EntropySeen}
 use Rattle.doc_rewrite.specs.Keys.{Lookup}
 use Rattle.doc_rewrite.specs.Sealed.{first_block, put_of, sealed}
 use Rattle.doc_rewrite.specs.Sites.{Site, draw, draws_of, sealed_width}
-use Rattle.doc_rewrite.specs.Vectors.{DrawFails}
+use Rattle.doc_rewrite.specs.Ivs.{DrawFails}
 
 -- the key of each site is there
 abbrev pub HasKeys : Lookup → List Site → Type 0

@@ -105,7 +105,7 @@ fn tell_items<L: Listener>(
 /// in reading order, while it is found.
 ///
 /// The fault comes exactly where one of them has a length that none has, with the first of them; what `listener` was
-/// told of by then isn't said. No key is asked for, and no payload opened. It takes no memory.
+/// told of by then isn't said. No key is asked for, and no payload opened. It allocates nothing.
 pub fn tell_payloads<'a, L: Listener>(
     document: &RawDoc<'a>,
     listener: &mut L,

@@ -9,7 +9,7 @@ use bson_codec::RawDoc;
 use std::marker::Model;
 
 /// By how many bytes a payload's value is shorter than the payload's binary, at least: 5 before the payload, 18 of its
-/// head, a vector of 16, a tag of 32 and one byte of padding.
+/// head, an IV of 16, a tag of 32 and one byte of padding.
 const SPARED: usize = 72;
 
 /// Where a payload stands, and which key opens it.
@@ -27,7 +27,7 @@ pub struct FoundAt {
 }
 
 /// The payloads of a document, seen as the list of their places in reading order. The list isn't kept: this borrows the
-/// document's bytes, and takes no memory of its own.
+/// document's bytes, and allocates nothing of its own.
 #[derive(Drop)]
 pub struct Found<'a> {
     pub(crate) document: RawDoc<'a>,

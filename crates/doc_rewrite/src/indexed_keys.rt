@@ -35,7 +35,7 @@ impl Model for IndexedKeys {
 }
 
 impl IndexedKeys {
-    /// No key. It takes no memory.
+    /// No key. It allocates nothing.
     pub(crate) fn new(alloc: Global) -> IndexedKeys
         ensures empty { result ≡ [] }
     {

@@ -49,7 +49,7 @@ impl Model for KeyTable {
 }
 
 impl KeyTable {
-    /// No key. It takes no memory.
+    /// No key. It allocates nothing.
     pub fn new(alloc: Global) -> KeyTable
         ensures empty { result ≡ record { ids = []; names = [] } }
     {

@@ -25,6 +25,7 @@
 mod finding;
 mod found;
 mod indexed_keys;
+mod iv;
 mod key_table;
 mod label;
 pub mod laws;
@@ -39,7 +40,6 @@ mod sealing;
 mod site;
 mod sites;
 mod unsealing;
-mod vector;
 
 pub use finding::{FindFault, find_payloads, tell_payloads};
 pub use found::{Found, FoundAt};

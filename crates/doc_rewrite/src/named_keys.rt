@@ -49,7 +49,7 @@ impl Model for NamedKeys {
 }
 
 impl NamedKeys {
-    /// No key. It takes no memory.
+    /// No key. It allocates nothing.
     pub(crate) fn new(alloc: Global) -> NamedKeys
         ensures empty { result ≡ [] }
     {

@@ -162,7 +162,7 @@ fn open_items<B: Block256>(
 ///
 /// `found` is what `find_payloads` gives for the document, `keys` has the key of each of its ids, and `out` has the
 /// room that `found` tells, which is at most as many bytes as the document has. Otherwise the first payload, in
-/// reading order, whose tag, padding or value is wrong; `out` may hold anything then. It takes no memory.
+/// reading order, whose tag, padding or value is wrong; `out` may hold anything then. It allocates nothing.
 pub fn open_through<B: Block256>(
     found: &Found<'_>,
     document: &RawDoc<'_>,

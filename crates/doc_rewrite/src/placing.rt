@@ -5,7 +5,7 @@ ghost use Rattle.bson_tree.specs.Spelling.{items_bytes, value_bytes};
 ghost use Rattle.bson_tree.specs.Tree.{item as element, no_items};
 ghost use Rattle.fle_outside.specs.Blocks.{Block};
 ghost use Rattle.payload6.specs.Marking.{binary};
-ghost use Rattle.doc_rewrite.specs.Payloads.{payload_under, vector_under};
+ghost use Rattle.doc_rewrite.specs.Payloads.{payload_under, iv_under};
 ghost use Rattle.doc_rewrite.specs.Sites.{sealed_width};
 
 use crate::label::Label;
@@ -35,7 +35,7 @@ fn put_payload<B: Block256>(
     ensures id { length label.now.key_id ≡ 16 }
     ensures size { length out.new ≡ length out.old }
     ensures within { result ≤ length out.new }
-    ensures payload { (block : Block) → iv ≡ vector_under label.now key.now item.now.tree block
+    ensures payload { (block : Block) → iv ≡ iv_under label.now key.now item.now.tree block
         → take result out.new ≡ take at out.old ++ payload_under label.now key.now item.now.tree block }
 {
     let end = at + payload_len(item.value().len());
@@ -67,7 +67,7 @@ pub(crate) fn put_sealed<B: Block256>(
     ensures size { length out.new ≡ length out.old }
     ensures within { result ≤ length out.new }
     ensures id { length label.now.key_id ≡ 16 }
-    ensures element { (block : Block) → iv ≡ vector_under label.now key.now item.now.tree block
+    ensures element { (block : Block) → iv ≡ iv_under label.now key.now item.now.tree block
         → take result out.new ≡ take at out.old
         ++ items_bytes (element item.now.name (binary 6 (payload_under label.now key.now item.now.tree block))
         no_items) }

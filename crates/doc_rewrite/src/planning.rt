@@ -15,7 +15,7 @@ use std::marker::Model;
 const LONGEST: u32 = 48_000_000;
 
 /// The values of a document that are to be sealed, and how many bytes the sealed document has. It borrows the document,
-/// the marks and their rules, and takes no memory.
+/// the marks and their rules, and allocates nothing.
 #[derive(Drop)]
 pub struct Plan<'a> {
     sites: Sites<'a>,
@@ -53,7 +53,7 @@ impl<'a> Plan<'a> {
 }
 
 /// The plan of a document whose marked values are to be sealed, each under its rule. `TooLong` exactly where the sealed
-/// document has more than 48,000,000 bytes. It takes no memory.
+/// document has more than 48,000,000 bytes. It allocates nothing.
 pub fn plan_seal<'a>(
     document: &RawDoc<'a>,
     marks: &'a Marks,
@@ -82,7 +82,7 @@ pub fn plan_seal<'a>(
 }
 
 /// The plan of a document of which no value is sealed. `TooLong` exactly where the document has more than 48,000,000
-/// bytes. It takes no memory.
+/// bytes. It allocates nothing.
 pub fn plan_clear<'a>(document: &RawDoc<'_>) -> Result<Plan<'a>, TooLong>
     ensures sites { IfOk result (λ plan. plan.sites ≡ []) }
     ensures stands { IfOk result (λ plan. StandsFor plan document.now) }

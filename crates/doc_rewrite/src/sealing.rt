@@ -6,12 +6,12 @@ ghost use Rattle.doc_rewrite.specs.Plans.{StandsFor};
 ghost use Rattle.doc_rewrite.specs.Sealing.{FellShort, HasKeys, IsSealedWhole, SealsNone, SealsOne};
 ghost use Rattle.doc_rewrite.specs.Sites.{draws_of, spans_of};
 
+use crate::iv::iv_for;
 use crate::key_table::{KeyTable, key_for};
 use crate::label::Label;
 use crate::placing::put_sealed;
 use crate::planning::Plan;
 use crate::sites::{Sites, site_at, start_at};
-use crate::vector::vector_of;
 use bson_codec::{RawDoc, RawItem};
 use bson_splice::{Putter, Stopped, splice};
 use crypto_hooks::Block256;
@@ -58,7 +58,7 @@ impl<'a, 'n, B: Block256, N: Entropy> Putter for Sealing<'a, 'n, B, N> {
                     algorithm: site.algorithm,
                     key_id: found.0,
                 };
-                match vector_of(&label, found.1, item, self.entropy) {
+                match iv_for(&label, found.1, item, self.entropy) {
                     Ok(iv) => {
                         let end = put_sealed(self.hooks, found.1, &label, iv, item, out, at);
                         self.next += 1;
@@ -74,7 +74,7 @@ impl<'a, 'n, B: Block256, N: Entropy> Putter for Sealing<'a, 'n, B, N> {
 
 /// Writes the document into `out`, which has the plan's length, with the values of the plan sealed: each under the key
 /// to which its id or its name leads, and with that key's id, those of the random algorithm with a block each, drawn in
-/// reading order. `Failed` where a block couldn't be drawn: `out` may hold anything then. It takes no memory.
+/// reading order. `Failed` where a block couldn't be drawn: `out` may hold anything then. It allocates nothing.
 pub fn seal_through<B: Block256, N: Entropy>(
     plan: &Plan<'_>,
     document: &RawDoc<'_>,

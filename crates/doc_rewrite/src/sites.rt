@@ -68,7 +68,7 @@ impl<'a> Ruled<'a> {
 }
 
 /// The values of a document that are to be sealed, seen as the list of their sites in reading order. Each site is read
-/// from its mark and the mark's rule when it is asked for, so no list of them takes memory.
+/// from its mark and the mark's rule when it is asked for, so no list of them is allocated.
 #[derive(Drop)]
 pub struct Sites<'a> {
     /// None where no value is sealed.
@@ -126,7 +126,7 @@ impl<'a> Sites<'a> {
     }
 }
 
-/// The sites of a document's marks, in their order. It takes no memory.
+/// The sites of a document's marks, in their order. It allocates nothing.
 pub fn sites_of<'a>(document: &RawDoc<'a>, marks: &'a Marks, rows: &'a Rows) -> Sites<'a>
     requires ruled { AreRuled (length rows.now) marks.now }
     ensures sites { result ≡ sites_by rows.now document.now marks.now }

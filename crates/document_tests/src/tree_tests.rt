@@ -107,14 +107,14 @@ fn names_and_values_stand_in_order(rt: HostRuntime) {
 }
 
 #[test]
-fn bytes_of_a_vector_are_kept(rt: HostRuntime) {
+fn bytes_of_a_vec_are_kept(rt: HostRuntime) {
     let bytes = Bytes::from_vec(Vec::from_slice(rt.alloc(), b"hr").expect(&rt, "no memory"));
     assert!(rt; bytes.as_slice() == b"hr".as_slice());
     assert!(rt; bytes.into_vec().as_slice() == b"hr".as_slice());
 }
 
 #[test]
-fn steps_of_a_vector_are_kept(rt: HostRuntime) {
+fn steps_of_a_vec_are_kept(rt: HostRuntime) {
     let place = Place::from_vec(Vec::from_slice(rt.alloc(), &[1u32, 0]).expect(&rt, "no memory"));
     assert!(rt; place.as_slice() == [1u32, 0].as_slice());
     assert!(rt; place.into_vec().as_slice() == [1u32, 0].as_slice());

@@ -1,10 +1,10 @@
 //! Which fields of which collections are protected, and how: collection infos and their JSON schemas
 //! with the keywords `encrypt` and `encryptMetadata` of the MongoDB Client Side Encryption specification.
 //!
-//! `Infos::load` reads a file of infos, and `Rows::read` one schema; each takes memory, and tells the first
+//! `Infos::load` reads a file of infos, and `Rows::read` one schema; each allocates, and tells the first
 //! fault of what is refused. `info_of` finds a collection, `walk` and `step` go down a path with a cursor,
 //! `class` says how the path stands to the rules, `policy` what a rule says, and `type_allowed` whether a value
-//! may be stored under it; none of these takes memory.
+//! may be stored under it; none of these allocates.
 //!
 //! ```text
 //! let infos = Infos::load(alloc, &file)?;
@@ -24,7 +24,7 @@ pub use command::marks::{Mark, MarkFault, Marks, Role, Span};
 pub use command::operators::{Operator, Subject};
 pub use command::reason::Reason;
 pub use command::stored::{type_allowed, type_allowed_under};
-pub use command::walking::{Next, Place, has_name, mark_elements, stands_before};
+pub use command::walking::{JudgingPlace, Next, has_name, mark_elements, stands_before};
 pub use path::class::Class;
 pub use path::cursor::Cursor;
 pub use path::dotted::{Walk, is_dollar, is_position};

@@ -21,7 +21,7 @@ pub const NOT_TEXT: u8 = 28;
 
 /// The offset of the value of the first place, in reading order, whose name, text or part of a regular expression
 /// isn't UTF-8; `None` exactly where there is none. Names of array elements count too, and what is inside a scope
-/// counts for the value that holds it. Takes no memory.
+/// counts for the value that holds it. Allocates nothing.
 pub fn first_bad_text(document: &RawDoc<'_>) -> Option<u32>
     ensures first { result ≡ first_bad document.now.start document.now.tree }
 {

@@ -1,7 +1,7 @@
 //! Documents as text, after MongoDB Extended JSON v2 in its canonical form (RFC 8259), and collection infos from JSON.
 //!
 //! `write_text` writes a checked document into a sink, `first_bad_text` says where one has a name or a text that isn't
-//! UTF-8, and `show_text` does both in one walk; none takes memory. `infos_from_json` makes the BSON of collection
+//! UTF-8, and `show_text` does both in one walk; none allocates. `infos_from_json` makes the BSON of collection
 //! infos from the text of an array of documents, or tells the first fault.
 //!
 //! ```text

@@ -36,7 +36,7 @@ pub enum Shown {
 }
 
 /// Writes the text of a document into a sink, as `write_text` does, unless a name, a text or a part of a regular
-/// expression isn't UTF-8: then tells the first such place, as `first_bad_text` does. Takes no memory, and reads the
+/// expression isn't UTF-8: then tells the first such place, as `first_bad_text` does. Allocates nothing, and reads the
 /// document once.
 pub fn show_text<O: Sink>(document: &RawDoc<'_>, out: &mut O) -> Shown
     ensures shows { Shows (O.seen out.old) (O.seen out.new) result (first_bad document.now.start document.now.tree)

@@ -6,7 +6,7 @@
 //! ```
 //!
 //! `FilterPlace` is what a document or an array is in a filter, and judges its elements by its station's own table; a
-//! crate above that judges whole commands nests it in its places. It takes memory for the marks alone.
+//! crate above that judges whole commands nests it in its places. It allocates for the marks alone.
 #![tactic(auto)]
 
 pub use places::{FilterPlace, mark_filter};

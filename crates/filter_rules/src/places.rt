@@ -10,7 +10,7 @@ ghost use Rattle.filter_rules.specs.Places.{station_by, unprotected};
 use crate::filter::{judge_case, judge_filter};
 use crate::operators::{judge_element, judge_test};
 use bson_codec::{RawDoc, RawItem};
-use encrypt_schema::{MarkFault, Marks, Next, Place, Reason, Rows, Subject, mark_elements};
+use encrypt_schema::{JudgingPlace, MarkFault, Marks, Next, Reason, Rows, Subject, mark_elements};
 
 /// What a document or an array is in a filter.
 #[derive(Clone, Copy, Debug, PartialEq, Eq)]
@@ -25,7 +25,7 @@ pub enum FilterPlace {
     Elements(Subject),
 }
 
-impl Place for FilterPlace {
+impl JudgingPlace for FilterPlace {
     ghost station_by = { station_by };
 
     ghost stands = { λ _ _. ⊤ };

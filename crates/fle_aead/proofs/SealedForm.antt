@@ -6,7 +6,7 @@ use Rattle.std.proofs.lemmas.List.{append_assoc, drop_at, length-append, length-
 use Rattle.std.proofs.lemmas.List.{take-take, take_at}
 use Rattle.std.proofs.lemmas.List.Elements.{All-drop, All-take}
 use Rattle.aes_block.specs.Block.{IsBlock}
-use Rattle.hmac_sha512.proofs.CodeLength.{length-hmac}
+use Rattle.hmac_sha512.proofs.MacLength.{length-hmac}
 use Rattle.cbc_mode.specs.Cbc.{cbc_opened, cbc_sealed}
 use Rattle.cbc_mode.specs.Padding.{pad}
 use Rattle.cbc_mode.proofs.Padded.{pad-injective}
@@ -31,7 +31,7 @@ sealed-length key a iv p c s =
     ap length s.form ∙ omega (
       arith,
       length-append (body key iv p) (tag key a (body key iv p)),
-      length-body key iv p s.vector.len,
+      length-body key iv p s.iv_block.len,
       length-tag key a (body key iv p),
     )
 
@@ -41,13 +41,13 @@ sealed-is_sealed_length key a iv p c s = (length p / 16 + 1, omega arith, sealed
 pub sealed-body : (key a iv p c : List ℕ) → IsSealed key a iv p c → body_of c ≡ body key iv p
 sealed-body key a iv p c s =
     let end : length (body key iv p) ≡ length c - 32 =
-    omega (arith, sealed-length key a iv p c s, length-body key iv p s.vector.len) in
+    omega (arith, sealed-length key a iv p c s, length-body key iv p s.iv_block.len) in
     ap (take (length c - 32)) s.form ∙ take_at (body key iv p) _ (length c - 32) end
 
 pub sealed-tag : (key a iv p c : List ℕ) → IsSealed key a iv p c → tag_of c ≡ tag key a (body_of c)
 sealed-tag key a iv p c s =
     let end : length (body key iv p) ≡ length c - 32 =
-    omega (arith, sealed-length key a iv p c s, length-body key iv p s.vector.len) in
+    omega (arith, sealed-length key a iv p c s, length-body key iv p s.iv_block.len) in
     ap (drop (length c - 32)) s.form ∙ drop_at (body key iv p) _ (length c - 32) end
     ∙ ap (tag key a) (sym (sealed-body key a iv p c s))
 
@@ -61,16 +61,16 @@ pub sealed-iv : (key a iv p c : List ℕ) → IsSealed key a iv p c → iv_of c 
 unfolding body
 sealed-iv key a iv p c s =
     ap (take 16) (s.form ∙ append_assoc iv (cbc_sealed (schedule key) iv (pad p)) (tag key a (body key iv p)))
-    ∙ take_at iv _ 16 s.vector.len
+    ∙ take_at iv _ 16 s.iv_block.len
 
 pub sealed-opened : (key a iv p c : List ℕ) → IsSealed key a iv p c → opened key c ≡ pad p
 unfolding body opened opened_body
 sealed-opened key a iv p c s =
     let blocks : List ℕ = cbc_sealed (schedule key) iv (pad p) in
-    let front : take 16 (iv ++ blocks) ≡ iv = take_at iv blocks 16 s.vector.len in
-    let back : drop 16 (iv ++ blocks) ≡ blocks = drop_at iv blocks 16 s.vector.len in
+    let front : take 16 (iv ++ blocks) ≡ iv = take_at iv blocks 16 s.iv_block.len in
+    let back : drop 16 (iv ++ blocks) ≡ blocks = drop_at iv blocks 16 s.iv_block.len in
     ap (opened_body key) (sealed-body key a iv p c s)
-    ∙ rw (front, back) (cbc_undone-pad (schedule key) iv p s.vector s.plain)
+    ∙ rw (front, back) (cbc_undone-pad (schedule key) iv p s.iv_block s.plain)
 
 -- what is rightly tagged and opens to a padded message is that message, sealed
 pub sealed_from : (key a p c : List ℕ) → All (λ b. b < 256) c → All (λ b. b < 256) p → IsTagged key a c
@@ -85,21 +85,21 @@ sealed_from key a p c bytes plain tagged is =
     let blocks : List ℕ = drop 16 s in
     let bl : length blocks ≡ 16 * k = length-drop 16 s ∙ omega arith in
     let front : take 16 s ≡ iv_of c = take-take 16 (length c - 32) c (omega arith) in
-    let vector : IsBlock (iv_of c) = IsBlock-take c bytes (omega arith) in
+    let iv_block : IsBlock (iv_of c) = IsBlock-take c bytes (omega arith) in
     let inner : All (λ b. b < 256) blocks =
     All-drop (λ b. b < 256) 16 s (All-take (λ b. b < 256) (length c - 32) c bytes) in
     let again : cbc_sealed (schedule key) (iv_of c) (pad p) ≡ blocks =
     ap (cbc_sealed (schedule key) (iv_of c)) (sym (rw front at is))
-    ∙ cbc_redone (schedule key) (iv_of c) blocks vector inner (omega arith) in
+    ∙ cbc_redone (schedule key) (iv_of c) blocks iv_block inner (omega arith) in
     let whole : s ≡ iv_of c ++ cbc_sealed (schedule key) (iv_of c) (pad p) =
     sym (take-append-drop 16 s) ∙ rw (front, again) refl in record {
-      vector = vector;
+      iv_block = iv_block;
       plain = plain;
       form = sym (take-append-drop (length c - 32) c) ∙ ap (λ t. s ++ t) tagged.same
           ∙ ap (λ t. t ++ tag key a t) whole;
     }
 
--- a sealed message determines its vector and its message
+-- a sealed message determines its IV and its message
 pub sealed-determines : (key a iv p iv' p' c : List ℕ) → IsSealed key a iv p c → IsSealed key a iv' p' c
     → (iv ≡ iv') × (p ≡ p')
 sealed-determines key a iv p iv' p' c s t = (

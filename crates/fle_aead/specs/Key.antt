@@ -11,7 +11,7 @@ mac_key key = take 32 key
 abbrev pub encryption_key : List ℕ → List ℕ
 encryption_key key = take 32 (drop 32 key)
 
--- bytes 64 to 95: the key of the initialization vector
+-- bytes 64 to 95: the key of the IV
 abbrev pub iv_key : List ℕ → List ℕ
 iv_key key = take 32 (drop 64 key)
 

@@ -14,25 +14,25 @@ use Rattle.fle_aead.specs.Key.{mac_key, iv_key, schedule}
 abbrev pub bit_length : List ℕ → List ℕ
 bit_length a = to_be_bytes w64 (8 * length a)
 
--- draft, 2.1, step 3, S: the initialization vector, and the padded message under CBC
+-- draft, 2.1, step 3, S: the IV, and the padded message under CBC
 unfoldable pub body : List ℕ → List ℕ → List ℕ → List ℕ
 body key iv p = iv ++ cbc_sealed (schedule key) iv (pad p)
 
--- draft, 2.1, steps 4 to 6, T: the first 32 bytes of the code of A, S and AL
+-- draft, 2.1, steps 4 to 6, T: the first 32 bytes of the MAC of A, S and AL
 unfoldable pub tag : List ℕ → List ℕ → List ℕ → List ℕ
 tag key a s = take 32 (hmac (mac_key key) ((a ++ s) ++ bit_length a))
 
--- the initialization vector that associated data and message determine
+-- the IV that associated data and message determine
 unfoldable pub derived_iv : List ℕ → List ℕ → List ℕ → List ℕ
 derived_iv key a p = take 16 (hmac (iv_key key) ((a ++ bit_length a) ++ p))
 
--- draft, 2.1, step 7: c is S and T of the message p, of bytes, under a vector of 16 bytes
+-- draft, 2.1, step 7: c is S and T of the message p, of bytes, under an IV of 16 bytes
 pub record IsSealed (key a iv p c : List ℕ) : Type 0 where
-  pub vector : IsBlock iv
+  pub iv_block : IsBlock iv
   pub plain : All (λ b. b < 256) p
   pub form : c ≡ body key iv p ++ tag key a (body key iv p)
 
--- a sealed message has a vector, one or more blocks and a tag
+-- a sealed message has an IV, one or more blocks and a tag
 abbrev pub IsSealedLength : ℕ → Type 0
 IsSealedLength n = (k : ℕ) × (0 < k) × (n ≡ 48 + 16 * k)
 
@@ -44,15 +44,15 @@ body_of c = take (length c - 32) c
 abbrev pub tag_of : List ℕ → List ℕ
 tag_of c = drop (length c - 32) c
 
--- draft, 2.2, step 4: the initialization vector
+-- draft, 2.2, step 4: the IV
 abbrev pub iv_of : List ℕ → List ℕ
 iv_of c = take 16 c
 
--- draft, 2.2, step 4: what the blocks behind the vector open to, padding included
+-- draft, 2.2, step 4: what the blocks behind the IV open to, padding included
 unfoldable pub opened_body : List ℕ → List ℕ → List ℕ
 opened_body key s = cbc_opened (schedule key) (take 16 s) (drop 16 s)
 
--- the same for a whole ciphertext, with its vector and its tag
+-- the same for a whole ciphertext, with its IV and its tag
 unfoldable pub opened : List ℕ → List ℕ → List ℕ
 opened key c = opened_body key (body_of c)
 
@@ -74,7 +74,7 @@ pub record IsWronglyPadded (key a c : List ℕ) : Type 0 where
   pub tagged : IsTagged key a c
   pub no_plain : (p : List ℕ) → opened key c ≢ pad p
 
--- draft, 2.2, step 3, as a test: one or more blocks between vector and tag, and the right tag
+-- draft, 2.2, step 3, as a test: one or more blocks between IV and tag, and the right tag
 abbrev pub is_sealed_length : ℕ → Bool
 is_sealed_length n = nat_lt 48 n && n % 16 == 0
 

@@ -10,7 +10,7 @@ use hmac_sha512::KeyedMac;
 use std::alloc::AllocError;
 use std::marker::Model;
 
-/// A data key: the key of the tag, that of the cipher and that of derived initialization vectors,
+/// A data key: the key of the tag, that of the cipher and that of derived IVs,
 /// 32 bytes each. It keeps what the three make of their keys, so that a value costs none of it.
 #[derive(Drop)]
 pub struct DataKey {
@@ -82,15 +82,15 @@ impl DataKey {
         requires { length aad.now < 2 ^ 31 }
         ensures { result ≡ tag self.now aad.now body.now }
     {
-        first_32(&self.mac.code(aad, body, &bit_length(aad)))
+        first_32(&self.mac.compute(aad, body, &bit_length(aad)))
     }
 
-    /// The initialization vector of associated data and a message.
+    /// The IV of associated data and a message.
     pub(crate) fn derived_iv(&self, aad: &[u8], plain: &[u8]) -> [u8; 16]
         requires { length aad.now < 2 ^ 31 }
         ensures { result ≡ derived_iv self.now aad.now plain.now }
     {
-        first_16(&self.iv.code(aad, &bit_length(aad), plain))
+        first_16(&self.iv.compute(aad, &bit_length(aad), plain))
     }
 }
 
@@ -112,20 +112,20 @@ fn bit_length(aad: &[u8]) -> [u8; 8]
     (8 * aad.len() as u64).to_be_bytes()
 }
 
-/// The first half of a code.
-fn first_32(code: &[u8; 64]) -> [u8; 32]
-    ensures { result ≡ take 32 code.now }
+/// The first half of a MAC.
+fn first_32(mac: &[u8; 64]) -> [u8; 32]
+    ensures { result ≡ take 32 mac.now }
 {
     let mut front = [0; 32];
-    front.copy_from_slice(&code[..32]);
+    front.copy_from_slice(&mac[..32]);
     front
 }
 
-/// The first quarter of a code.
-fn first_16(code: &[u8; 64]) -> [u8; 16]
-    ensures { result ≡ take 16 code.now }
+/// The first quarter of a MAC.
+fn first_16(mac: &[u8; 64]) -> [u8; 16]
+    ensures { result ≡ take 16 mac.now }
 {
     let mut front = [0; 16];
-    front.copy_from_slice(&code[..16]);
+    front.copy_from_slice(&mac[..16]);
     front
 }

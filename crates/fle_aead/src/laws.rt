@@ -6,7 +6,7 @@ ghost use Rattle.cbc_mode.specs.Padding.{pad};
 ghost use Rattle.fle_aead.specs.Sealed.{IsSealed, IsSealedLength, IsTagged, body, iv_of, opened, opened_message, tag};
 ghost use Rattle.fle_vectors.specs.declared.aead.TheConstants.{AEAD_B3};
 
-/// A sealed message determines its initialization vector and its message, its length, tag and
+/// A sealed message determines its IV and its message, its length, tag and
 /// padding are right, and it opens to its message.
 pub fn sealing()
     ensures determined { (key a iv p iv' p' c : List ℕ) → IsSealed key a iv p c
@@ -14,14 +14,14 @@ pub fn sealing()
     ensures length { (key a iv p c : List ℕ) → IsSealed key a iv p c
         → IsSealedLength (length c) }
     ensures tagged { (key a iv p c : List ℕ) → IsSealed key a iv p c → IsTagged key a c }
-    ensures vector { (key a iv p c : List ℕ) → IsSealed key a iv p c → iv_of c ≡ iv }
+    ensures iv { (key a iv p c : List ℕ) → IsSealed key a iv p c → iv_of c ≡ iv }
     ensures opens { (key a iv p c : List ℕ) → IsSealed key a iv p c → opened key c ≡ pad p }
     ensures message { (key a iv p c : List ℕ) → IsSealed key a iv p c
         → opened_message key a c ≡ Some p }
 {}
 
-/// The definitions give what RFC 7518, B.3 (AES_256_CBC_HMAC_SHA_512), prints for its message: S behind the vector,
-/// and T. The document's key has two parts; any 32 bytes stand behind it as the key of vectors.
+/// The definitions give what RFC 7518, B.3 (AES_256_CBC_HMAC_SHA_512), prints for its message: S behind the IV,
+/// and T. The document's key has two parts; any 32 bytes stand behind it as the key of IVs.
 pub fn published_message()
     ensures body { (k : List ℕ) → body (AEAD_B3.key ++ k) AEAD_B3.iv AEAD_B3.plain ≡ AEAD_B3.iv ++ AEAD_B3.sealed }
     ensures tag { (k : List ℕ) → tag (AEAD_B3.key ++ k) AEAD_B3.aad (AEAD_B3.iv ++ AEAD_B3.sealed) ≡ AEAD_B3.tag }

@@ -3,7 +3,7 @@
 //! bytes and a tag of 32).
 //!
 //! [`seal_into`] encrypts and appends the tag, [`open_into`] judges the tag and decrypts.
-//! [`derive_iv`] is the initialization vector under which equal values become equal bytes.
+//! [`derive_iv`] is the initialization vector (IV) under which equal values become equal bytes.
 //!
 //! ```rust
 //! let key = DataKey::new(bytes);
@@ -12,7 +12,7 @@
 //! let n = open_into(&Tables, &key, aad, &sealed, &mut out)?;
 //! ```
 //!
-//! Tags are compared and paddings judged with no early exit. It wipes no key, and asks nothing of the vector.
+//! Tags are compared and paddings judged with no early exit. It wipes no key, and asks nothing of the IV.
 #![tactic(auto)]
 
 pub use key::DataKey;

@@ -15,7 +15,7 @@ use std::fmt;
 /// The length of a block in bytes.
 const BLOCK: usize = 16;
 
-/// The least length of a sealed message: a vector, a block and a tag.
+/// The least length of a sealed message: an IV, a block and a tag.
 const LEAST: usize = IV + BLOCK + TAG;
 
 /// Why a sealed message isn't opened, in the order in which it is judged. Its `Debug` has no tag, since whoever
@@ -95,7 +95,7 @@ pub fn open_into<B: Block256>(
     }
 }
 
-/// Whether a length is that of a vector, one or more blocks and a tag.
+/// Whether a length is that of an IV, one or more blocks and a tag.
 fn is_sealed_len(n: usize) -> bool
     ensures { IsTrue result ↔ IsSealedLength n }
 {
@@ -123,7 +123,7 @@ fn tag_in(bytes: &[u8]) -> [u8; 32]
     tag
 }
 
-/// The vector, which is all of these bytes.
+/// The IV, which is all of these bytes.
 fn iv_in(bytes: &[u8]) -> [u8; 16]
     requires { length bytes.now ≡ 16 }
     ensures { result ≡ bytes.now }

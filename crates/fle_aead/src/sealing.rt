@@ -7,7 +7,7 @@ use crate::key::DataKey;
 use cbc_mode::{cbc_seal_into, padded_len};
 use crypto_hooks::Block256;
 
-/// The length of an initialization vector in bytes.
+/// The length of an IV in bytes.
 pub(crate) const IV: usize = 16;
 
 /// The length of a tag in bytes.
@@ -21,11 +21,11 @@ pub fn sealed_len(n: usize) -> usize
     IV + padded_len(n) + TAG
 }
 
-/// The initialization vector that the key, the associated data and the message determine: equal
+/// The IV that the key, the associated data and the message determine: equal
 /// values under it become equal bytes.
 pub fn derive_iv(key: &DataKey, aad: &[u8], plain: &[u8]) -> [u8; 16]
     requires { length aad.now < 2 ^ 31 }
-    ensures vector { result ≡ derived_iv key.now aad.now plain.now }
+    ensures iv { result ≡ derived_iv key.now aad.now plain.now }
 {
     key.derived_iv(aad, plain)
 }
@@ -49,7 +49,7 @@ pub fn seal_into<B: Block256>(
     tag.copy_from_slice(&key.tag(aad, body));
 }
 
-/// Writes the vector and the encrypted message.
+/// Writes the IV and the encrypted message.
 fn seal_body<B: Block256>(hooks: &B, key: &DataKey, iv: [u8; 16], plain: &[u8], out: &mut [u8])
     requires hooks { B.answers hooks.now }
     requires room { length out.old ≡ 16 + 16 * (length plain.now / 16 + 1) }

@@ -1,6 +1,6 @@
 pub mod Messages
 pub mod SameBlocks
-pub mod SameVectors
+pub mod SameIvs
 pub mod Asked
 pub mod Payloads
 pub mod Turns

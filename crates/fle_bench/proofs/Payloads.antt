@@ -8,10 +8,10 @@ use Rattle.payload6.specs.Opening.{IsOriginal}
 use Rattle.payload6.specs.Payload.{algorithm_number, head, HasKind, IsKind, IsPayloadLength, IsSealedPayload}
 use Rattle.payload6.proofs.PayloadForm.{parted-once, payload-length}
 use Rattle.fle_bench.specs.Message.{message_bytes}
-use Rattle.fle_bench.specs.Payload.{binary_value, payload_of, vector_of}
+use Rattle.fle_bench.specs.Payload.{binary_value, payload_of, iv_for}
 
 pub payload-is : (algorithm : Algorithm) (key id : List ℕ) (type : ℕ) (iv p bytes : List ℕ)
-    → IsSealedPayload (algorithm_number algorithm) id key type (vector_of algorithm key id type iv p) p bytes
+    → IsSealedPayload (algorithm_number algorithm) id key type (iv_for algorithm key id type iv p) p bytes
     → bytes ≡ payload_of algorithm key id type iv p
 unfolding payload_of
 payload-is algorithm key id type iv p bytes s =

@@ -12,7 +12,7 @@ use Rattle.doc_rewrite.specs.Sites.{Site}
 use Rattle.fle_outside.specs.Blocks.{Block}
 use Rattle.fle_outside.specs.Seen.{EntropySeen}
 use Rattle.fle_bench.specs.Documents.{sealed_bytes}
-use Rattle.fle_bench.specs.declared.payload.TheConstants.{VECTOR}
+use Rattle.fle_bench.specs.declared.payload.TheConstants.{IV}
 
 -- the first of equal elements are equal elements
 pub first_same : {X : Type 0} (n : ℕ) (x : X) (xs ys : List X) → replicate n x ≡ xs ++ ys
@@ -30,12 +30,12 @@ one_same (suc n) x some =
 
 -- a document sealed with blocks that are all the same
 pub sealed_same : (keys : Table) (ss : List Site) (d : At) (before after : EntropySeen) (n : ℕ)
-    (bytes : List ℕ) → before.told ≡ Some (replicate n VECTOR) → IsSealedWhole (key_in keys) ss d before after bytes
+    (bytes : List ℕ) → before.told ≡ Some (replicate n IV) → IsSealedWhole (key_in keys) ss d before after bytes
     → bytes ≡ sealed_bytes keys ss d
 unfolding sealed_bytes
 sealed_same keys ss d before after n bytes told whole =
-    let first = whole.draws.first (replicate n VECTOR) told in
-    let same : whole.drawn ≡ replicate (length whole.drawn) VECTOR =
-    first_same n VECTOR whole.drawn first.0 first.1 in
+    let first = whole.draws.first (replicate n IV) told in
+    let same : whole.drawn ≡ replicate (length whole.drawn) IV =
+    first_same n IV whole.drawn first.0 first.1 in
     whole.written ∙ ap (λ (bs : List Block). doc_bytes (sealed (key_in keys) ss bs d))
-    (same ∙ ap (λ (k : ℕ). replicate k VECTOR) whole.count)
+    (same ∙ ap (λ (k : ℕ). replicate k IV) whole.count)

@@ -10,15 +10,15 @@ use Rattle.doc_rewrite.specs.Opened.{ring_of}
 use Rattle.doc_rewrite.specs.Opening.{document_opened}
 use Rattle.doc_rewrite.specs.Sealed.{sealed}
 use Rattle.doc_rewrite.specs.Sites.{Site, draws_of, sites_of}
-use Rattle.fle_bench.specs.declared.payload.TheConstants.{KEY_ID, VECTOR}
+use Rattle.fle_bench.specs.declared.payload.TheConstants.{KEY_ID, IV}
 
 -- the data key under its id, alone
 abbrev pub the_keys : Table
 the_keys = record { ids = record { id = KEY_ID; key = DATA_KEY } ∷ []; names = [] }
 
--- the bytes of a document, sealed under these keys at these sites, each random value under the given vector
+-- the bytes of a document, sealed under these keys at these sites, each random value under the given IV
 unfoldable pub sealed_bytes : Table → List Site → At → List ℕ
-sealed_bytes keys sites d = doc_bytes (sealed (key_in keys) sites (replicate (draws_of sites) VECTOR) d)
+sealed_bytes keys sites d = doc_bytes (sealed (key_in keys) sites (replicate (draws_of sites) IV) d)
 
 -- the bytes of a command, its protected values under these rules sealed under the data key
 abbrev pub sealed_command : List Row → At → List ℕ

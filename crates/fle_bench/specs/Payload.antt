@@ -13,19 +13,19 @@ use Rattle.fle_bench.specs.Value.{with_tag}
 unfoldable pub binary_value : ℕ → List ℕ
 binary_value n = binary_bytes 0 (message_bytes n)
 
--- the vector: the one that key, key id, type and value determine, or one that is given
-unfoldable pub vector_of : Algorithm → List ℕ → List ℕ → ℕ → List ℕ → List ℕ → List ℕ
-vector_of Deterministic key id type iv p = derived_iv key (head 1 id type) p
-vector_of Random key id type iv p = iv
+-- the IV: the one that key, key id, type and value determine, or one that is given
+unfoldable pub iv_for : Algorithm → List ℕ → List ℕ → ℕ → List ℕ → List ℕ → List ℕ
+iv_for Deterministic key id type iv p = derived_iv key (head 1 id type) p
+iv_for Random key id type iv p = iv
 
--- a head, and behind it the value, sealed under a vector with the head as associated data
+-- a head, and behind it the value, sealed under an IV with the head as associated data
 abbrev pub behind_head : List ℕ → List ℕ → List ℕ → List ℕ → List ℕ
 behind_head key h iv p = h ++ with_tag key h (body key iv p)
 
--- the payload of a value p of this type; the given vector serves Random alone
+-- the payload of a value p of this type; the given IV serves Random alone
 unfoldable pub payload_of : Algorithm → List ℕ → List ℕ → ℕ → List ℕ → List ℕ → List ℕ
 payload_of algorithm key id type iv p =
-    behind_head key (head (algorithm_number algorithm) id type) (vector_of algorithm key id type iv p) p
+    behind_head key (head (algorithm_number algorithm) id type) (iv_for algorithm key id type iv p) p
 
 -- where the bytes are the payload of a value that may be opened, out begins with it
 pub record IsOpened (key bytes out : List ℕ) : Type 0 where

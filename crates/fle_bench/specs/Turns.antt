@@ -16,13 +16,13 @@ unfoldable pub repeated : (List ℕ → List ℕ) → List ℕ → ℕ → List 
 repeated turn x zero = x
 repeated turn x (suc n) = turn (repeated turn x n)
 
--- CBC encryption, whose last block is the next vector
+-- CBC encryption, whose last block is the next IV
 abbrev pub sealed_turns : List ℕ → List ℕ → List ℕ → ℕ → List ℕ
 sealed_turns w iv p n = repeated (λ (b : List ℕ). cbc_sealed w (last 16 b) (pad p)) iv n
 
 -- HMAC, whose last 16 bytes stand in place of the next text's first 16
-abbrev pub code_turns : List ℕ → List ℕ → List ℕ → ℕ → List ℕ
-code_turns key block text n = repeated (λ (b : List ℕ). hmac key (last 16 b ++ drop 16 text)) block n
+abbrev pub mac_turns : List ℕ → List ℕ → List ℕ → ℕ → List ℕ
+mac_turns key block text n = repeated (λ (b : List ℕ). hmac key (last 16 b ++ drop 16 text)) block n
 
 -- one sealed value, whose last 18 bytes are the next one's associated data
 abbrev pub value_turns : List ℕ → List ℕ → List ℕ → ℕ → List ℕ

@@ -1,5 +1,5 @@
 //! AEAD_AES_256_CBC_HMAC_SHA_512 (draft-mcgrew-aead-aes-cbc-hmac-sha2) of one value, under the
-//! vector that it determines.
+//! IV that it determines.
 
 ghost use Rattle.std.specs.Prelude.{◌≡◌, ◌≤◌, ◌<◌, ◌+◌, ◌*◌, ◌/◌, ◌^◌, length, List, take, ℕ, IfOk};
 ghost use Rattle.fle_aead.specs.Sealed.{derived_iv, IsSealed};
@@ -15,7 +15,7 @@ use fle_aead::{DataKey, derive_iv, open_into, seal_into, sealed_len};
 use fle_vectors::DATA_KEY;
 use std::alloc::{AllocError, Global};
 
-/// The associated data of a string that is sealed under a derived vector: 01, the key's id, 02.
+/// The associated data of a string that is sealed under a derived IV: 01, the key's id, 02.
 const ASSOCIATED: [u8; 18] = [
     0x01, 0x00, 0x11, 0x22, 0x33, 0x44, 0x55, 0x46, 0x77, 0x88, 0x99, 0xaa, 0xbb, 0xcc, 0xdd, 0xee,
     0xff, 0x02,
@@ -81,7 +81,7 @@ fn seal_fresh(bytes: [u8; 96], first: [u8; 18], plain: &[u8], out: &mut [u8], tu
     }
 }
 
-/// Seals a message under the vector that it determines.
+/// Seals a message under the IV that it determines.
 fn seal_once(key: &DataKey, aad: &[u8], plain: &[u8], out: &mut [u8])
     requires aad { length aad.now < 2 ^ 31 }
     requires room { length out.old ≡ 48 + 16 * (length plain.now / 16 + 1) }

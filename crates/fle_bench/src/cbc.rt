@@ -91,7 +91,7 @@ fn through<B: Block256>(
     }
 }
 
-/// Seals a message some times over, the last block of each time being the next vector.
+/// Seals a message some times over, the last block of each time being the next IV.
 fn seal_turns<B: Block256>(
     hooks: &B,
     schedule: &Schedule,

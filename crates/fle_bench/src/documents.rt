@@ -2,11 +2,11 @@
 
 ghost use Rattle.std.specs.Prelude.{◌≡◌, ◌≤◌, length, replicate, IfSome, Some};
 ghost use Rattle.fle_bench.specs.Documents.{the_keys};
-ghost use Rattle.fle_bench.specs.declared.payload.TheConstants.{VECTOR as given};
+ghost use Rattle.fle_bench.specs.declared.payload.TheConstants.{IV as given};
 
 use crate::job::Direction;
 use crate::opening::run_opening;
-use crate::payload::{KEY_ID, VECTOR};
+use crate::payload::{IV, KEY_ID};
 use crate::sealing::run_sealing;
 use doc_rewrite::KeyTable;
 use fle_aead::DataKey;
@@ -35,7 +35,7 @@ pub fn keys(alloc: Global) -> Option<KeyTable>
     }
 }
 
-/// A source of so many blocks, each of them the vector of a random payload.
+/// A source of so many blocks, each of them the IV of a random payload.
 #[derive(Drop)]
 pub struct SameBlock {
     /// How many are left.
@@ -53,6 +53,6 @@ impl Entropy for SameBlock {
             return Err(Failed);
         }
         self.left -= 1;
-        Ok(VECTOR)
+        Ok(IV)
     }
 }

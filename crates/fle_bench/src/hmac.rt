@@ -5,7 +5,7 @@ ghost use Rattle.hmac_sha512.specs.Hmac.{hmac};
 ghost use Rattle.hmac_sha512.specs.States.{HasKey};
 ghost use Rattle.fle_bench.specs.Checksum.{checksum};
 ghost use Rattle.fle_bench.specs.Message.{message_bytes};
-ghost use Rattle.fle_bench.specs.Turns.{code_turns};
+ghost use Rattle.fle_bench.specs.Turns.{mac_turns};
 
 use crate::checksum::checksum;
 use crate::input::{last_block, message};
@@ -14,53 +14,53 @@ use fle_vectors::CBC_AES256;
 use hmac_sha512::KeyedMac;
 use std::alloc::{AllocError, Global};
 
-/// Makes the code of a message of some length, 16 bytes or more, under the 32 bytes of the cipher's key, and gives the
-/// checksum of the last. In place of the message's first 16 bytes stands the cipher's vector, and then the last 16
-/// bytes of the code before.
+/// Makes the MAC of a message of some length, 16 bytes or more, under the 32 bytes of the cipher's key, and gives the
+/// checksum of the last. In place of the message's first 16 bytes stands the cipher's IV, and then the last 16
+/// bytes of the MAC before.
 pub fn run(alloc: Global, setup: KeySetup, size: usize, turns: u32) -> Result<u32, AllocError>
     requires { 16 ≤ size }
     ensures sum { IfOk result (λ sum. 0 < turns
-        → sum ≡ checksum (code_turns CBC_AES256.key CBC_AES256.iv (message_bytes size) turns)) }
+        → sum ≡ checksum (mac_turns CBC_AES256.key CBC_AES256.iv (message_bytes size) turns)) }
 {
     let text = message(alloc, size)?;
-    let code = match setup {
+    let mac = match setup {
         KeySetup::Kept => kept_turns(&CBC_AES256.key, CBC_AES256.iv, &text, turns),
         KeySetup::Fresh => fresh_turns(&CBC_AES256.key, CBC_AES256.iv, &text, turns),
     };
-    Ok(checksum(&code))
+    Ok(checksum(&mac))
 }
 
-/// The code of a message, made some times over under a key that is kept.
+/// The MAC of a message, made some times over under a key that is kept.
 fn kept_turns(key: &[u8], first: [u8; 16], text: &[u8], turns: u32) -> [u8; 64]
     requires { 16 ≤ length text.now }
-    ensures { 0 < turns → result ≡ code_turns key.now first text.now turns }
+    ensures { 0 < turns → result ≡ mac_turns key.now first text.now turns }
 {
     let keyed = KeyedMac::new(key);
     let mut block = first;
-    let mut code = [0; 64];
+    let mut mac = [0; 64];
     for _turn in 0..turns {
-        code = code_once(&keyed, block, text);
-        block = last_block(&code);
+        mac = mac_once(&keyed, block, text);
+        block = last_block(&mac);
     }
-    code
+    mac
 }
 
-/// The code of a message, made some times over with nothing kept.
+/// The MAC of a message, made some times over with nothing kept.
 fn fresh_turns(key: &[u8], first: [u8; 16], text: &[u8], turns: u32) -> [u8; 64]
     requires { 16 ≤ length text.now }
-    ensures { 0 < turns → result ≡ code_turns key.now first text.now turns }
+    ensures { 0 < turns → result ≡ mac_turns key.now first text.now turns }
 {
     let mut block = first;
-    let mut code = [0; 64];
+    let mut mac = [0; 64];
     for _turn in 0..turns {
-        code = code_once(&KeyedMac::new(key), block, text);
-        block = last_block(&code);
+        mac = mac_once(&KeyedMac::new(key), block, text);
+        block = last_block(&mac);
     }
-    code
+    mac
 }
 
-/// The code of a message, with a block in place of its first 16 bytes.
-fn code_once(keyed: &KeyedMac, block: [u8; 16], text: &[u8]) -> [u8; 64]
+/// The MAC of a message, with a block in place of its first 16 bytes.
+fn mac_once(keyed: &KeyedMac, block: [u8; 16], text: &[u8]) -> [u8; 64]
     requires { 16 ≤ length text.now }
     ensures { (k : List ℕ) → HasKey keyed.now k → result ≡ hmac k (block ++ drop 16 text.now) }
 {

@@ -43,7 +43,7 @@ pub enum Subject {
     Cbc(Direction, Way),
     /// HMAC-SHA-512.
     Hmac(KeySetup),
-    /// The sealing of a value under the vector that it determines.
+    /// The sealing of a value under the IV that it determines.
     AeadSeal(KeySetup),
     /// The opening of such a value, under a key that is kept.
     AeadOpen,

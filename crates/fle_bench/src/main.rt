@@ -57,7 +57,7 @@ fn run(rt: &HostRuntime, subject: Subject, size: usize, turns: u32) -> anyhow::R
     }
     match subject {
         Subject::Cbc(direction, way) => Ok(cbc::run(rt.alloc(), direction, way, size, turns)?),
-        Subject::Hmac(setup) => run_code(rt.alloc(), setup, size, turns),
+        Subject::Hmac(setup) => run_mac(rt.alloc(), setup, size, turns),
         Subject::AeadSeal(setup) => Ok(aead::run_sealing(rt.alloc(), setup, size, turns)?),
         Subject::AeadOpen => Ok(aead::run_opening(rt.alloc(), size, turns)?),
         Subject::Payload(Direction::Seal, algorithm) => {
@@ -83,10 +83,10 @@ fn run(rt: &HostRuntime, subject: Subject, size: usize, turns: u32) -> anyhow::R
     }
 }
 
-/// The same of codes.
-fn run_code(alloc: Global, setup: KeySetup, size: usize, turns: u32) -> anyhow::Result<u32> {
+/// The same of MACs.
+fn run_mac(alloc: Global, setup: KeySetup, size: usize, turns: u32) -> anyhow::Result<u32> {
     if size < 16 {
-        anyhow::bail!("the message of a code is shorter than 16 bytes");
+        anyhow::bail!("the message of a MAC is shorter than 16 bytes");
     }
     Ok(hmac::run(alloc, setup, size, turns)?)
 }

@@ -1,9 +1,9 @@
 //! One payload (MongoDB Client Side Encryption, BSON binary subtype 6) of a binary, deterministic or
-//! under a vector that is given.
+//! under an IV that is given.
 
 ghost use Rattle.std.specs.Prelude.{◌≡◌, ◌≤◌, ◌<◌, ◌+◌, ◌*◌, ◌/◌, ◌^◌, length, take, IfOk};
 ghost use Rattle.fle_bench.specs.Checksum.{checksum};
-ghost use Rattle.fle_bench.specs.Payload.{binary_value, vector_of, IsOpened};
+ghost use Rattle.fle_bench.specs.Payload.{binary_value, iv_for, IsOpened};
 ghost use Rattle.fle_bench.specs.Turns.{payload_turns};
 ghost use Rattle.payload6.specs.Opening.{IsOriginal};
 ghost use Rattle.payload6.specs.Payload.{algorithm_number, IsSealedPayload};
@@ -27,8 +27,8 @@ pub(crate) const KEY_ID: [u8; 16] = [
     0x00, 0x11, 0x22, 0x33, 0x44, 0x55, 0x46, 0x77, 0x88, 0x99, 0xaa, 0xbb, 0xcc, 0xdd, 0xee, 0xff,
 ];
 
-/// The vector of a random payload.
-pub(crate) const VECTOR: [u8; 16] = [
+/// The IV of a random payload.
+pub(crate) const IV: [u8; 16] = [
     0x00, 0x01, 0x02, 0x03, 0x04, 0x05, 0x06, 0x07, 0x08, 0x09, 0x0a, 0x0b, 0x0c, 0x0d, 0x0e, 0x0f,
 ];
 
@@ -42,7 +42,7 @@ pub fn run_sealing(
 ) -> Result<u32, AllocError>
     requires { size ≤ MOST_BYTES }
     ensures sum { IfOk result (λ sum. 0 < turns
-        → sum ≡ checksum (payload_turns algorithm DATA_KEY KEY_ID BINARY VECTOR (binary_value size) turns)) }
+        → sum ≡ checksum (payload_turns algorithm DATA_KEY KEY_ID BINARY IV (binary_value size) turns)) }
 {
     let plain = binary(alloc, size)?;
     let mut payload = vec![in alloc; 0u8; payload_len(size + 5)]?;
@@ -87,7 +87,7 @@ fn binary(alloc: Global, size: usize) -> Result<Vec<u8>, AllocError>
 fn seal(algorithm: Algorithm, plain: &[u8], out: &mut [u8], turns: u32)
     requires room { length out.old ≡ 66 + 16 * (length plain.now / 16 + 1) }
     ensures { 0 < turns
-        → out.new ≡ payload_turns algorithm DATA_KEY KEY_ID BINARY VECTOR plain.now turns }
+        → out.new ≡ payload_turns algorithm DATA_KEY KEY_ID BINARY IV plain.now turns }
 {
     let key = DataKey::new(DATA_KEY);
     let mut id = KEY_ID;
@@ -98,11 +98,11 @@ fn seal(algorithm: Algorithm, plain: &[u8], out: &mut [u8], turns: u32)
 }
 
 /// Seals a binary.
-#[tactic(auto, unfolding(crate::specs::Payload::vector_of))]
+#[tactic(auto, unfolding(crate::specs::Payload::iv_for))]
 fn seal_once(key: &DataKey, algorithm: Algorithm, id: [u8; 16], plain: &[u8], out: &mut [u8])
     requires room { length out.old ≡ 66 + 16 * (length plain.now / 16 + 1) }
     ensures { IsSealedPayload (algorithm_number algorithm) id key.now BINARY
-        (vector_of algorithm key.now id BINARY VECTOR plain.now) plain.now out.new }
+        (iv_for algorithm key.now id BINARY IV plain.now) plain.now out.new }
 {
     match algorithm {
         Algorithm::Deterministic => {
@@ -110,7 +110,7 @@ fn seal_once(key: &DataKey, algorithm: Algorithm, id: [u8; 16], plain: &[u8], ou
             seal_payload_into(&Tables, key, DETERMINISTIC, id, BINARY, iv, plain, out);
         }
         Algorithm::Random => {
-            seal_payload_into(&Tables, key, RANDOM, id, BINARY, VECTOR, plain, out);
+            seal_payload_into(&Tables, key, RANDOM, id, BINARY, IV, plain, out);
         }
     }
 }

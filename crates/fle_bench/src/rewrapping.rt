@@ -10,7 +10,7 @@ ghost use Rattle.key_vault.specs.Loading.{vault as vault_of};
 
 use crate::checksum::checksum;
 use crate::documents::SameBlock;
-use crate::payload::VECTOR;
+use crate::payload::IV;
 use crypto_hooks::Tables;
 use data_key::KeyDoc;
 use fle_vectors::{DATA_KEY, MASTER_KEY};
@@ -57,8 +57,8 @@ fn rewrap_turns(alloc: Global, bytes: &[u8], vault: &Vault, turns: u32) -> Optio
     file
 }
 
-/// The file of a vault under another master key, each key under the given vector.
-#[tactic(auto, using(crate::proofs::SameVectors::rewrapped_same))]
+/// The file of a vault under another master key, each key under the given IV.
+#[tactic(auto, using(crate::proofs::SameIvs::rewrapped_same))]
 fn rewrap_once(
     alloc: Global,
     bytes: &[u8],
@@ -115,7 +115,7 @@ fn new_material(from: &MasterKey, to: &MasterKey, key: &KeyDoc) -> Option<[u8; 1
         return None;
     }
     match unwrap_key(&Tables, from, key.material.as_slice()) {
-        Ok(data_key) => Some(wrap_key(&Tables, to, VECTOR, &data_key)),
+        Ok(data_key) => Some(wrap_key(&Tables, to, IV, &data_key)),
         Err(_) => None,
     }
 }

@@ -249,7 +249,7 @@ id_long block long =
 material_long : (key iv : List ℕ) → AreSeeds key iv → length (material_of master iv key) ≡ 160
 material_long key iv seeds =
     sealed-length master [] iv key (material_of master iv key) (record {
-      vector = record { len = seeds.vector.len; bytes = seeds.vector.bytes };
+      iv_block = record { len = seeds.iv_block.len; bytes = seeds.iv_block.bytes };
       plain = seeds.bytes;
       form = refl;
     })

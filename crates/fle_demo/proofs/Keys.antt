@@ -16,11 +16,11 @@ use Rattle.key_vault.specs.Lookup.{key_of, opened_by, opened_key}
 use Rattle.local_kms.specs.Made.{block_at, key_of_blocks, material_of, six_blocks}
 use Rattle.local_kms.specs.Wrapped.{key_of_plain, unwrapped}
 
--- what is known of the data key and the vector in eight blocks
+-- what is known of the data key and the IV in eight blocks
 pub record AreSeeds (key iv : List ℕ) : Type 0 where
   pub long : length key ≡ 96
   pub bytes : All (λ b. b < 256) key
-  pub vector : IsBlock iv
+  pub iv_block : IsBlock iv
 
 two : (a b : Block) → IsBlock a → IsBlock b → (length (a ++ b) ≡ 32) × All (λ b. b < 256) (a ++ b)
 two a b p q = (omega (arith, p.len, q.len, length-append a b), All-append (λ b. b < 256) a b p.bytes q.bytes)
@@ -48,7 +48,7 @@ opens : (master key iv material : List ℕ) → AreSeeds key iv → material ≡
 unfolding unwrapped
 opens master key iv material seeds is long =
     let form : IsSealed master [] iv key material = record {
-      vector = record { len = seeds.vector.len; bytes = seeds.vector.bytes };
+      iv_block = record { len = seeds.iv_block.len; bytes = seeds.iv_block.bytes };
       plain = seeds.bytes;
       form = is;
     } in
@@ -68,7 +68,7 @@ only_key master key plain local is =
     ∙ ap (λ (k : Option (List ℕ)). opened_by key.provider k) is
     ∙ ap (λ p. opened_by p (Some plain)) local
 
--- the data key and the vector that eight blocks make
+-- the data key and the IV that eight blocks make
 pub seeds_are : (blocks : List Block) → length blocks ≡ 8 → AreBlocks blocks
     → AreSeeds (six_blocks 1 blocks) (block_at 7 blocks)
 seeds_are blocks long are =
@@ -78,7 +78,7 @@ seeds_are blocks long are =
     six (block_at 1 blocks) (block_at 2 blocks) (block_at 3 blocks) (block_at 4 blocks) (block_at 5 blocks)
     (block_at 6 blocks) (at 1 (omega arith)) (at 2 (omega arith)) (at 3 (omega arith)) (at 4 (omega arith))
     (at 5 (omega arith)) (at 6 (omega arith)) in
-    record { long = whole.0; bytes = whole.1; vector = at 7 (omega arith) }
+    record { long = whole.0; bytes = whole.1; iv_block = at 7 (omega arith) }
 
 -- the key that eight blocks make is opened
 pub made_key : (master : List ℕ) (blocks : List Block) (key : KeyDoc) → length blocks ≡ 8 → AreBlocks blocks

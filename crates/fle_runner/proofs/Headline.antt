@@ -134,7 +134,7 @@ module _ (x : Setup) (uuids : AreByUuid x.keys) where
         (rule_keys x.keys uuids (rows_of x.infos c) (at_front c) (roles (rows_of x.infos c) 0 c)
         (all_needed x c a.none) a.keyed);
     count = count ∙ ap (λ (p : Plan). p.draws) a.is;
-    vectors = refl;
+    ivs = refl;
   }
 
   none : (blocks : List Block) → length blocks ≡ 0 → Sealing x [] [] blocks

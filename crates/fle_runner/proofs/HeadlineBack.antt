@@ -43,7 +43,7 @@ come_back x (c ∷ cs) blocks (d ∷ ds) had sealed readable =
     let small = readable.3 in
     let long : length (doc_bytes d) < 2 ^ 31 = omega (arith, small) in
     let back = opens_again keys rows x.opens (at_front c) (at_front d) readable.0 readable.1 readable.2 had stations
-        in (
+    in (
       spelled_again keys rows c d readable.0 stations long,
       small,
       opens_to x.opens c d back,

@@ -80,11 +80,11 @@ accepted_in x taken (doc n c docs) =
     if (nat_lt taken (2 ^ 40) && accepts x c) then c ∷ accepted_in x (taken + n) docs else []
 
 -- a command and its sealed form: exactly its protected values are payloads of them under their rules' policies, and
--- nothing else changed; its random payloads have these blocks as vectors, in reading order
+-- nothing else changed; its random payloads have these blocks as IVs, in reading order
 pub record IsSealedUnder (x : Setup) (c : Items) (blocks : List Block) (d : Items) : Type 0 where
   pub command : IsSealedCommand (found_in x.keys) (rows_of x.infos c) c d
   pub count : length blocks ≡ draws_of (sites_in x c)
-  pub vectors : d ≡ sealed (found_in x.keys) (sites_in x c) blocks (at_front c)
+  pub ivs : d ≡ sealed (found_in x.keys) (sites_in x c) blocks (at_front c)
 
 -- the same for commands one by one, each with its own blocks
 abbrev pub AreSealedUnder : Setup → List Items → List Block → List Items → Type 0

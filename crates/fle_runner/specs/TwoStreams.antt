@@ -1,4 +1,4 @@
--- MongoDB Client Side Encryption: streams of commands that differ in protected values alone.
+-- MongoDB Client Side Encryption, noninterference: streams of commands that differ in protected values alone.
 use Rattle.std.specs.Prelude.{◌≡◌, List, [], ◌∷◌}
 use Rattle.encrypt_schema.specs.Commands.Skeletons.{skeleton}
 use Rattle.encrypt_schema.specs.Commands.Targets.{rows_of}

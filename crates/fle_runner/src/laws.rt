@@ -94,10 +94,10 @@ pub fn sealed_commands_are_read_back()
         → HasAll (ring keys master) (found_in (finder keys master)) }
 {}
 
-/// Under the same words and files, streams of commands with equal skeletons come to one end: how and where a run of
-/// `mark` or of `encrypt` stops, how many bytes it reads, and how many outputs it writes before, of how many bytes and
-/// with how many random blocks, tells of protected values their types, their lengths and whether they are binaries of
-/// subtype 06, and nothing else.
+/// Noninterference: under the same words and files, streams of commands with equal skeletons come to one end: how and
+/// where a run of `mark` or of `encrypt` stops, how many bytes it reads, and how many outputs it writes before, of how
+/// many bytes and with how many random blocks, tells of protected values their types, their lengths and whether they
+/// are binaries of subtype 06, and nothing else.
 pub fn two_streams()
     ensures mark { (now : ℕ) (words : List (List ℕ)) (all : Files) (db : List ℕ) (infos : List Collection)
         (told other : List ℕ) → IsMark words all db infos → All (λ b. b < 256) told → All (λ b. b < 256) other

@@ -1,11 +1,11 @@
 // RFC 7518, appendix B: authenticated encryption with associated data by AES-256-CBC and HMAC-SHA-512.
 
-/// A message with associated data, and what it is sealed to under a key and an initialization vector.
+/// A message with associated data, and what it is sealed to under a key and an IV.
 #[derive(Clone, Copy)]
 pub struct AeadVector {
     /// The key of the tag, and behind it the key of the cipher.
     pub key: [u8; 64],
-    /// The initialization vector.
+    /// The IV.
     pub iv: [u8; 16],
     /// The associated data.
     pub aad: [u8; 42],
@@ -13,7 +13,7 @@ pub struct AeadVector {
     pub plain: [u8; 128],
     /// The padded message's cipher blocks.
     pub sealed: [u8; 144],
-    /// The tag: the first half of the code.
+    /// The tag: the first half of the MAC.
     pub tag: [u8; 32],
 }
 

@@ -1,12 +1,12 @@
 // SP 800-38A, appendix F: cipher block chaining with a 256-bit key.
 
 /// A message of whole blocks, and what the mode makes of it under a key and an initialization
-/// vector, with no padding.
+/// IV, with no padding.
 #[derive(Clone, Copy)]
 pub struct CbcVector {
     /// The 256-bit key.
     pub key: [u8; 32],
-    /// The initialization vector.
+    /// The initialization vector (IV).
     pub iv: [u8; 16],
     /// The four plain blocks, in order.
     pub plain: [u8; 64],

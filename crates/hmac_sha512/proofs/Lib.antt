@@ -1,2 +1,2 @@
-pub mod CodeLength
+pub mod MacLength
 pub mod Computed

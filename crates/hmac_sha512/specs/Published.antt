@@ -1,4 +1,4 @@
--- RFC 4231, 4.3, test case 2: a key that is shorter than the code, the data and the code, as the document prints them.
+-- RFC 4231, 4.3, test case 2: a key that is shorter than the MAC, the data and the MAC, as the document prints them.
 use Rattle.std.specs.Prelude.{ℕ, List, [], ◌∷◌, codes}
 
 abbrev pub key_2 : List ℕ
@@ -8,9 +8,9 @@ key_2 = codes "Jefe"
 abbrev pub data_2 : List ℕ
 data_2 = codes "what do ya want for nothing?"
 
--- the code of test case 2, HMAC-SHA-512
-abbrev pub code_2 : List ℕ
-code_2 =
+-- the MAC of test case 2, HMAC-SHA-512
+abbrev pub mac_2 : List ℕ
+mac_2 =
     0x16 ∷ 0x4b ∷ 0x7a ∷ 0x7b ∷ 0xfc ∷ 0xf8 ∷ 0x19 ∷ 0xe2 ∷ 0xe3 ∷ 0x95 ∷ 0xfb ∷ 0xe7 ∷ 0x3b ∷ 0x56 ∷ 0xe0 ∷ 0xa3
     ∷ 0x87 ∷ 0xbd ∷ 0x64 ∷ 0x22 ∷ 0x2e ∷ 0x83 ∷ 0x1f ∷ 0xd6 ∷ 0x10 ∷ 0x27 ∷ 0x0c ∷ 0xd7 ∷ 0xea ∷ 0x25 ∷ 0x05 ∷ 0x54
     ∷ 0x97 ∷ 0x58 ∷ 0xbf ∷ 0x75 ∷ 0xc0 ∷ 0x5a ∷ 0x99 ∷ 0x4a ∷ 0x6d ∷ 0x03 ∷ 0x4f ∷ 0x65 ∷ 0xf8 ∷ 0xf0 ∷ 0xe6 ∷ 0xfd

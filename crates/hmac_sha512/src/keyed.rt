@@ -35,10 +35,10 @@ impl KeyedMac {
         Mac::resumed(copy_of(&self.inner), copy_of(&self.outer))
     }
 
-    /// The code of a message that lies in three parts, under the key: [`KeyedMac::begin`] with fewer copies of states.
+    /// The MAC of a message that lies in three parts, under the key: [`KeyedMac::begin`] with fewer copies of states.
     #[tactic(auto, unfolding(crate::specs::Hmac::hmac))]
-    pub fn code(&self, first: &[u8], second: &[u8], third: &[u8]) -> [u8; 64]
-        ensures code { (k : List ℕ) → HasKey self.now k → result ≡ hmac k ((first.now ++ second.now) ++ third.now) }
+    pub fn compute(&self, first: &[u8], second: &[u8], third: &[u8]) -> [u8; 64]
+        ensures mac { (k : List ℕ) → HasKey self.now k → result ≡ hmac k ((first.now ++ second.now) ++ third.now) }
     {
         // A copy is used in the arm that takes it out: handed out first, as by `copy_of`, it is copied once more.
         let digest: [u8; 64] = match self.inner.clone() {

@@ -1,7 +1,7 @@
-//! HMAC-SHA-512: the keyed message authentication code of RFC 2104 over the hash function of FIPS
+//! HMAC-SHA-512: the keyed message authentication code (MAC) of RFC 2104 over the hash function of FIPS
 //! 180-4.
 //!
-//! [`mac`] is the code of one message. [`Mac`] takes a message in parts. [`KeyedMac`] keeps a key
+//! [`mac`] is the MAC of one message. [`Mac`] takes a message in parts. [`KeyedMac`] keeps a key
 //! that serves many messages, each of which then costs two runs of the hash function less.
 //!
 //! ```rust
@@ -9,10 +9,10 @@
 //! let mut running = keyed.begin();
 //! running.update(b"Hi ");
 //! running.update(b"There");
-//! let code: [u8; 64] = running.finish();
+//! let mac: [u8; 64] = running.finish();
 //! ```
 //!
-//! It doesn't compare codes and doesn't wipe what it leaves in memory. No clause says how long it runs: it has no
+//! It doesn't compare MACs and doesn't wipe what it leaves in memory. No clause says how long it runs: it has no
 //! table that is read at a secret place, and docs/SECURITY.md says what a test of its traces showed.
 #![tactic(auto)]
 

@@ -8,7 +8,7 @@ ghost use Rattle.hmac_sha512.specs.States.{HasRead};
 use crate::key_block::{block_of_key, inner_state, outer_state};
 use sha2::{Digest, Sha512};
 
-/// The code of a message that is read part by part (RFC 2104).
+/// The MAC of a message that is read part by part (RFC 2104).
 ///
 /// Two running digests of SHA-512: the inner one reads the message, the outer one waits for its
 /// digest.
@@ -42,10 +42,10 @@ impl Mac {
         self.inner.update(part);
     }
 
-    /// The code of the message that was read.
+    /// The MAC of the message that was read.
     #[tactic(auto, unfolding(crate::specs::Hmac::hmac))]
     pub fn finish(self) -> [u8; 64]
-        ensures code { (k m : List ℕ) → HasRead self k m → result ≡ hmac k m }
+        ensures mac { (k m : List ℕ) → HasRead self k m → result ≡ hmac k m }
     {
         let Mac { inner, mut outer } = self;
         let digest: [u8; 64] = inner.finalize();

@@ -5,9 +5,9 @@ ghost use Rattle.hmac_sha512.specs.Hmac.{hmac};
 
 use crate::running::Mac;
 
-/// The code of one message under a key, HMAC-SHA-512 (RFC 2104). Both may have any length.
+/// The MAC of one message under a key, HMAC-SHA-512 (RFC 2104). Both may have any length.
 pub fn mac(key: &[u8], message: &[u8]) -> [u8; 64]
-    ensures code { result ≡ hmac key.now message.now }
+    ensures mac { result ≡ hmac key.now message.now }
 {
     let mut running = Mac::new(key);
     running.update(message);

@@ -29,7 +29,7 @@ two_blocks i blocks = block_at i blocks ++ block_at (i + 1) blocks
 abbrev pub six_blocks : ℕ → List Block → List ℕ
 six_blocks i blocks = two_blocks i blocks ++ (two_blocks (i + 2) blocks ++ two_blocks (i + 4) blocks)
 
--- what a key is made of: a block for its id, six for the data key, and one for its vector
+-- what a key is made of: a block for its id, six for the data key, and one for its IV
 abbrev pub seeds_of : Block → List ℕ → Block → Seeds
 seeds_of id key iv = record { id = id; key = key; iv = iv }
 
@@ -37,7 +37,7 @@ seeds_of id key iv = record { id = id; key = key; iv = iv }
 abbrev pub seeds : List Block → Seeds
 seeds blocks = seeds_of (block_at 0 blocks) (six_blocks 1 blocks) (block_at 7 blocks)
 
--- a data key sealed under its master key and a vector, without associated data
+-- a data key sealed under its master key and an IV, without associated data
 abbrev pub material_of : List ℕ → Block → List ℕ → List ℕ
 material_of master iv key = body master iv key ++ tag master [] (body master iv key)
 

@@ -31,12 +31,12 @@ struct Seeds {
     id: [u8; 16],
     /// The data key.
     key: [u8; 96],
-    /// The vector under which it is sealed.
+    /// The IV under which it is sealed.
     iv: [u8; 16],
 }
 
-/// A new data key with these names, sealed under the master key. It takes its memory first, and then draws eight
-/// blocks: one for the id, six for the key, one for the vector. With `EntropyFailed` fewer were drawn, with `Memory`
+/// A new data key with these names, sealed under the master key. It allocates first, and then draws eight
+/// blocks: one for the id, six for the key, one for the IV. With `EntropyFailed` fewer were drawn, with `Memory`
 /// none.
 pub fn new_key<B: Block256, N: Entropy>(
     alloc: Global,
@@ -89,14 +89,10 @@ fn draw_seeds<N: Entropy>(entropy: &mut N) -> Result<Seeds, Failed>
     let Ok(key) = draw_key(entropy) else {
         return Err(Failed);
     };
-    let Ok(vector) = draw_one(entropy) else {
+    let Ok(iv) = draw_one(entropy) else {
         return Err(Failed);
     };
-    Ok(Seeds {
-        id,
-        key,
-        iv: vector,
-    })
+    Ok(Seeds { id, key, iv })
 }
 
 /// Draws the six blocks of a data key.

@@ -13,7 +13,7 @@ use std::fmt;
 /// How many bytes a data key has.
 const KEY: usize = 96;
 
-/// How many bytes a sealed data key has: a vector, seven blocks and a tag.
+/// How many bytes a sealed data key has: an IV, seven blocks and a tag.
 const MATERIAL: usize = 160;
 
 /// Why material isn't opened. Its `Debug` has no tag, since whoever reads the right one can forge a vault's entry.
@@ -42,7 +42,7 @@ impl fmt::Debug for UnwrapFault {
     }
 }
 
-/// Seals a data key under a master key and this initialization vector, without associated data.
+/// Seals a data key under a master key and this IV, without associated data.
 pub fn wrap_key<B: Block256>(
     hooks: &B,
     master: &MasterKey,
@@ -58,7 +58,7 @@ pub fn wrap_key<B: Block256>(
 }
 
 /// Opens a data key under its master key: its length is judged, then the tag, then the padding, then the length of the
-/// key. It takes no memory.
+/// key. It allocates nothing.
 pub fn unwrap_key<B: Block256>(
     hooks: &B,
     master: &MasterKey,

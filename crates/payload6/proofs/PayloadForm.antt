@@ -7,7 +7,7 @@ use Rattle.encrypt_schema.specs.declared.schema.policy.Algorithm.TheVariants.{De
 use Rattle.fle_aead.specs.Sealed.{body, tag, IsSealed, IsSealedLength}
 use Rattle.fle_aead.proofs.SealedForm.{sealed-determines, sealed-iv, sealed-length}
 use Rattle.payload6.specs.Payload.{algorithm_number, head, payload_iv, HasKind, IsKind, IsPayload, IsPayloadLength}
-use Rattle.payload6.specs.Payload.{IsSealedPayload, IsVector}
+use Rattle.payload6.specs.Payload.{IsSealedPayload, IsIv}
 
 pub head-size : (kind : ℕ) (id : List ℕ) (type : ℕ) → length id ≡ 16 → length (head kind id type) ≡ 18
 head-size kind id type long = omega (arith, length-append id (type ∷ []), long)
@@ -43,22 +43,22 @@ message_in kind id key type iv p h c long is s =
     subst (λ (a : List ℕ). IsSealed key a iv p c) (sym is)
     (subst (λ (x : List ℕ). IsSealed key (head kind id type) iv p x) same s.message)
 
--- bytes 18 to 33 are the vector
-pub vector_is : (kind : ℕ) (id key : List ℕ) (type : ℕ) (iv p bytes : List ℕ)
+-- bytes 18 to 33 are the IV
+pub iv_is : (kind : ℕ) (id key : List ℕ) (type : ℕ) (iv p bytes : List ℕ)
     → IsSealedPayload kind id key type iv p bytes
     → payload_iv bytes ≡ iv
-vector_is kind id key type iv p bytes s =
+iv_is kind id key type iv p bytes s =
     ap (take 16) (behind-head kind id key type iv p bytes s) ∙ sealed-iv key (head kind id type) iv p s.sealed s.message
 
 pub payload_of : (algorithm : Algorithm) (kind : ℕ) (id key : List ℕ) (type : ℕ) (iv p bytes : List ℕ)
     → IsSealedPayload kind id key type iv p bytes → kind ≡ algorithm_number algorithm
-    → IsVector algorithm key (head kind id type) p iv → IsPayload algorithm id key type p bytes
+    → IsIv algorithm key (head kind id type) p iv → IsPayload algorithm id key type p bytes
 payload_of algorithm kind id key type iv p bytes s is v =
-    let vector : iv ≡ payload_iv bytes = sym (vector_is kind id key type iv p bytes s) in record {
+    let same_iv : iv ≡ payload_iv bytes = sym (iv_is kind id key type iv p bytes s) in record {
       form = subst (λ (k : ℕ). IsSealedPayload k id key type (payload_iv bytes) p bytes) is
-          (subst (λ (x : List ℕ). IsSealedPayload kind id key type x p bytes) vector s);
-      vector = subst (λ (k : ℕ). IsVector algorithm key (head k id type) p (payload_iv bytes)) is
-          (subst (λ (x : List ℕ). IsVector algorithm key (head kind id type) p x) vector v);
+          (subst (λ (x : List ℕ). IsSealedPayload kind id key type x p bytes) same_iv s);
+      iv = subst (λ (k : ℕ). IsIv algorithm key (head k id type) p (payload_iv bytes)) is
+          (subst (λ (x : List ℕ). IsIv algorithm key (head kind id type) p x) same_iv v);
     }
 
 -- a payload has 18 bytes more than what is sealed
@@ -140,7 +140,7 @@ pub equal-payloads : (id key : List ℕ) (type : ℕ) (p bytes bytes' : List ℕ
     → IsPayload Deterministic id key type p bytes' → bytes ≡ bytes'
 equal-payloads id key type p bytes bytes' s t =
     let a : List ℕ = head 1 id type in
-    let same : payload_iv bytes ≡ payload_iv bytes' = s.vector ∙ sym t.vector in
+    let same : payload_iv bytes ≡ payload_iv bytes' = s.iv ∙ sym t.iv in
     let sealed : s.form.sealed ≡ t.form.sealed =
     s.form.message.form ∙ ap (λ (iv : List ℕ). body key iv p ++ tag key a (body key iv p)) same
     ∙ sym t.form.message.form in

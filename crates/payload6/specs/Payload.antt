@@ -40,24 +40,24 @@ abbrev pub head : ℕ → List ℕ → ℕ → List ℕ
 head kind id type = kind ∷ (id ++ type ∷ [])
 
 -- the bytes are such a head, whose key id has 16 bytes, and behind it the plain text, sealed with the
--- head under this vector
+-- head under this IV
 pub record IsSealedPayload (kind : ℕ) (id key : List ℕ) (type : ℕ) (iv plain bytes : List ℕ) : Type 0 where
   pub sealed : List ℕ
   pub id_size : length id ≡ 16
   pub parts : bytes ≡ head kind id type ++ sealed
   pub message : IsSealed key (head kind id type) iv plain sealed
 
--- bytes 18 to 33 of a payload: the initialization vector
+-- bytes 18 to 33 of a payload: the IV
 abbrev pub payload_iv : List ℕ → List ℕ
 payload_iv bytes = take 16 (drop 18 bytes)
 
--- the vector of a deterministic payload is the one that key, head and plain text determine; that of a
+-- the IV of a deterministic payload is the one that key, head and plain text determine; that of a
 -- random one is any
-abbrev pub IsVector : Algorithm → List ℕ → List ℕ → List ℕ → List ℕ → Type 0
-IsVector Deterministic key a plain iv = iv ≡ derived_iv key a plain
-IsVector Random key a plain iv = Unit {0}
+abbrev pub IsIv : Algorithm → List ℕ → List ℕ → List ℕ → List ℕ → Type 0
+IsIv Deterministic key a plain iv = iv ≡ derived_iv key a plain
+IsIv Random key a plain iv = Unit {0}
 
 -- a payload of the plain text, a value of this BSON type, by this algorithm under this key
 pub record IsPayload (algorithm : Algorithm) (id key : List ℕ) (type : ℕ) (plain bytes : List ℕ) : Type 0 where
   pub form : IsSealedPayload (algorithm_number algorithm) id key type (payload_iv bytes) plain bytes
-  pub vector : IsVector algorithm key (head (algorithm_number algorithm) id type) plain (payload_iv bytes)
+  pub iv : IsIv algorithm key (head (algorithm_number algorithm) id type) plain (payload_iv bytes)

@@ -17,7 +17,7 @@ pub fn parting()
 {}
 
 /// A payload is taken apart without a fault and determines its algorithm, its key's id, its type, its
-/// vector and its plain text; a plain text, its type and a key determine the deterministic payload.
+/// IV and its plain text; a plain text, its type and a key determine the deterministic payload.
 pub fn sealing()
     ensures kind { (algorithm : Algorithm) (id key : List ℕ) (type : ℕ) (p bytes : List ℕ)
         → IsPayload algorithm id key type p bytes → HasKind bytes }

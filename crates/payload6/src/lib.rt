@@ -2,7 +2,7 @@
 //! that is to be sealed (MongoDB Client Side Encryption, BSON binary subtype 6).
 //!
 //! [`seal_payload_into`] writes the payload of a value, [`parts`] takes one apart and
-//! [`open_payload_into`] gives the value back. [`det_iv`] is the initialization vector of a
+//! [`open_payload_into`] gives the value back. [`det_iv`] is the IV of a
 //! deterministic payload. [`marking`] is what a command holds in the place of a value to be
 //! sealed, where its key has an id, and [`marking_named`] where it has an alternate name;
 //! [`put_marking`] appends either. [`need_of`] tells the key of a command's mark.
@@ -14,7 +14,7 @@
 //! let n = open_payload_into(&Tables, &key, &payload, 99, &mut plain_out)?;
 //! ```
 //!
-//! It holds no keys, draws no vector, and doesn't ask how the vector of a payload was made.
+//! It holds no keys, draws no IV, and doesn't ask how the IV of a payload was made.
 #![tactic(auto)]
 
 pub use markings::{kind_of, length_bytes, marking, marking_named, put_marking};

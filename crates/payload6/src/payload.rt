@@ -4,10 +4,10 @@ ghost use Rattle.std.specs.Prelude.{◌≡◌, ◌+◌, ◌*◌, ◌%◌, ◌<�
 ghost use Rattle.std.specs.Prelude.{Err, IfOk, IsTrue, length};
 ghost use Rattle.payload6.specs.Payload.{head as head_of, HasKind, IsKind, IsPayloadLength};
 
-/// The kind of a payload whose vector is derived: equal values have equal payloads.
+/// The kind of a payload whose IV is derived: equal values have equal payloads.
 pub const DETERMINISTIC: u8 = 1;
 
-/// The kind of a payload whose vector is drawn.
+/// The kind of a payload whose IV is drawn.
 pub const RANDOM: u8 = 2;
 
 /// The length of what stands before the sealed bytes.
@@ -30,7 +30,7 @@ pub struct Payload<'a> {
     pub tag: u8,
     /// Kind, key id and type as they stand, 18 bytes: the associated data.
     pub head: &'a [u8],
-    /// What stands behind them: vector, blocks and tag, 48 + 16 k bytes with k at least 1.
+    /// What stands behind them: IV, blocks and tag, 48 + 16 k bytes with k at least 1.
     pub sealed: &'a [u8],
     pub ghost known: { IsKind kind },
     pub ghost front: { head.now ≡ head_of kind key_id tag },

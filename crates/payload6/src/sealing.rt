@@ -4,7 +4,7 @@ ghost use Rattle.std.specs.Prelude.{◌≡◌, ◌+◌, ◌*◌, ◌/◌, ◌^�
 ghost use Rattle.encrypt_schema.specs.declared.schema.policy.Algorithm.{Algorithm};
 ghost use Rattle.fle_aead.specs.Sealed.{derived_iv};
 ghost use Rattle.payload6.specs.Payload.{algorithm_number, head, IsKind};
-ghost use Rattle.payload6.specs.Payload.{IsPayload, IsSealedPayload, IsVector};
+ghost use Rattle.payload6.specs.Payload.{IsPayload, IsSealedPayload, IsIv};
 
 use crate::payload::{DETERMINISTIC, HEAD};
 use crypto_hooks::Block256;
@@ -18,16 +18,16 @@ pub fn payload_len(n: usize) -> usize
     HEAD + sealed_len(n)
 }
 
-/// The initialization vector of a deterministic payload: the one that the key, its id, the original
+/// The IV of a deterministic payload: the one that the key, its id, the original
 /// type and the value's bytes determine.
 pub fn det_iv(key: &DataKey, key_id: [u8; 16], tag: u8, plain: &[u8]) -> [u8; 16]
-    ensures vector { result ≡ derived_iv key.now (head 1 key_id tag) plain.now }
+    ensures iv { result ≡ derived_iv key.now (head 1 key_id tag) plain.now }
 {
     derive_iv(key, &head_of(DETERMINISTIC, key_id, tag), plain)
 }
 
 /// Writes the payload of a value into `out`, which has exactly the length of it: of kind 1
-/// (deterministic, under the vector of `det_iv`) or 2 (random), under the key of this id, of a value
+/// (deterministic, under the IV of `det_iv`) or 2 (random), under the key of this id, of a value
 /// of the BSON type `tag` that has the bytes `plain`.
 pub fn seal_payload_into<B: Block256>(
     hooks: &B,
@@ -44,7 +44,7 @@ pub fn seal_payload_into<B: Block256>(
     requires room { length out.old ≡ 66 + 16 * (length plain.now / 16 + 1) }
     ensures sealed { IsSealedPayload kind key_id key.now tag iv plain.now out.new }
     ensures payload { (algorithm : Algorithm) → kind ≡ algorithm_number algorithm
-        → IsVector algorithm key.now (head kind key_id tag) plain.now iv
+        → IsIv algorithm key.now (head kind key_id tag) plain.now iv
         → IsPayload algorithm key_id key.now tag plain.now out.new }
 {
     let (front, sealed) = out.split_at_mut(HEAD);

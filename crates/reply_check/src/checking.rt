@@ -17,7 +17,7 @@ use command_marker::Marked;
 
 /// Whether a reply is the right one for a command that was marked here: its flags say whether a value is marked and
 /// whether rules concern the command, and its result is the command with a marking in the place of each protected
-/// value, the fields of each marking in any order. It takes no memory.
+/// value, the fields of each marking in any order. It allocates nothing.
 ///
 /// `Shape` tells the first element that is read and has another type or stands a second time, or 0 where one is
 /// missing; `Differs` tells the first flag, else the second flag, else the result: the first that isn't the right one.
@@ -41,7 +41,7 @@ pub fn check_reply(marked: &Marked<'_>, reply: &RawDoc<'_>) -> Result<(), WrongR
 }
 
 /// The same for a command that no rule concerns, since it passes or its collection has no rules: both flags are false,
-/// and the result is the command as it is. It takes no memory.
+/// and the result is the command as it is. It allocates nothing.
 pub fn check_passed(command: &RawDoc<'_>, reply: &RawDoc<'_>) -> Result<(), WrongReply>
     ensures right { MatchResult result (λ _. IsClear command.now.tree reply.now.tree)
         (λ _. IsClear command.now.tree reply.now.tree → ⊥) }

@@ -9,7 +9,7 @@
 //! check_reply(&marked, &reply)?;
 //! ```
 //!
-//! It takes no memory, reads no other element of a reply, such as `ok`, and judges no command.
+//! It allocates nothing, reads no other element of a reply, such as `ok`, and judges no command.
 #![tactic(auto)]
 
 mod checking;

@@ -16,7 +16,7 @@ abbrev pub material_by : Change → List Block → Provider → List ℕ → Lis
 material_by c blocks providers.Local material = new_material c (block_at 0 blocks) material
 material_by c blocks providers.Other material = material
 
--- a key whose vector is the first of these blocks
+-- a key whose IV is the first of these blocks
 abbrev pub new_key : Change → List Block → KeyDoc → KeyDoc
 new_key c blocks k = record {
   id = k.id;

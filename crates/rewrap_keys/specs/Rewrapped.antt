@@ -24,11 +24,11 @@ pub record Change : Type 0 where
 abbrev pub change : List ℕ → List ℕ → ℕ → Change
 change from to time = record { from = from; to = to; time = time }
 
--- the data key that a material opens to, sealed under the new master key and this vector
+-- the data key that a material opens to, sealed under the new master key and this IV
 abbrev pub new_material : Change → Block → List ℕ → List ℕ
 new_material c iv material = material_of c.to iv (unwrap_or (unwrapped c.from material) [])
 
--- how many blocks a key draws: a local one its vector
+-- how many blocks a key draws: a local one its IV
 abbrev pub draws_by : Provider → ℕ
 draws_by providers.Local = 1
 draws_by providers.Other = 0
@@ -38,7 +38,7 @@ abbrev pub draws_of : List KeyDoc → ℕ
 draws_of [] = 0
 draws_of (k ∷ ks) = draws_by k.provider + draws_of ks
 
--- the document of a key of this provider and with this material, whose vector is the first of these blocks
+-- the document of a key of this provider and with this material, whose IV is the first of these blocks
 abbrev pub new_document : Change → List Block → Items → Provider → List ℕ → Items
 new_document c blocks d providers.Local material = with_material (new_material c (block_at 0 blocks) material) c.time d
 new_document c blocks d providers.Other material = d

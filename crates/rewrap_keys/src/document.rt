@@ -60,7 +60,7 @@ pub(crate) fn rewrap_document<B: Block256, N: Entropy>(
     }
 }
 
-/// The data key of a local key, sealed under the new master key with the next block as initialization vector.
+/// The data key of a local key, sealed under the new master key with the next block as IV.
 fn draw_material<B: Block256, N: Entropy>(
     hooks: &B,
     masters: &Masters<'_>,
@@ -78,14 +78,14 @@ fn draw_material<B: Block256, N: Entropy>(
     let Ok(data_key) = unwrap_key(hooks, masters.from, key.material.as_slice()) else {
         unreachable!();
     };
-    match draw_vector(entropy) {
+    match draw_iv(entropy) {
         Ok(iv) => Ok(wrap_key(hooks, masters.to, iv, &data_key)),
         Err(Failed) => Err(Failed),
     }
 }
 
-/// Draws an initialization vector.
-fn draw_vector<N: Entropy>(entropy: &mut N) -> Result<[u8; 16], Failed>
+/// Draws an IV.
+fn draw_iv<N: Entropy>(entropy: &mut N) -> Result<[u8; 16], Failed>
     ensures drawn { Makes (N.seen entropy.old) (N.seen entropy.new) 1 (block_at 0) result }
     ensures sure { 0 < (N.seen entropy.old).assured → IsOk result }
 {

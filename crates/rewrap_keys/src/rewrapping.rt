@@ -32,10 +32,10 @@ pub enum RewrapFault {
 
 /// The file of a vault under a new master key, where `keys` are the bytes of the old file, `vault` is what
 /// `Vault::load` gives for them, and `now_ms` is the time in milliseconds since 1970. The material of each local key is
-/// its data key sealed anew with the next random block as initialization vector, and the date of its last change is
+/// its data key sealed anew with the next random block as IV, and the date of its last change is
 /// that time. All else stays, and so do all lengths.
 ///
-/// First each local key is opened, then memory is taken, then a block is drawn for each local key.
+/// First each local key is opened, then the new file is allocated, then a block is drawn for each local key.
 pub fn rewrap_vault<B: Block256, N: Entropy>(
     alloc: Global,
     keys: &[u8],

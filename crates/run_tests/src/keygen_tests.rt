@@ -17,8 +17,8 @@ fn counted(first: u8) -> [u8; 16] {
     block
 }
 
-/// The blocks of a key: of its id, of its bytes that count from `key`, and of its vector.
-fn blocks(id: [u8; 16], key: u8, vector: u8) -> [[u8; 16]; 8] {
+/// The blocks of a key: of its id, of its bytes that count from `key`, and of its IV.
+fn blocks(id: [u8; 16], key: u8, iv: u8) -> [[u8; 16]; 8] {
     [
         id,
         counted(key),
@@ -27,7 +27,7 @@ fn blocks(id: [u8; 16], key: u8, vector: u8) -> [[u8; 16]; 8] {
         counted(key.wrapping_add(48)),
         counted(key.wrapping_add(64)),
         counted(key.wrapping_add(80)),
-        counted(vector),
+        counted(iv),
     ]
 }
 

@@ -7,7 +7,7 @@ use fle_stream::Status;
 use sample_documents::{REPLY, SEALED_INSERT};
 
 /// `{insert: "notes", documents: [{s: a payload}], $db: "hr"}`; the payload is deterministic, of the text `x`, and
-/// its vector, sixteen bytes 05, is of another client.
+/// its IV, sixteen bytes 05, is of another client.
 const FOREIGN: &[u8] =
     b"\x95\x00\x00\x00\x02insert\x00\x06\x00\x00\x00notes\x00\x04documents\x00g\x00\x00\x00\x030\
      \x00_\x00\x00\x00\x05s\x00R\x00\x00\x00\x06\x01\x00\x11\"3DUFw\x88\x99\xaa\xbb\xcc\xdd\xee\xff\

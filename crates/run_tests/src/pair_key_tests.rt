@@ -51,7 +51,7 @@ fn a_key_of_another_provider_is_told_with_the_commands_number(rt: HostRuntime) {
 fn a_damaged_key_is_told_with_the_commands_number(rt: HostRuntime) {
     let alloc = rt.alloc();
     let lines = ("fle: 1 1 18 1.0.0\n", "fle: 1 3 18 1.0.0\n");
-    // The vector, the first sealed block, the last one, and the tag of its material.
+    // The IV, the first sealed block, the last one, and the tag of its material.
     for at in [48, 64, 175, 207] {
         let mut damaged = *VAULT;
         damaged[at] ^= 1;

@@ -17,7 +17,7 @@ const FIRST: [u8; 16] = *b"\xc0\xc1\xc2\xc3\xc4\xc5\xc6\xc7\xc8\xc9\xca\xcb\xcc\
 /// The bytes E0 to EF.
 const SECOND: [u8; 16] = *b"\xe0\xe1\xe2\xe3\xe4\xe5\xe6\xe7\xe8\xe9\xea\xeb\xec\xed\xee\xef";
 
-/// The bytes F0 to FF, the vector of `VAULT`.
+/// The bytes F0 to FF, the IV of `VAULT`.
 const THIRD: [u8; 16] = *b"\xf0\xf1\xf2\xf3\xf4\xf5\xf6\xf7\xf8\xf9\xfa\xfb\xfc\xfd\xfe\xff";
 
 /// The blocks to come for one key.
@@ -122,7 +122,7 @@ fn refuses_key(rt: &impl Abort, alloc: Global, words: &[&str], pieces: &[&[u8]],
 #[test]
 fn the_first_key_that_does_not_open_is_told_before_any_block(rt: HostRuntime) {
     let alloc = rt.alloc();
-    // The vector, the first sealed block, the last one, and the tag of its material.
+    // The IV, the first sealed block, the last one, and the tag of its material.
     for at in [48, 64, 175, 207] {
         let mut damaged = *VAULT;
         damaged[at] ^= 1;

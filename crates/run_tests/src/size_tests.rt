@@ -71,7 +71,7 @@ fn a_value_is_sealed_below_47_names(rt: HostRuntime) {
     stops(&rt, alloc, run, Status::Setup, "fle: 4 2 30 1\n");
 }
 
-/// 65 keys: each of seven equal blocks, and a vector of bytes 09.
+/// 65 keys: each of seven equal blocks, and an IV of bytes 09.
 fn many_keys(rt: &impl Abort, alloc: Global) -> Vec<u8> {
     let mut vault = Vec::new(alloc);
     for i in 0..65 {

@@ -4,7 +4,7 @@ use fle_aead::{DataKey, OpenFault, derive_iv, open_into, seal_into, sealed_len};
 use fle_vectors::{AEAD_B3, DATA_KEY};
 use std::alloc::AllocError;
 
-/// The associated data of a string that is sealed under a derived vector: 01, the key's id, 02.
+/// The associated data of a string that is sealed under a derived IV: 01, the key's id, 02.
 const AAD: [u8; 18] = [
     0x01, 0x00, 0x11, 0x22, 0x33, 0x44, 0x55, 0x46, 0x77, 0x88, 0x99, 0xaa, 0xbb, 0xcc, 0xdd, 0xee,
     0xff, 0x02,
@@ -24,7 +24,7 @@ const SEALED: [u8; 80] = [
     0xb7, 0x11, 0x10, 0x75, 0x67, 0x7c, 0x79, 0xc4, 0xc0, 0x7b, 0xa0, 0x4f, 0xc1, 0x62, 0x10, 0x0b,
 ];
 
-/// A vector, a block that opens to zeros, and its tag, made in the same way.
+/// An IV, a block that opens to zeros, and its tag, made in the same way.
 const WRONGLY_PADDED: [u8; 64] = [
     0x00, 0x01, 0x02, 0x03, 0x04, 0x05, 0x06, 0x07, 0x08, 0x09, 0x0a, 0x0b, 0x0c, 0x0d, 0x0e, 0x0f,
     0x9f, 0xd4, 0x2b, 0x08, 0xb2, 0x5d, 0xa6, 0x6f, 0x1d, 0x63, 0x59, 0xfd, 0xb0, 0x6f, 0xc7, 0x4b,
@@ -101,7 +101,7 @@ fn key_of_b3() -> DataKey {
     DataKey::new(bytes)
 }
 
-/// Its sealed message: vector, blocks and tag.
+/// Its sealed message: IV, blocks and tag.
 fn sealed_of_b3() -> [u8; 192] {
     let mut sealed = [0; 192];
     sealed[..16].copy_from_slice(&AEAD_B3.iv);
@@ -141,7 +141,7 @@ fn the_message_of_rfc_7518_is_sealed_and_opened(rt: HostRuntime) {
     assert!(rt; out.starts_with(&AEAD_B3.plain));
 }
 
-// RFC 7518, B.3, with one byte changed: of the vector, of the blocks, of the tag and of the associated data.
+// RFC 7518, B.3, with one byte changed: of the IV, of the blocks, of the tag and of the associated data.
 #[test]
 fn the_message_of_rfc_7518_is_refused_where_a_byte_is_changed(rt: HostRuntime) {
     assert!(rt; refused_with_change_at(3));

@@ -1,4 +1,4 @@
-//! The published codes, through each of the three ways to make one.
+//! The published MACs, through each of the three ways to make one.
 use fle_vectors::{
     HMAC_SHA512_CASE_1, HMAC_SHA512_CASE_2, HMAC_SHA512_CASE_3, HMAC_SHA512_CASE_4,
     HMAC_SHA512_CASE_5, HMAC_SHA512_CASE_6, HMAC_SHA512_CASE_7, HmacVector,
@@ -18,20 +18,20 @@ const CASES: [HmacVector; 7] = [
 ];
 
 #[test]
-fn rfc_4231_cases_give_their_codes(rt: HostRuntime) {
+fn rfc_4231_cases_give_their_macs(rt: HostRuntime) {
     for case in &CASES {
-        assert!(rt; mac(case.key, case.data).starts_with(case.code));
+        assert!(rt; mac(case.key, case.data).starts_with(case.mac));
     }
 }
 
 #[test]
-fn a_message_in_parts_gives_the_code_of_the_whole(rt: HostRuntime) {
+fn a_message_in_parts_gives_the_mac_of_the_whole(rt: HostRuntime) {
     for case in &CASES {
         let mut running = Mac::new(case.key);
         for part in case.data.chunks(3) {
             running.update(part);
         }
-        assert!(rt; running.finish().starts_with(case.code));
+        assert!(rt; running.finish().starts_with(case.mac));
     }
 }
 
@@ -42,18 +42,18 @@ fn a_kept_key_serves_a_second_message(rt: HostRuntime) {
         for _ in 0..2 {
             let mut running = keyed.begin();
             running.update(case.data);
-            assert!(rt; running.finish().starts_with(case.code));
+            assert!(rt; running.finish().starts_with(case.mac));
         }
         let (front, back) = case.data.split_at(3);
-        assert!(rt; keyed.code(front, b"", back).starts_with(case.code));
+        assert!(rt; keyed.compute(front, b"", back).starts_with(case.mac));
     }
 }
 
 #[test]
-fn a_copy_of_a_kept_key_gives_the_same_code(rt: HostRuntime) -> Result<(), AllocError> {
+fn a_copy_of_a_kept_key_gives_the_same_mac(rt: HostRuntime) -> Result<(), AllocError> {
     let copy = KeyedMac::new(HMAC_SHA512_CASE_1.key).clone()?;
     let mut running = copy.begin();
     running.update(HMAC_SHA512_CASE_1.data);
-    assert!(rt; running.finish().as_slice() == HMAC_SHA512_CASE_1.code);
+    assert!(rt; running.finish().as_slice() == HMAC_SHA512_CASE_1.mac);
     Ok(())
 }

@@ -1,7 +1,7 @@
 //! Vaults before and after a change of master key (BSON, bsonspec.org), sealed by Python's hmac and `cryptography`,
 //! written by a plain program of BSON's grammar.
 
-/// The material of the first key of `TWO_KEYS` under the master key of the bytes 40 to 9F and the vector E0 to EF.
+/// The material of the first key of `TWO_KEYS` under the master key of the bytes 40 to 9F and the IV E0 to EF.
 pub(crate) const ONE_MATERIAL: &[u8; 160] =
     b"\xe0\xe1\xe2\xe3\xe4\xe5\xe6\xe7\xe8\xe9\xea\xeb\xec\xed\xee\xef\x97*\xb1\xa8\xe8\x93\xfdV\xca}\x06P\xc3F\
     \x9e\xd4w\x06&d\x9e\x20\x8f\x9bv\x10\x8b\x03q\xb3t'\xfbx\x0f5\x8b\xbfF\xe4\xa8\xd7O\xc89\xc7L\x92\x124\x8eH\
@@ -33,7 +33,7 @@ pub(crate) const MIXED: &[u8; 725] =
     \x09creationDate\x00\x07\x00\x00\x00\x00\x00\x00\x00\x03masterKey\x00\x19\x00\x00\x00\x02provider\x00\x06\
     \x00\x00\x00local\x00\x00\x00";
 
-/// The material of its first key under the master key of the bytes 40 to 9F and the vector E0 to EF.
+/// The material of its first key under the master key of the bytes 40 to 9F and the IV E0 to EF.
 pub(crate) const FIRST_MATERIAL: &[u8; 160] =
     b"\xe0\xe1\xe2\xe3\xe4\xe5\xe6\xe7\xe8\xe9\xea\xeb\xec\xed\xee\xef\x11N\x11X\xec\x82\x85\xaf7\xb6\xb4\x8aoI\
     \xe9?#1\x80\xf1\x17W\x0eSu\xcf\x1b\xfaD']\xae\xa4\xe1G\x04\xbex\x82\xaf8\x81\x0d\xb4W\xc8G\xdf\xc7\xc6B7\xfa\
@@ -41,7 +41,7 @@ pub(crate) const FIRST_MATERIAL: &[u8; 160] =
     \xee\xf1\x0bnjx\xcf\x94\xa40\xe1\x12\x83T-\xb9\x00U~4\x1aK*l\x0b\x97|\xd4~R\xf9\xc4\xbf\xc9\xa0ZZ\x81s\xf4\
     \x0d\xd6>\xdb\xbe\x01\xa8\x9d\x8c\xcbH\xcf\xae7!";
 
-/// The material of its third key under the same master key and the vector C0 to CF.
+/// The material of its third key under the same master key and the IV C0 to CF.
 pub(crate) const THIRD_MATERIAL: &[u8; 160] =
     b"\xc0\xc1\xc2\xc3\xc4\xc5\xc6\xc7\xc8\xc9\xca\xcb\xcc\xcd\xce\xcf\xd7\x0dK\xac\xec\xb03\xf7f\xe66\x13\xbd\xd1\
     Lb\xd5\x1c\xc6\xd7\xb5\x90\x01\x9aP\xb6\xe6kY\xa7\xadt\xdaCt\xb2P\xfa\x89\xa5\x08\xb6x8_\x90\x94\xfd\x8dd\

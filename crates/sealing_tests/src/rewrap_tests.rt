@@ -198,8 +198,8 @@ fn many(rt: &impl Abort, alloc: Global) -> Vec<u8> {
 fn a_vault_of_many_keys_is_rewrapped(rt: HostRuntime) {
     let alloc = rt.alloc();
     let file = many(&rt, alloc);
-    let vectors = vec![in alloc; [0xE0; 16]; MANY as usize].expect(&rt, "memory");
-    let mut entropy = MemEntropy::new(vectors, Vec::new(alloc));
+    let ivs = vec![in alloc; [0xE0; 16]; MANY as usize].expect(&rt, "memory");
+    let mut entropy = MemEntropy::new(ivs, Vec::new(alloc));
     let renewed = rewrapped(&rt, alloc, &file, 0, 0x40, &mut entropy).expect(&rt, "a file");
     assert!(rt; renewed.len() == 299 * MANY as usize);
     let vault = Vault::load(alloc, &renewed).expect(&rt, "a vault");

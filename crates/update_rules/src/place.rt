@@ -7,7 +7,7 @@ use crate::documents::judge_document;
 use crate::operators::judge_operator;
 use crate::sets::judge_set;
 use bson_codec::{RawDoc, RawItem};
-use encrypt_schema::{Cursor, Next, Operator, Place, Reason, Rows};
+use encrypt_schema::{Cursor, JudgingPlace, Next, Operator, Reason, Rows};
 
 /// What a document is in an update.
 #[derive(Clone, Copy, Debug, PartialEq, Eq)]
@@ -22,7 +22,7 @@ pub enum UpdatePlace {
     Argument(Operator),
 }
 
-impl Place for UpdatePlace {
+impl JudgingPlace for UpdatePlace {
     ghost station_by = { update_station };
 
     ghost stands = { UpdateStands };

@@ -4,7 +4,7 @@ use crate::documents::{document_of, whole};
 use crate::rewrite::deep_samples::{DEEP, DEEP_OPENED, TOO_DEEP, UNDER_47_NAMES};
 use crate::rewrite::keyed::has_keys;
 use crate::rewrite::payload_samples::{
-    HELD, HOLDING, OTHER_VECTOR, OTHER_VECTOR_OPENED, REPLY, SHORT, TAG_AND_SHAPE, WRONG_PADDING,
+    HELD, HOLDING, OTHER_IV, OTHER_IV_OPENED, REPLY, SHORT, TAG_AND_SHAPE, WRONG_PADDING,
     WRONG_PLAIN,
 };
 use crate::rewrite::samples::{
@@ -120,8 +120,8 @@ fn a_marking_is_no_payload(rt: HostRuntime) {
 }
 
 #[test]
-fn a_vector_need_not_be_the_derived_one(rt: HostRuntime) {
-    assert!(rt; opens_to(rt.alloc(), OTHER_VECTOR, OTHER_VECTOR_OPENED));
+fn an_iv_need_not_be_the_derived_one(rt: HostRuntime) {
+    assert!(rt; opens_to(rt.alloc(), OTHER_IV, OTHER_IV_OPENED));
 }
 
 #[test]

@@ -1,4 +1,4 @@
-//! Laws of two commands that differ in protected values alone: what is asked, drawn and written for them.
+//! Noninterference: what is asked, drawn and written for two commands that differ in protected values alone.
 
 ghost use Rattle.std.specs.Prelude.{◌≡◌, ◌+◌, ℕ, List, length};
 ghost use Rattle.bson_codec.specs.Borrowed.{At};

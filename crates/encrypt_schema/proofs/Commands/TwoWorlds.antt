@@ -1,4 +1,4 @@
--- Two commands with equal skeletons: equal protected places, equal verdicts.
+-- Noninterference: two commands with equal skeletons have equal protected places, equal verdicts.
 use Rattle.std.proofs.Common.{◌≡◌, ◌==◌, ℕ, ◌+◌, Bool, true, false, cond, codes, List, [], ◌∷◌, map, Option, None}
 use Rattle.std.proofs.Common.{if◌then◌else◌, refl, sym, ap, ◌∙◌}
 use Rattle.bson_tree.specs.Tree.{Items, no_items, item}

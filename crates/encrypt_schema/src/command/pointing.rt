@@ -46,7 +46,7 @@ impl<'r, 'd> Model for Pointing<'r, 'd> {
 }
 
 impl<'r, 'd> Pointing<'r, 'd> {
-    /// Pointers are read from this document, where there is one. It takes no memory.
+    /// Pointers are read from this document, where there is one. It allocates nothing.
     pub(crate) fn new(alloc: Global, rows: &'r Rows, root: Option<RawDoc<'d>>) -> Pointing<'r, 'd>
         ensures is { result ≡ record { rows = rows.now; root = root.entry } }
     {

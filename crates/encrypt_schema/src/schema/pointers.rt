@@ -44,7 +44,7 @@ impl<'a> StatedKey<'a> {
     }
 }
 
-/// Whether a text is a pointer. It takes no memory.
+/// Whether a text is a pointer. It allocates nothing.
 #[tactic(auto, unfolding(crate::specs::Language::Pointers::pointer_of))]
 fn is_pointer(text: &[u8]) -> bool
     ensures pointer { result ≡ is_some (pointer_of text.now) }

@@ -15,7 +15,7 @@ use std::marker::Model;
 pub enum Algorithm {
     /// `AEAD_AES_256_CBC_HMAC_SHA_512-Deterministic`: equal values give equal payloads.
     Deterministic,
-    /// `AEAD_AES_256_CBC_HMAC_SHA_512-Random`: each payload has a random initial vector.
+    /// `AEAD_AES_256_CBC_HMAC_SHA_512-Random`: each payload has a random IV.
     Random,
 }
 

@@ -8,7 +8,7 @@ returns c = record {
   determined = sealed-determines;
   length = sealed-is_sealed_length;
   tagged = sealed-tagged;
-  vector = sealed-iv;
+  iv = sealed-iv;
   opens = sealed-opened;
   message = message-sealed;
 }

@@ -17,6 +17,6 @@ returns-in_default-draw_one-clause-drawn g c =
 
 pub returns-clause-drawn : goal.returns-clause-drawn
 returns-clause-drawn g c =
-    eight_made _ _ _ _ c.in-Ok.id c.in-Ok-draw_key.key c.in-Ok-draw_one.vector c.in-Ok.ensures.drawn
+    eight_made _ _ _ _ c.in-Ok.id c.in-Ok-draw_key.key c.in-Ok-draw_one.iv c.in-Ok.ensures.drawn
     c.in-Ok-draw_key.ensures.drawn
     c.in-Ok-draw_one.ensures.drawn

@@ -11,7 +11,7 @@ use Rattle.doc_rewrite.proofs.sealing.SealingPutter.put_next.Goals as goal
 pub returns-in-Ok-clause-put : goal.returns-in-Ok-clause-put
 returns-in-Ok-clause-put g c =
     let s = site_seen c.in-Some.site in
-    let v = c.in-Ok.ensures.vector in
+    let v = c.in-Ok.ensures.iv in
     let keys = key_in c.args.self.now.keys.now in
     let block = first_block s.algorithm v.drawn in
     let found = c.key_for-found.ensures.key in

@@ -20,7 +20,7 @@ decreases-mark_all g l = 4 * items_size l.document.now.tree + 2
 abbrev pub invariant-mark_all-loop-item : goal.invariant-mark_all-loop-item
 invariant-mark_all-loop-item g l =
     let rows = l.fn.pointing.rows in
-    let s = g.P.Place.station_by l.at rows in
+    let s = g.P.JudgingPlace.station_by l.at rows in
     let ts = targets_read l.fn.pointing in
     record {
       size : items_size l.item-iterator.tree ≤ items_size l.document.tree;

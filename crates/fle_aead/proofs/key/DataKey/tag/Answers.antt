@@ -7,4 +7,4 @@ use Rattle.fle_aead.proofs.key.DataKey.tag.Goals as goal
 pub returns : goal.returns
 unfolding tag
 returns c = ∥∥₁_elim c.self.invariant.1 (hlevel props) (λ has. c.first_32.ensures
-    ∙ ap (take 32) (rw (c.bit_length.ensures, c.self.view_is) at (c.code.ensures.code _ has)))
+    ∙ ap (take 32) (rw (c.bit_length.ensures, c.self.view_is) at (c.compute.ensures.mac _ has)))

@@ -9,7 +9,7 @@ use Rattle.encrypt_schema.specs.Commands.Visits.{entry, names_of}
 use Rattle.encrypt_schema.specs.Views.Walking.{StandsNext, station_next}
 use Rattle.command_marker.specs.declared.places.CommandPlace.{CommandPlace}
 use Rattle.command_marker.specs.Places.{CommandStands, Judges, command_station}
-use Rattle.command_marker.proofs.places.CommandPlacePlace.judge.Goals as goal
+use Rattle.command_marker.proofs.places.CommandPlaceJudgingPlace.judge.Goals as goal
 
 -- what the judge of a place answers, in four clauses
 record Clauses (place : CommandPlace) (rows : List Row) (elder : List (List ℕ)) (e : Entry)

@@ -1,6 +1,6 @@
-//! The vector under which a value is sealed.
+//! The IV under which a value is sealed.
 
-ghost use Rattle.doc_rewrite.specs.Vectors.{TellsVector};
+ghost use Rattle.doc_rewrite.specs.Ivs.{TellsIv};
 
 use crate::label::Label;
 use bson_codec::RawItem;
@@ -9,15 +9,15 @@ use fle_aead::DataKey;
 use fle_outside::{Entropy, Failed};
 use payload6::det_iv;
 
-/// The vector of a value: derived of it under the deterministic algorithm, the next random block under the random one.
-#[tactic(auto, using(crate::proofs::Drawings::vector_drawn))]
-pub(crate) fn vector_of<N: Entropy>(
+/// The IV of a value: derived of it under the deterministic algorithm, the next random block under the random one.
+#[tactic(auto, using(crate::proofs::Drawings::iv_drawn))]
+pub(crate) fn iv_for<N: Entropy>(
     label: &Label,
     key: &DataKey,
     item: &RawItem<'_>,
     entropy: &mut N,
 ) -> Result<[u8; 16], Failed>
-    ensures vector { TellsVector label.now key.now item.now.tree (N.seen entropy.old) (N.seen entropy.new) result }
+    ensures iv { TellsIv label.now key.now item.now.tree (N.seen entropy.old) (N.seen entropy.new) result }
 {
     match label.algorithm {
         Algorithm::Deterministic => Ok(det_iv(key, label.key_id, item.tag(), item.value())),

@@ -1,4 +1,4 @@
--- A code is bytes.
+-- A MAC is bytes.
 use Rattle.std.proofs.Common.{ℕ, zero, suc, ◌<◌, List, arith, rules}
 use Rattle.std.specs.List.{All}
 use Rattle.std.specs.Int.{to_be_bytes, w64}
@@ -16,6 +16,6 @@ digest h zero = search rules
 digest h (suc n) = All-append (λ b. b < 256) (digest_bytes h n) (to_be_bytes w64 (slice_index h n)) (digest h n)
     (word (slice_index h n))
 
-pub code_bytes : (k m : List ℕ) → All (λ b. b < 256) (hmac k m)
+pub mac_bytes : (k m : List ℕ) → All (λ b. b < 256) (hmac k m)
 unfolding hmac sha512
-code_bytes k m = digest _ 8
+mac_bytes k m = digest _ 8

@@ -1,5 +1,0 @@
-use Rattle.hmac_sha512.proofs.Computed.{case_2}
-use Rattle.hmac_sha512.proofs.laws.published_code.Goals as goal
-
-pub returns : goal.returns
-returns c = record { code = case_2 }
