@@ -1,4 +1,4 @@
--- The state and the round keys of opening by shuffles.
+-- The state and the round keys of opening (FIPS 197, 5.3) by shuffles.
 use Rattle.std.specs.Prelude.{◌≡◌, ℕ, ◌-◌, List, [], ◌∷◌, ◌++◌, map, slice_index_or, bit_xor}
 use Rattle.aes_block.specs.Steps.{inv_sub_bytes, inv_shift_rows, inv_mix_columns, add_round_key, round_key}
 use Rattle.aes_block.specs.Substitution.{inv_affine}

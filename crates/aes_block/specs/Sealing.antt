@@ -1,4 +1,4 @@
--- The state and the round keys of sealing by shuffles.
+-- The state and the round keys of sealing (FIPS 197, 5.1) by shuffles.
 use Rattle.std.specs.Prelude.{◌≡◌, ℕ, ◌+◌, ◌*◌, ◌/◌, ◌%◌, List, [], map, slice_index, slice_index_or, bit_xor}
 use Rattle.aes_block.specs.Steps.{cell, state, sub_bytes, shift_rows, mix_columns, add_round_key, round_key}
 use Rattle.aes_block.specs.Nibbles.{entry, half_u, half_v}

@@ -50,8 +50,7 @@ pub(crate) const LAST_V: [u8; 16] = [
 ];
 
 // Positions for the rounds r with r % 4 = 1, 2, 3, 0: one row below, three rows below, and the places of the state's
-// bytes
-// behind the round.
+// bytes behind the round.
 pub(crate) const TURN_1: [usize; 16] = [5, 6, 7, 4, 9, 10, 11, 8, 13, 14, 15, 12, 1, 2, 3, 0];
 
 pub(crate) const BACK_1: [usize; 16] = [15, 12, 13, 14, 3, 0, 1, 2, 7, 4, 5, 6, 11, 8, 9, 10];

@@ -18,7 +18,7 @@ pub fn no_fault_where_spelled()
         ↔ ((is : Items) × IsDoc is × (bytes ≡ doc_bytes is)) }
 {}
 
-/// A document is read at the front of bytes exactly where they begin with its spelling.
+/// Bytes that begin with the spelling of a document are read as that document, with its length.
 pub fn front_where_spelled()
     ensures read { (bytes rest : List ℕ) (is : Items) → IsDoc is → bytes ≡ doc_bytes is ++ rest
         → front_document bytes ≡ Ok (is, length (doc_bytes is)) }

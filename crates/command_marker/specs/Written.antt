@@ -1,4 +1,4 @@
--- How a reply is written: the marks of its command, the step at each element, and what stands around the command
+-- How a reply is written: the marks of its command, what their markings add, and what stands around the command
 use Rattle.std.specs.Prelude.{◌≡◌, ℕ, ◌+◌, ◌<◌, ◌≤◌, Bool, List, [], ◌∷◌, ◌++◌, codes, length, Result, Ok, Err}
 use Rattle.std.specs.Int.{to_le_bytes, w32}
 use Rattle.bson_tree.specs.Tree.{no_items, item}

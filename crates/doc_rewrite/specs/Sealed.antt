@@ -34,11 +34,11 @@ sealed_value keys s block t =
 abbrev pub put_of : Lookup → Site → Block → Put
 put_of keys s block = record { start = s.start; end = s.end; value = sealed_value keys s block }
 
--- the block for the next value, where there are these: a random value takes the first; any block, where it takes none
+-- any block, for a value that takes none and where none is left
 abbrev pub any_block : Block
 any_block = replicate 16 0
 
--- the block that the next value takes
+-- the block for the next value, where there are these: a random value takes the first; any block, where it takes none
 abbrev pub first_block : Algorithm → List Block → Block
 first_block Deterministic blocks = any_block
 first_block Random [] = any_block

@@ -74,7 +74,7 @@ pub record IsWronglyPadded (key a c : List ℕ) : Type 0 where
   pub tagged : IsTagged key a c
   pub no_plain : (p : List ℕ) → opened key c ≢ pad p
 
--- draft, 2.2, step 3, as a test: one or more blocks between IV and tag, and the right tag
+-- draft, 2.2, step 3, as a test: one or more blocks between IV and tag
 abbrev pub is_sealed_length : ℕ → Bool
 is_sealed_length n = nat_lt 48 n && n % 16 == 0
 

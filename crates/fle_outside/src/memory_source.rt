@@ -11,8 +11,7 @@ use std::marker::Model;
 
 /// Bytes in memory that are handed out in small steps, and whose calls fail where a list says so.
 /// Contracts see what is left, how many bytes it handed out, the step, the numbers of the calls that are to fail, the
-/// number of
-/// the next call and the count of faults.
+/// number of the next call and the count of faults.
 #[derive(Drop)]
 pub struct MemSource {
     bytes: Vec<u8>,

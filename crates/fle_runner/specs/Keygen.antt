@@ -19,7 +19,7 @@ use Rattle.local_kms.specs.Made.{key_of_blocks}
 abbrev pub new_document : List ℕ → List (List ℕ) → ℕ → List Block → List ℕ
 new_document master names now blocks = doc_bytes (key_fields (key_of_blocks master names blocks) now now 0)
 
--- how many bytes it has: as many as that of a key of zeros with these names
+-- a key of zeros with these names, whose document has as many bytes
 abbrev pub blank_key : List (List ℕ) → KeyDoc
 blank_key names = record { id = replicate 16 0; names = names; material = replicate 160 0; provider = providers.Local }
 

@@ -41,7 +41,7 @@ IsOfKeys (whys.Cut cuts.Input) = ⊥
 IsOfKeys (whys.Cut cuts.Entropy) = ⊥
 IsOfKeys (whys.Cut cut) = Unit {0}
 
--- the ends that telling the keys of a vault can make
+-- the ends that writing a text can make: the keys of a vault, or the line of the demo
 abbrev pub IsOfText : Why → Type 0
 IsOfText (whys.Finished finishes.Done) = Unit {0}
 IsOfText (whys.Cut cuts.Output) = Unit {0}

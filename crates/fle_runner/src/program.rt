@@ -39,7 +39,7 @@ pub fn fle<S: Source, F: Folder, O: Sink, G: Sink, N: Entropy, B: Block256>(
         (task (cast_unsigned w64 now_ms) (map string_bytes words.now)) (pace_for (form_of (map string_bytes words.now)))
         (world (S.seen input.old) (F.seen files.old) (O.seen out.old) (G.seen diag.old) (N.seen entropy.old))
         (world (S.seen input.new) (F.seen files.new) (O.seen out.new) (G.seen diag.new) (N.seen entropy.new)) result }
-    // Status 2 is that of words without a form, want of memory aside.
+    // Status 2 is exactly that of words without a form.
     ensures words { (result ≡ Status.Words → form_of (map string_bytes words.now) ≡ None)
         × (form_of (map string_bytes words.now) ≡ None → result ≡ Status.Words) }
     // Words without a form: no file is read.

@@ -67,8 +67,7 @@ first_by behind bytes (stops rest) = ends rest
 first_by behind bytes (whole m) = spelled behind m bytes (document (take m bytes))
 
 -- a stream's documents, n of them at most, one after another: the first, the third and so on have at most `limit`
--- bytes,
--- those between them at most `other`
+-- bytes, those between them at most `other`
 unfoldable pub rounds : ℕ → ℕ → ℕ → List ℕ → Docs
 rounds limit other zero bytes = ends nothing
 rounds limit other (suc n) bytes = first_by (rounds other limit n) bytes (standing limit bytes)

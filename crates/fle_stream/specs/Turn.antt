@@ -27,8 +27,7 @@ TurnOf course spans number taken told after entropy entropy_after out out_after 
     LastStep (course number taken told) number told after (spans told) entropy entropy_after out out_after at why
 
 -- told or not, the input handed out the bytes of the documents that the output came from, or at most as many as a
--- turn's
--- may have, and those before the document at which the run ended
+-- turn's may have, and those before the document at which the run ended
 abbrev pub TurnTook : Pace → ℕ → ℕ → ℕ → Turn → Type 0
 TurnTook pace number before after (turns.Wrote n d) = RoseBy before after n
 TurnTook pace number before after (turns.Ended at why) =

@@ -2,7 +2,7 @@
 //! 180-4.
 //!
 //! [`mac`] is the MAC of one message. [`Mac`] takes a message in parts. [`KeyedMac`] keeps a key
-//! that serves many messages, each of which then costs two runs of the hash function less.
+//! that serves many messages, each of which then costs two runs of the compression function less.
 //!
 //! ```rust
 //! let keyed = KeyedMac::new(key);

@@ -38,8 +38,7 @@ impl Model for Vault {
 
 impl Vault {
     /// Reads a file of key documents: one after another, nothing between them. `Bad` exactly where a document is
-    /// faulty;
-    /// they are judged in order.
+    /// faulty; they are judged in order.
     pub fn load(alloc: Global, bytes: &[u8]) -> Result<Vault, VaultFault>
         requires { length bytes.now ≤ 67108864 }
         ensures loaded { Loads result (vault bytes.now) }

@@ -65,8 +65,8 @@ pub enum MasterFault {
     Base64,
 }
 
-/// The master key in the bytes of a file: 96 bytes, or their base64 text, which a line feed may follow. It takes no
-/// memory.
+/// The master key in the bytes of a file: 96 bytes, or their base64 text, which a line feed may follow. It allocates
+/// nothing.
 #[tactic(auto, unfolding(crate::specs::Master::master_in))]
 pub fn read_master(bytes: &[u8]) -> Result<MasterKey, MasterFault>
     ensures read { result ≡ master_in bytes.now }

@@ -11,7 +11,7 @@ use Rattle.encrypt_schema.specs.declared.schema.policy.KeyRef.TheVariants as key
 use Rattle.payload6.specs.Needs.{Need, Id, Name}
 use Rattle.payload6.specs.Payload.{algorithm_number}
 
--- the 16 bytes of a rule's key id; 00s for a pointer, which no schema states, where a key has to have an id
+-- the 16 bytes of a rule's key id; 00s for a pointer, where a key has to have an id
 abbrev pub key_id : KeyRef → List ℕ
 key_id (keys.Id bytes) = bytes
 key_id (keys.Pointer names) = replicate 16 0

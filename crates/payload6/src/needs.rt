@@ -31,8 +31,8 @@ impl<'a> Need<'a> {
 }
 
 /// The key of a mark's value in a command, by the policy of the mark's rule: its id, or the text that the mark's `name`
-/// spans. `None` where the rule has a pointer and the mark no `name`, as is so of no accepted command. It takes no
-/// memory.
+/// spans. `None` where the rule has a pointer and the mark no `name`, as is so of no accepted command. It allocates
+/// nothing.
 pub fn need_of<'a>(policy: &Policy, command: &RawDoc<'a>, mark: &Mark) -> Option<Need<'a>>
     ensures need { option_map need_seen result ≡ need_by policy.now.key (name_text command.now mark.now) }
     ensures inside { IfSome result (λ need. length (alternate_name (need_seen need))
