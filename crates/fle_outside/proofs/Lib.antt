@@ -2,3 +2,4 @@ pub mod PartWay
 pub mod Pieces
 pub mod Bytes
 pub mod Drawings
+pub mod Asked

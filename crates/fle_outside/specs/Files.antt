@@ -50,6 +50,11 @@ abbrev pub FileGives : Option Files → List ℕ → ℕ → FileAnswer → List
 FileGives None name at answer piece = Unit {0}
 FileGives (Some files) name at answer piece = GivesAt (file_of files name) at answer piece
 
+-- a folder that tells the names that it was asked for has this one before the others
+abbrev pub FileAsked : Option (List (List ℕ)) → Option (List (List ℕ)) → List ℕ → Type 0
+FileAsked None after name = after ≡ None
+FileAsked (Some names) after name = after ≡ Some (name ∷ names)
+
 -- the count of faults never falls, and a failure raises it
 pub record FileCause (before now : ℕ) (answer : FileAnswer) : Type 0 where
   pub later : before ≤ now

@@ -66,7 +66,7 @@ after_file s files.Failed = record s { calls = next_count s.calls; faults = next
 
 -- what contracts of every folder see of it
 abbrev pub folder_seen : FolderState → FolderSeen
-folder_seen s = record { told = Some s.files; faults = s.faults; assured = length s.failing == 0 }
+folder_seen s = record { told = Some s.files; asked = None; faults = s.faults; assured = length s.failing == 0 }
 
 -- a name with the file's bytes
 abbrev pub entry : String Global × Vec ℕ Global → List ℕ × List ℕ

@@ -1,6 +1,6 @@
 -- What contracts see of each object of the outside; what a sink gained, and what was drawn of random blocks.
 use Rattle.std.specs.Prelude.{◌≡◌, ℕ, ◌+◌, ◌≤◌, Bool, Option, Some, List, ◌++◌, length}
-use Rattle.std.specs.List.{All}
+use Rattle.std.specs.List.{All, Contains}
 use Rattle.fle_outside.specs.Files.{Files}
 use Rattle.fle_outside.specs.Blocks.{Block, IsBlock}
 
@@ -12,11 +12,18 @@ pub record SourceSeen : Type 0 where
   pub faults : ℕ
   pub assured : Bool
 
--- a folder: its files by their names, where it tells them; the calls that failed; that it never fails
+-- a folder: its files by their names, where it tells them; the names that it was asked for, the last one first, where
+-- it tells them; the calls that failed; that it never fails
 pub record FolderSeen : Type 0 where
   pub told : Option Files
+  pub asked : Option (List (List ℕ))
   pub faults : ℕ
   pub assured : Bool
+
+-- a folder was asked for files of these names alone, as far as it tells for which
+pub record AsksOnly (names : List (List ℕ)) (before after : FolderSeen) : Type 0 where
+  pub among : (earlier : List (List ℕ)) → before.asked ≡ Some earlier
+      → (more : List (List ℕ)) × (after.asked ≡ Some (more ++ earlier)) × All (Contains names) more
 
 -- a sink: the bytes that it took, where it tells them; the calls that failed; the number of bytes that it takes for
 -- certain

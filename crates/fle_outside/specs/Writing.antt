@@ -1,5 +1,5 @@
 -- What a sink has gained by what was written into it.
-use Rattle.std.specs.Prelude.{◌≡◌, ℕ, ◌+◌, ◌<◌, ◌≤◌, Option, Some, Result, Ok, Err, List, [], ◌∷◌, ◌++◌, length, OnOk}
+use Rattle.std.specs.Prelude.{◌≡◌, ℕ, ◌+◌, ◌<◌, ◌≤◌, Option, Result, Ok, Err, List, [], ◌∷◌, ◌++◌, length, OnOk}
 use Rattle.std.specs.Prelude.{OnErr, IsOk}
 use denote.Ref.{Bor}
 use Rattle.fle_outside.specs.Counts.{Rose}

@@ -1,8 +1,9 @@
 //! A folder in memory.
 
-ghost use Rattle.std.specs.Prelude.{◌≡◌, ◌+◌, ◌-◌, ◌<◌, ◌≤◌, true, length, map, Some};
+ghost use Rattle.std.specs.Prelude.{◌≡◌, ◌+◌, ◌-◌, ◌<◌, ◌≤◌, true, length, map, None, Some};
 ghost use Rattle.fle_outside.specs.Memory.{entry, HasDistinctNames, file_answer, after_file, folder_seen};
-ghost use Rattle.fle_outside.specs.Files.{Files, FileWithin, FileGives, FileCause, file_of, GivesAt, answer_at, IsFile};
+ghost use Rattle.fle_outside.specs.Files.{Files, FileAsked, FileWithin, FileGives, FileCause, file_of, GivesAt};
+ghost use Rattle.fle_outside.specs.Files.{answer_at, IsFile};
 
 use crate::answers::FileAnswer;
 use crate::counts::call_fails;
@@ -62,6 +63,7 @@ impl Folder for MemFolder {
         ensures within { FileWithin result (length piece.new) }
         ensures bytes { FileGives (Some self.old.files) name.now at result piece.new }
         ensures same { Some self.new.files ≡ Some self.old.files }
+        ensures asked { FileAsked None None name.now }
         ensures cause { FileCause self.old.faults self.new.faults result }
         ensures sure { (folder_seen self.old).assured ≡ true
             → (result ≡ FileAnswer.Failed → ⊥) × ((folder_seen self.new).assured ≡ true) }

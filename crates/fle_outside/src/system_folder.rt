@@ -18,8 +18,9 @@ const LONGEST_PATH: usize = 4095;
 /// `Missing` is answered where the system says that there is no such file; each other error is a
 /// counted failure.
 ///
-/// The file that was opened last stays open, and a piece that follows the one before is read from it. So what is read
-/// front to end is one file, also where another takes its name meanwhile, and a pipe can be read by its name.
+/// The file that was opened last stays open until its end is read, or it fails, and a piece that follows the one before
+/// is read from it. So what is read front to end is one file, also where another takes its name meanwhile, and a pipe
+/// can be read by its name. Behind its end no file is open.
 #[derive(Drop)]
 pub struct FileFolder<'a, R: Files> {
     runtime: &'a R,
@@ -46,22 +47,30 @@ impl<'a, R: Files> FileFolder<'a, R> {
             faults: 0,
         }
     }
+
+    /// The file that is open, where it goes on at this place, else the file of this name, opened anew. Until it is put
+    /// back none is open.
+    fn file_at(&mut self, name: &str, at: u64) -> io::Result<OpenedFile<R::File>>
+        ensures faults { self.new.faults ≡ self.old.faults }
+    {
+        match self.opened.take() {
+            Some(opened) if opened.goes_on(name, at) => return Ok(opened),
+            _ => {}
+        }
+        OpenedFile::open(self.runtime, name, at)
+    }
 }
 
 impl<R: Files> Folder for FileFolder<'_, R> {
-    ghost seen = { λ s. record { told = None; faults = s.faults; assured = false } };
+    ghost seen = { λ s. record { told = None; asked = None; faults = s.faults; assured = false } };
 
     fn read_at(&mut self, name: &str, at: u64, piece: &mut [u8]) -> FileAnswer {
-        if let Some(opened) = &mut self.opened
-            && opened.goes_on(name, at)
-        {
-            return opened.read_on(&mut self.faults, piece);
-        }
-        self.opened = None;
-        match OpenedFile::open(self.runtime, name, at) {
+        match self.file_at(name, at) {
             Ok(mut opened) => {
                 let answer = opened.read_on(&mut self.faults, piece);
-                self.opened = Some(opened);
+                if let FileAnswer::Took(_) = answer {
+                    self.opened = Some(opened);
+                }
                 answer
             }
             Err(error) if error.kind() == ErrorKind::NotFound => FileAnswer::Missing,
