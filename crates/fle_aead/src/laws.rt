@@ -2,9 +2,15 @@
 //! proof calls one, or cites it, for the fact that it ensures.
 
 ghost use Rattle.std.specs.Prelude.{◌≡◌, ◌++◌, length, List, Some, ℕ};
+ghost use denote.Param.Send.{IsSend, IsSync};
 ghost use Rattle.cbc_mode.specs.Padding.{pad};
+ghost use Rattle.fle_aead.specs.contracts.key.DataKey.{the_row as data_row};
+ghost use Rattle.fle_aead.specs.contracts.shared_key.SharedKey.{the_row as shared_row};
 ghost use Rattle.fle_aead.specs.Sealed.{IsSealed, IsSealedLength, IsTagged, body, iv_of, opened, opened_message, tag};
 ghost use Rattle.fle_vectors.specs.declared.aead.TheConstants.{AEAD_B3};
+
+use crate::key::DataKey;
+use crate::shared_key::SharedKey;
 
 /// A sealed message determines its IV and its message, its length, tag and
 /// padding are right, and it opens to its message.
@@ -25,4 +31,19 @@ pub fn sealing()
 pub fn published_message()
     ensures body { (k : List ℕ) → body (AEAD_B3.key ++ k) AEAD_B3.iv AEAD_B3.plain ≡ AEAD_B3.iv ++ AEAD_B3.sealed }
     ensures tag { (k : List ℕ) → tag (AEAD_B3.key ++ k) AEAD_B3.aad (AEAD_B3.iv ++ AEAD_B3.sealed) ≡ AEAD_B3.tag }
+{}
+
+/// Any thread may own a data key, and a share of one, and read it beside others: both types are `Send` and `Sync`.
+pub fn keys_of_any_thread()
+    ensures owned { IsSend data_row × IsSend shared_row }
+    ensures shared { IsSync data_row × IsSync shared_row }
+{
+    of_any_thread::<DataKey>();
+    of_any_thread::<SharedKey>();
+}
+
+/// A value of a type that is `Send` and `Sync` may be owned by any thread, and read beside others.
+pub fn of_any_thread<T: Send + Sync>()
+    ensures owned { IsSend T.row }
+    ensures shared { IsSync T.row }
 {}

@@ -5,13 +5,13 @@ ghost use Rattle.std.specs.Prelude.{◌≡◌, IfOk};
 use crate::key::DataKey;
 use std::alloc::{AllocError, Global};
 use std::marker::Model;
-use std::rc::Rc;
+use std::sync::Arc;
 
-/// A data key that several tables or caches own, seen as the data key. A copy of it is another owner of the same key,
-/// and costs none of its 1,152 bytes.
+/// A data key that several tables or caches own, on any threads, seen as the data key. A copy of it is another owner
+/// of the same key, and costs none of its 1,152 bytes.
 #[derive(Drop)]
 pub struct SharedKey {
-    key: Rc<DataKey>,
+    key: Arc<DataKey>,
 }
 
 impl Model for SharedKey {
@@ -39,7 +39,7 @@ impl SharedKey {
     pub fn new(alloc: Global, key: DataKey) -> Result<SharedKey, AllocError>
         ensures key { IfOk result (λ s. s ≡ key) }
     {
-        match Rc::new(alloc, key) {
+        match Arc::new(alloc, key) {
             Ok(key) => Ok(SharedKey { key }),
             Err(_) => Err(AllocError),
         }
