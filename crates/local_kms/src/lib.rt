@@ -2,7 +2,8 @@
 //! (MongoDB Client Side Encryption, "local").
 //!
 //! [`read_master`] reads the file, [`wrap_key`] and [`unwrap_key`] seal and open a data key under it, and [`new_key`]
-//! makes one of random blocks.
+//! makes one of random blocks. [`wrap_bytes`] and [`unwrap_bytes`] do the same to its 96 bytes, for a key that is only
+//! to be sealed again.
 //!
 //! ```rust
 //! let master = read_master(&file)?;
@@ -13,10 +14,12 @@
 //! It wipes no key, and doesn't ask how random the blocks are.
 #![tactic(auto)]
 
+mod key_bytes;
 mod making;
 mod master;
 mod wrapping;
 
+pub use key_bytes::KeyBytes;
 pub use making::{NewFault, new_key};
 pub use master::{MasterFault, MasterKey, read_master};
-pub use wrapping::{UnwrapFault, unwrap_key, wrap_key};
+pub use wrapping::{UnwrapFault, unwrap_bytes, unwrap_key, wrap_bytes, wrap_key};

@@ -5,12 +5,12 @@ ghost use Rattle.local_kms.specs.Drawn.{Makes};
 ghost use Rattle.local_kms.specs.Made.{block_at, id_of, key_of_blocks, MakesKey, material_of, seeds, six_blocks};
 ghost use Rattle.local_kms.specs.Made.{two_blocks};
 
+use crate::key_bytes::KeyBytes;
 use crate::master::MasterKey;
-use crate::wrapping::wrap_key;
+use crate::wrapping::wrap_bytes;
 use bson_tree::{Bytes, Names};
 use crypto_hooks::Block256;
 use data_key::{KeyDoc, Provider};
-use fle_aead::DataKey;
 use fle_outside::{Entropy, Failed};
 use std::alloc::Global;
 use uuid::Builder;
@@ -58,7 +58,7 @@ pub fn new_key<B: Block256, N: Entropy>(
     };
     match draw_seeds(entropy) {
         Ok(seeds) => {
-            let sealed = wrap_key(hooks, master, seeds.iv, &DataKey::new(seeds.key));
+            let sealed = wrap_bytes(hooks, master, seeds.iv, &KeyBytes::new(seeds.key));
             material.copy_from_slice(&sealed);
             Ok(KeyDoc {
                 id: version_4(seeds.id),

@@ -5,6 +5,7 @@ ghost use Rattle.fle_aead.specs.Sealed.{IsSealed};
 ghost use Rattle.local_kms.specs.Seen.{fault_seen, IsKeyOf};
 ghost use Rattle.local_kms.specs.Wrapped.{Unwraps};
 
+use crate::key_bytes::KeyBytes;
 use crate::master::MasterKey;
 use crypto_hooks::Block256;
 use fle_aead::{DataKey, OpenFault, open_into, seal_into};
@@ -52,18 +53,56 @@ pub fn wrap_key<B: Block256>(
     requires hooks { B.answers hooks.now }
     ensures sealed { IsSealed master.now [] iv key.now result }
 {
+    seal_key(hooks, master, iv, key.bytes())
+}
+
+/// Seals the bytes of a data key under a master key and this IV, without associated data: what `wrap_key` makes of the
+/// key of these bytes.
+pub fn wrap_bytes<B: Block256>(
+    hooks: &B,
+    master: &MasterKey,
+    iv: [u8; 16],
+    key: &KeyBytes,
+) -> [u8; 160]
+    requires hooks { B.answers hooks.now }
+    ensures sealed { IsSealed master.now [] iv key.now result }
+{
+    seal_key(hooks, master, iv, key.bytes())
+}
+
+/// Seals 96 bytes.
+fn seal_key<B: Block256>(hooks: &B, master: &MasterKey, iv: [u8; 16], key: &[u8; 96]) -> [u8; 160]
+    requires hooks { B.answers hooks.now }
+    ensures sealed { IsSealed master.now [] iv key.now result }
+{
     let mut material = [0; MATERIAL];
-    seal_into(hooks, master.key(), &[], iv, key.bytes(), &mut material);
+    seal_into(hooks, master.key(), &[], iv, key, &mut material);
     material
 }
 
-/// Opens a data key under its master key: its length is judged, then the tag, then the padding, then the length of the
-/// key. It allocates nothing.
+/// Opens a data key under its master key, as `unwrap_bytes` does, and makes of it what seals and opens values. It
+/// allocates nothing.
 pub fn unwrap_key<B: Block256>(
     hooks: &B,
     master: &MasterKey,
     material: &[u8],
 ) -> Result<DataKey, UnwrapFault>
+    requires hooks { B.answers hooks.now }
+    ensures answer { Unwraps master.now material.now result }
+{
+    match unwrap_bytes(hooks, master, material) {
+        Ok(key) => Ok(key.data_key()),
+        Err(fault) => Err(fault),
+    }
+}
+
+/// Opens the bytes of a data key under its master key: its length is judged, then the tag, then the padding, then the
+/// length of the key. It allocates nothing.
+pub fn unwrap_bytes<B: Block256>(
+    hooks: &B,
+    master: &MasterKey,
+    material: &[u8],
+) -> Result<KeyBytes, UnwrapFault>
     requires hooks { B.answers hooks.now }
     ensures answer { Unwraps master.now material.now result }
 {
@@ -78,11 +117,11 @@ pub fn unwrap_key<B: Block256>(
 }
 
 /// The key that is the first n bytes, where these are 96.
-fn key_by(n: usize, plain: &[u8; 160]) -> Result<DataKey, UnwrapFault>
+fn key_by(n: usize, plain: &[u8; 160]) -> Result<KeyBytes, UnwrapFault>
     ensures { IsKeyOf n plain.now result }
 {
     if n == KEY {
-        Ok(DataKey::new(front_of(plain)))
+        Ok(KeyBytes::new(front_of(plain)))
     } else {
         Err(UnwrapFault::Length)
     }

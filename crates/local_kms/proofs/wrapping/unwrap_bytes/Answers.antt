@@ -2,7 +2,7 @@ use Rattle.std.proofs.Common.{◌≡◌, length, rules, take, sym, subst, Err}
 use Rattle.fle_aead.specs.Sealed.{iv_of}
 use Rattle.local_kms.specs.Wrapped.{Unwraps}
 use Rattle.local_kms.proofs.Unwrapped.{ok_is, told_err, told_long, told_ok}
-use Rattle.local_kms.proofs.wrapping.unwrap_key.Goals as goal
+use Rattle.local_kms.proofs.wrapping.unwrap_bytes.Goals as goal
 
 pub returns-then-material-ne-MATERIAL : goal.returns-then-material-ne-MATERIAL
 returns-then-material-ne-MATERIAL g c = record
