@@ -125,3 +125,15 @@ kept_opens s d kept needs master r is first tells =
     subst (λ (o : Opens). OpensKeys (by_ids (ring o.kept master)) (needs_in o.document) r) is
     (opens_ids kept master (needs_in d) r (needs_ids d)
     (opens_keys (finder kept master) (finder_own kept master) (needs_in d) r made))
+
+-- the same of the keys of a vault, where the needs are shown as the code holds them
+pub vault_opens : (keys : List KeyDoc) (s : Opens) (d : At) (kept : List KeyDoc) (needs shown : List NeedAt)
+    (master : List ℕ) (r : Result Table KeysStop) → record { document = d; kept = kept } ≡ s
+    → needs ≡ first_needs (needs_in d) → shown ≡ needs → TellsTable (table_of (finder keys master) shown) r
+    → OpensKeys (by_ids (ring keys master)) (needs_in s.document) r
+vault_opens keys s d kept needs shown master r is first same tells =
+    let made : TellsTable (table_of (finder keys master) (first_needs (needs_in d))) r =
+    subst (λ (ns : List NeedAt). TellsTable (table_of (finder keys master) ns) r) (same ∙ first) tells in
+    subst (λ (o : Opens). OpensKeys (by_ids (ring keys master)) (needs_in o.document) r) is
+    (opens_ids keys master (needs_in d) r (needs_ids d)
+    (opens_keys (finder keys master) (finder_own keys master) (needs_in d) r made))

@@ -50,6 +50,16 @@ waits_told master info command marked wanted w r is waiting tells =
     (opens_wanted (finder wanted.kept master) (finder_own wanted.kept master) info command wanted.needs r
     waiting.needs tells)
 
+-- the same of the keys of a vault, where the needs are shown as the code holds them
+pub waits_found : (keys : Finder) → FindsOwn keys → (info : Option Collection) (command : At) (marked : Option Command)
+    (wanted : Wants) (w : Waits) (needs : List NeedAt) (r : Result Table KeysStop)
+    → record { command = command; info = info; kept = wanted.kept } ≡ w → IsWaiting info command marked wanted
+    → needs ≡ wanted.needs → TellsTable (table_of keys needs) r
+    → OpensKeys keys (needs_of (rows_in w.info) w.command) r
+waits_found keys own info command marked wanted w needs r is waiting same tells =
+    subst (λ (x : Waits). OpensKeys keys (needs_of (rows_in x.info) x.command) r) is
+    (opens_wanted keys own info command needs r (same ∙ waiting.needs) tells)
+
 -- a value's key isn't to be had
 pub keyless_stops : (keys : Finder) (w : Waits) (stop : KeysStop)
     → KeysFail keys (needs_of (rows_in w.info) w.command) stop → StopsWaiting keys w stop

@@ -19,6 +19,7 @@ use crate::keys_asked::key_filter;
 use crate::need::NeedAt;
 use crate::opened_keys::{KeysStop, open_keys, open_keys_cached};
 use crate::payload_needs::PayloadNeeds;
+use crate::vault_keys::open_found;
 use crate::wanted::Wanted;
 use bson_codec::RawDoc;
 use crypto_hooks::Block256;
@@ -26,7 +27,7 @@ use data_key::KeyDoc;
 use doc_rewrite::{FindFault, Found, tell_payloads};
 use encrypt_schema::{MarkFault, Reason};
 use fle_outside::Memory;
-use key_vault::KeyCache;
+use key_vault::{KeyCache, Vault};
 use local_kms::MasterKey;
 use payload6::Need;
 use std::alloc::Global;
@@ -174,6 +175,34 @@ impl<'a> DecryptNeedKeys<'a> {
             return Err((self, KeysStop::Memory));
         };
         match open_keys_cached(alloc, &self.wanted, cache, hooks) {
+            Ok(table) => Ok(DecryptReady::new(self, table, out)),
+            Err(stop) => Err((self, stop)),
+        }
+    }
+
+    /// The same with the keys of a vault in place of those that were handed in: each payload has the vault's own answer,
+    /// in time that grows with n log n in the number of needs, however many names a key has.
+    pub fn done_from_vault<B: Block256>(
+        self,
+        alloc: Global,
+        keys: &Vault,
+        cache: &mut KeyCache,
+        hooks: &B,
+    ) -> Result<DecryptReady<'a>, (DecryptNeedKeys<'a>, KeysStop)>
+        requires hooks { B.answers hooks.now }
+        ensures master { cache.new.master ≡ cache.old.master }
+        ensures ready { IfOk result (λ r. r
+            ≡ record { document = self.entry.document; kept = self.entry.kept; table = r.table }) }
+        ensures opened { IfOk result (λ r.
+            AreOpened (by_ids (ring keys.now cache.old.master)) (needs_in self.entry.document) r.table) }
+        ensures back { IfErr result (λ e. e.0 ≡ self.entry) }
+        ensures refused { IfErr result (λ e.
+            KeysFail (by_ids (ring keys.now cache.old.master)) (needs_in self.entry.document) e.1) }
+    {
+        let Ok(out) = self.room(alloc) else {
+            return Err((self, KeysStop::Memory));
+        };
+        match open_found(alloc, self.wanted.needs(), keys, cache, hooks) {
             Ok(table) => Ok(DecryptReady::new(self, table, out)),
             Err(stop) => Err((self, stop)),
         }

@@ -39,6 +39,7 @@ mod payload_needs;
 mod ready;
 mod replying;
 mod slots;
+mod vault_keys;
 mod wanted;
 
 pub use begun::Begun;

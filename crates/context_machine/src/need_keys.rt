@@ -19,6 +19,7 @@ use crate::keys_asked;
 use crate::need::NeedAt;
 use crate::opened_keys::{KeysStop, open_keys, open_keys_cached};
 use crate::ready::Ready;
+use crate::vault_keys::open_found;
 use crate::wanted::Wanted;
 use bson_codec::RawDoc;
 use bson_splice::TooLong;
@@ -28,7 +29,7 @@ use data_key::KeyDoc;
 use doc_rewrite::{KeyTable, Plan, plan_clear, plan_seal, seal_through};
 use encrypt_schema::Info;
 use fle_outside::{Entropy, Failed, Memory};
-use key_vault::KeyCache;
+use key_vault::{KeyCache, Vault};
 use local_kms::MasterKey;
 use payload6::Need;
 use std::alloc::Global;
@@ -164,6 +165,30 @@ impl<'a> NeedKeys<'a> {
         ensures stop { IfErr result (λ e. StopsWaiting (finder self.entry.kept cache.old.master) self.entry e.1) }
     {
         match open_keys_cached(alloc, &self.wanted, cache, hooks) {
+            Ok(table) => self.with_keys(alloc, table),
+            Err(stop) => Err((self, stop)),
+        }
+    }
+
+    /// The same with the keys of a vault in place of those that were handed in: each need has the vault's own answer, in
+    /// time that grows with n log n in the number of needs, however many names a key has.
+    pub fn done_from_vault<B: Block256>(
+        self,
+        alloc: Global,
+        keys: &Vault,
+        cache: &mut KeyCache,
+        hooks: &B,
+    ) -> Result<Ready<'a>, (NeedKeys<'a>, KeysStop)>
+        requires hooks { B.answers hooks.now }
+        ensures master { cache.new.master ≡ cache.old.master }
+        ensures ready { IfOk result (λ r. r ≡ readied self.entry r.table) }
+        ensures opened { IfOk result (λ r. AreOpened (finder keys.now cache.old.master)
+            (needs_of (rows_in self.entry.info) self.entry.command) r.table) }
+        ensures fits { IfOk result (λ _. sealed_size self.entry.info self.entry.command ≤ 48000000) }
+        ensures back { IfErr result (λ e. e.0 ≡ self.entry) }
+        ensures stop { IfErr result (λ e. StopsWaiting (finder keys.now cache.old.master) self.entry e.1) }
+    {
+        match open_found(alloc, self.wanted.needs(), keys, cache, hooks) {
             Ok(table) => self.with_keys(alloc, table),
             Err(stop) => Err((self, stop)),
         }

@@ -103,7 +103,7 @@ fn put_opened<B: Block256>(
 }
 
 /// The same under the master key of a cache.
-fn put_cached<B: Block256>(
+pub(crate) fn put_cached<B: Block256>(
     alloc: Global,
     table: &mut KeyTable,
     n: &NeedAt<'_>,
