@@ -4,7 +4,6 @@ pub mod Spots
 pub mod Rulings
 pub mod Starts
 pub mod Replied
-pub mod Fed
 pub mod Seals
 pub mod Unseals
 pub mod Loads

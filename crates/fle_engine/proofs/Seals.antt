@@ -9,17 +9,14 @@ use Rattle.bson_splice.specs.Splices.{put_at}
 use Rattle.bson_splice.proofs.Splices.{same}
 use Rattle.command_marker.specs.Commands.{passes}
 use Rattle.command_marker.proofs.Unmarked.{passing_roles}
-use Rattle.context_machine.specs.Kept.{AreFedFrom}
-use Rattle.context_machine.specs.Needs.{first_needs}
 use Rattle.context_machine.specs.Ready.{StopsWaiting, readied, sealed_size, values_of}
-use Rattle.context_machine.specs.Rings.{AreOpened, Finder, finder, first_keyless, found_in, need_at, needs_of}
+use Rattle.context_machine.specs.Rings.{AreOpened, Finder, first_keyless, found_in, need_at, needs_of}
 use Rattle.context_machine.specs.States.{Asks, Readied, Waits}
-use Rattle.context_machine.specs.Waiting.{IsRefusal, wanted_of}
+use Rattle.context_machine.specs.Waiting.{IsRefusal}
 use Rattle.context_machine.specs.declared.opened_keys.KeysStop.{KeysStop}
 use Rattle.context_machine.specs.declared.opened_keys.KeysStop.TheVariants as stops
-use Rattle.context_machine.proofs.Keyed.{kept_keyless, kept_opened, opened_none}
+use Rattle.context_machine.proofs.Keyed.{opened_none}
 use Rattle.context_machine.proofs.Alike.{table_seals}
-use Rattle.data_key.specs.declared.key_doc.KeyDoc.{KeyDoc}
 use Rattle.doc_rewrite.specs.Keys.{Table, key_in}
 use Rattle.doc_rewrite.specs.Sealed.{sealed}
 use Rattle.doc_rewrite.specs.Sealing.{FellShort, IsSealedWhole}
@@ -134,50 +131,35 @@ needs_at rows command whole = ap (needs_of rows) (sym (front_is command whole))
 abbrev sealing_of : Finder → Option Collection → Items → Plan
 sealing_of keys info c = sealed_plan keys (front_sites info c) c
 
--- the keys kept are the vault's for the values of the command
-kept_first : (vault kept : List KeyDoc) (master : List ℕ) (rows : List Row) (command : At) → command.start ≡ 0
-    → AreFedFrom vault (first_needs (needs_of rows command)) kept
-    → first_keyless (finder vault master) (needs_of rows (at_front command.tree))
-    ≡ first_keyless (finder kept master) (needs_of rows command)
-kept_first vault kept master rows command whole fed =
-    ap (first_keyless (finder vault master)) (needs_at rows command whole)
-    ∙ sym (kept_keyless vault kept master (needs_of rows command) fed)
-
-pub keys_had : (vault kept : List KeyDoc) (master : List ℕ) (info : Option Collection) (command : At)
-    (table : Table) → command.start ≡ 0
-    → AreFedFrom vault (first_needs (needs_of (rows_in info) command)) kept
-    → AreOpened (finder kept master) (needs_of (rows_in info) command) table
-    → sealed_size info command ≤ 48000000
-    → seal_under (finder vault master) (rows_in info) command.tree
-    ≡ makes (sealing_of (finder vault master) info command.tree)
-keys_had vault kept master info command table whole fed opened few =
-    let keys = finder vault master in
+-- each value has its key, and the sealed command isn't too long
+keys_had : (keys : Finder) (info : Option Collection) (command : At) (table : Table) → command.start ≡ 0
+    → AreOpened keys (needs_of (rows_in info) command) table → sealed_size info command ≤ 48000000
+    → seal_under keys (rows_in info) command.tree ≡ makes (sealing_of keys info command.tree)
+keys_had keys info command table whole opened few =
     let c = command.tree in
-    let had = kept_opened vault kept master (needs_of (rows_in info) command) table fed opened in
     let none : first_keyless keys (needs_of (rows_in info) (at_front c)) ≡ None =
     ap (first_keyless keys) (needs_at (rows_in info) command whole)
-    ∙ opened_none keys table (needs_of (rows_in info) command) had in
+    ∙ opened_none keys table (needs_of (rows_in info) command) opened in
     let size : length (doc_bytes c) + grown (front_sites info c) ≤ 48000000 =
     subst (λ (ss : List Site). length (doc_bytes c) + grown ss ≤ 48000000) (sites_at info command whole) few in
     ap (λ (r : Option Refusal). by_refusal r (sized_plan (sealing_of keys info c))) none
     ∙ sized_is (sealing_of keys info c) size
 
-pub keys_stop : (vault kept : List KeyDoc) (master : List ℕ) (w : Waits) (stop : KeysStop) → w.command.start ≡ 0
-    → AreFedFrom vault (first_needs (needs_of (rows_in w.info) w.command)) kept
-    → w.kept ≡ kept → StopsWaiting (finder kept master) w stop
-    → StopsAs stop (seal_under (finder vault master) (rows_in w.info) w.command.tree)
-keys_stop vault kept master w (stops.Refused reason at) whole fed is stop =
-    ap (λ (r : Option Refusal). by_refusal r (sized_plan (sealing_of (finder vault master) w.info w.command.tree)))
-    (kept_first vault kept master (rows_in w.info) w.command whole fed ∙ stop)
-keys_stop vault kept master w stops.TooLong whole fed is stop =
+-- a value's key isn't to be had, or the sealed command is too long
+pub keys_stop : (keys : Finder) (w : Waits) (stop : KeysStop) → w.command.start ≡ 0 → StopsWaiting keys w stop
+    → StopsAs stop (seal_under keys (rows_in w.info) w.command.tree)
+keys_stop keys w (stops.Refused reason at) whole stop =
+    ap (λ (r : Option Refusal). by_refusal r (sized_plan (sealing_of keys w.info w.command.tree)))
+    (ap (first_keyless keys) (needs_at (rows_in w.info) w.command whole) ∙ stop)
+keys_stop keys w stops.TooLong whole stop =
     let c = w.command.tree in
-    let plan = sealing_of (finder vault master) w.info c in
+    let plan = sealing_of keys w.info c in
     let size : 48000000 < length (doc_bytes c) + grown (front_sites w.info c) =
     subst (λ (ss : List Site). 48000000 < length (doc_bytes c) + grown ss) (sites_at w.info w.command whole) stop.1 in
     ap (λ (r : Option Refusal). by_refusal r (sized_plan plan))
-    (kept_first vault kept master (rows_in w.info) w.command whole fed ∙ stop.0)
+    (ap (first_keyless keys) (needs_at (rows_in w.info) w.command whole) ∙ stop.0)
     ∙ sized_over plan size
-keys_stop vault kept master w stops.Memory whole fed is stop = tt
+keys_stop keys w stops.Memory whole stop = tt
 
 -- ---- its bytes
 
@@ -213,54 +195,23 @@ pub sealed_short : (keys : Finder) (info : Option Collection) (command : At) (be
 sealed_short keys info command before after whole short =
     subst (λ (ss : List Site). FellShort before after (draws_of ss)) (sites_at info command whole) short
 
--- ---- the states
+-- ---- the state that is ready
 
--- a state that waited, with the keys of the vault
-pub record IsFed (vault : List KeyDoc) (s w : Waits) : Type 0 where
-  pub whole : s.command.start ≡ 0
-  pub same_command : w.command ≡ s.command
-  pub same_info : w.info ≡ s.info
-  pub fed : AreFedFrom vault (wanted_of s.info s.command) w.kept
-
-pub keys_sealed : (vault : List KeyDoc) (master : List ℕ) (s w : Waits) (r : Readied)
-    (before after : EntropySeen) (a : Answer) → IsFed vault s w → r ≡ readied w r.table
-    → AreOpened (finder w.kept master) (needs_of (rows_in w.info) w.command) r.table
-    → sealed_size w.info w.command ≤ 48000000
-    → ((keys : Finder) → AreOpened keys (needs_of (rows_in r.info) r.command) r.table
-    → AnswerIs (makes (sealing_of keys r.info r.command.tree)) r.command.tree before after a)
-    → AnswerIs (seal_under (finder vault master) (rows_in s.info) s.command.tree) s.command.tree before after a
-keys_sealed vault master s w r before after a is ready opened few answered =
-    let keys = finder vault master in
-    let had : AreOpened (finder w.kept master) (needs_of (rows_in s.info) s.command) r.table =
-    subst (λ (d : At). AreOpened (finder w.kept master) (needs_of (rows_in s.info) d) r.table) is.same_command
-    (subst (λ (o : Option Collection). AreOpened (finder w.kept master) (needs_of (rows_in o) w.command) r.table)
-    is.same_info opened) in
-    let size : sealed_size s.info s.command ≤ 48000000 =
-    subst (λ (d : At). sealed_size s.info d ≤ 48000000) is.same_command
-    (subst (λ (o : Option Collection). sealed_size o w.command ≤ 48000000) is.same_info few) in
-    let info : r.info ≡ s.info = ap (λ (x : Readied). x.info) ready ∙ is.same_info in
-    let command : r.command ≡ s.command = ap (λ (x : Readied). x.command) ready ∙ is.same_command in
-    let all : AreOpened keys (needs_of (rows_in s.info) s.command) r.table
-    = kept_opened vault w.kept master (needs_of (rows_in s.info) s.command) r.table is.fed had in
+pub keys_sealed : (keys : Finder) (s : Waits) (r : Readied) (before after : EntropySeen) (a : Answer)
+    → s.command.start ≡ 0 → r ≡ readied s r.table
+    → AreOpened keys (needs_of (rows_in s.info) s.command) r.table → sealed_size s.info s.command ≤ 48000000
+    → ((own : Finder) → AreOpened own (needs_of (rows_in r.info) r.command) r.table
+    → AnswerIs (makes (sealing_of own r.info r.command.tree)) r.command.tree before after a)
+    → AnswerIs (seal_under keys (rows_in s.info) s.command.tree) s.command.tree before after a
+keys_sealed keys s r before after a whole ready opened few answered =
+    let info : r.info ≡ s.info = ap (λ (x : Readied). x.info) ready in
+    let command : r.command ≡ s.command = ap (λ (x : Readied). x.command) ready in
     subst (λ (v : Ruling). AnswerIs v s.command.tree before after a)
-    (sym (keys_had vault w.kept master s.info s.command r.table is.whole is.fed had size))
+    (sym (keys_had keys s.info s.command r.table whole opened few))
     (subst (λ (d : At). AreOpened keys (needs_of (rows_in s.info) d) r.table
     → AnswerIs (makes (sealing_of keys s.info d.tree)) d.tree before after a) command
     (subst (λ (o : Option Collection). AreOpened keys (needs_of (rows_in o) r.command) r.table
-    → AnswerIs (makes (sealing_of keys o r.command.tree)) r.command.tree before after a) info (answered keys)) all)
-
-pub keys_told : (vault : List KeyDoc) (master : List ℕ) (s w : Waits) (stop : KeysStop)
-    → IsFed vault s w → StopsWaiting (finder w.kept master) w stop
-    → StopsAs stop (seal_under (finder vault master) (rows_in s.info) s.command.tree)
-keys_told vault master s w stop is stops =
-    let fed : AreFedFrom vault (first_needs (needs_of (rows_in w.info) w.command)) w.kept =
-    subst (λ (d : At). AreFedFrom vault (first_needs (needs_of (rows_in w.info) d)) w.kept) (sym is.same_command)
-    (subst (λ (o : Option Collection). AreFedFrom vault (first_needs (needs_of (rows_in o) s.command)) w.kept)
-    (sym is.same_info) is.fed) in
-    let start : w.command.start ≡ 0 = ap (λ (d : At). d.start) is.same_command ∙ is.whole in
-    subst (λ (d : At). StopsAs stop (seal_under (finder vault master) (rows_in s.info) d.tree)) is.same_command
-    (subst (λ (o : Option Collection). StopsAs stop (seal_under (finder vault master) (rows_in o) w.command.tree))
-    is.same_info (keys_stop vault w.kept master w stop start fed refl stops))
+    → AnswerIs (makes (sealing_of keys o r.command.tree)) r.command.tree before after a) info (answered keys)) opened)
 
 -- ---- the fields of a command, and its collection
 

@@ -3,17 +3,12 @@ use Rattle.std.proofs.Common.{◌≡◌, ℕ, List, [], None, Result, Ok, Err, V
 use Rattle.bson_tree.specs.Tree.{Items}
 use Rattle.bson_codec.specs.Borrowed.{At}
 use Rattle.context_machine.specs.Decrypting.{IsMisshapen, OpensTo, StaysSealed}
-use Rattle.context_machine.specs.Kept.{AreFedFrom}
-use Rattle.context_machine.specs.Needs.{first_needs}
-use Rattle.context_machine.specs.Rings.{AreOpened, by_ids, needs_in, ring}
+use Rattle.context_machine.specs.Rings.{AreOpened, by_ids, needs_in}
 use Rattle.context_machine.specs.States.{Opens, OpensWith}
 use Rattle.context_machine.specs.Tables.{KeysFail}
 use Rattle.context_machine.specs.declared.opened_keys.KeysStop.{KeysStop}
 use Rattle.context_machine.specs.declared.opened_keys.KeysStop.TheVariants as stops
 use Rattle.context_machine.proofs.Alike.{keyless_stops, misshapen_stops, table_opens}
-use Rattle.context_machine.proofs.Decrypting.{needs_ids}
-use Rattle.context_machine.proofs.Keyed.{kept_keyless_ids, kept_opened_ids}
-use Rattle.data_key.specs.declared.key_doc.KeyDoc.{KeyDoc}
 use Rattle.doc_rewrite.specs.Founds.{payloads_of}
 use Rattle.doc_rewrite.specs.Keys.{Table, key_by_id}
 use Rattle.doc_rewrite.specs.Opened.{Keyring, first_wrong, misshapen, opened, ring_of}
@@ -45,17 +40,14 @@ misshapen_told keys d (faults.Refused reason at) whole is =
 misshapen_told keys d faults.Memory whole is = tt
 
 -- a payload's key isn't to be had
-pub keyless_told : (vault kept : List KeyDoc) (master : List ℕ) (d : At) (stop : KeysStop) → d.start ≡ 0
-    → first_wrong misshapen (payloads_of d) ≡ None
-    → AreFedFrom vault (first_needs (needs_in d)) kept → KeysFail (by_ids (ring kept master)) (needs_in d) stop
-    → StopsAs stop (open_ruling (ring vault master) d.tree)
-keyless_told vault kept master d (stops.Refused reason at) whole shaped fed fail =
+pub keyless_told : (keys : Keyring) (d : At) (stop : KeysStop) → d.start ≡ 0
+    → first_wrong misshapen (payloads_of d) ≡ None → KeysFail (by_ids keys) (needs_in d) stop
+    → StopsAs stop (open_ruling keys d.tree)
+keyless_told keys d (stops.Refused reason at) whole shaped fail =
     let r : Refusal = record { reason = reason; at = at } in
-    ruling_is (ring vault master) d (Err r) whole
-    (keyless_stops (ring vault master) d r shaped
-    (sym (kept_keyless_ids vault kept master (needs_in d) (needs_ids d) fed) ∙ fail))
-keyless_told vault kept master d stops.TooLong whole shaped fed fail = absurd fail
-keyless_told vault kept master d stops.Memory whole shaped fed fail = tt
+    ruling_is keys d (Err r) whole (keyless_stops keys d r shaped fail)
+keyless_told keys d stops.TooLong whole shaped fail = absurd fail
+keyless_told keys d stops.Memory whole shaped fail = tt
 
 -- each payload's key is there: the document is opened, or a payload stays sealed
 pub opened_made : (keys : Keyring) (d : At) (table : Table) (bytes : List ℕ) (output : Vec ℕ Global)
@@ -76,38 +68,15 @@ sealed_told keys d table spot whole are stays =
     ruling_is keys d (Err (record { reason = spot.reason; at = spot.at })) whole
     (sym (table_opens keys table d are) ∙ stays)
 
--- ---- the states
+-- ---- the state that is ready
 
--- a state that waited, with the keys of the vault
-pub record IsFedFor (vault : List KeyDoc) (d : At) (w : Opens) : Type 0 where
-  pub whole : d.start ≡ 0
-  pub same : w.document ≡ d
-  pub fed : AreFedFrom vault (first_needs (needs_in d)) w.kept
-
-pub keys_fail : (vault : List KeyDoc) (master : List ℕ) (d : At) (w : Opens) (stop : KeysStop)
-    → first_wrong misshapen (payloads_of d) ≡ None → IsFedFor vault d w
-    → KeysFail (by_ids (ring w.kept master)) (needs_in w.document) stop
-    → StopsAs stop (open_ruling (ring vault master) d.tree)
-keys_fail vault master d w stop shaped is fail =
-    keyless_told vault w.kept master d stop is.whole shaped is.fed
-    (subst (λ (x : At). KeysFail (by_ids (ring w.kept master)) (needs_in x) stop) is.same fail)
-
-pub vault_has : (vault : List KeyDoc) (master : List ℕ) (d : At) (w : Opens) (table : Table)
-    → IsFedFor vault d w → AreOpened (by_ids (ring w.kept master)) (needs_in w.document) table
-    → AreOpened (by_ids (ring vault master)) (needs_in d) table
-vault_has vault master d w table is opened =
-    kept_opened_ids vault w.kept master (needs_in d) table (needs_ids d) is.fed
-    (subst (λ (x : At). AreOpened (by_ids (ring w.kept master)) (needs_in x) table) is.same opened)
-
-pub keys_open : (vault : List KeyDoc) (master : List ℕ) (d : At) (w : Opens) (r : OpensWith) (e : EntropySeen)
-    (a : Answer) → IsFedFor vault d w → r ≡ record { document = w.document; kept = w.kept; table = r.table }
-    → AreOpened (by_ids (ring w.kept master)) (needs_in w.document) r.table
-    → ((keys : Keyring) → AreOpened (by_ids keys) (needs_in r.document) r.table
-    → AnswerIs (open_ruling keys r.document.tree) r.document.tree e e a)
-    → AnswerIs (open_ruling (ring vault master) d.tree) d.tree e e a
-keys_open vault master d w r e a is ready opened answered =
-    let keys = ring vault master in
-    let here : r.document ≡ d = ap (λ (x : OpensWith). x.document) ready ∙ is.same in
+pub keys_open : (keys : Keyring) (s : Opens) (r : OpensWith) (e : EntropySeen) (a : Answer)
+    → r ≡ record { document = s.document; kept = s.kept; table = r.table }
+    → AreOpened (by_ids keys) (needs_in s.document) r.table
+    → ((own : Keyring) → AreOpened (by_ids own) (needs_in r.document) r.table
+    → AnswerIs (open_ruling own r.document.tree) r.document.tree e e a)
+    → AnswerIs (open_ruling keys s.document.tree) s.document.tree e e a
+keys_open keys s r e a ready opened answered =
+    let here : r.document ≡ s.document = ap (λ (x : OpensWith). x.document) ready in
     subst (λ (x : At). AreOpened (by_ids keys) (needs_in x) r.table
-    → AnswerIs (open_ruling keys x.tree) x.tree e e a) here
-    (answered keys) (vault_has vault master d w r.table is opened)
+    → AnswerIs (open_ruling keys x.tree) x.tree e e a) here (answered keys) opened

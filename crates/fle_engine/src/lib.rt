@@ -13,7 +13,6 @@
 mod answer;
 mod checking;
 mod engine;
-mod fetching;
 mod loading;
 mod marker;
 mod opener;

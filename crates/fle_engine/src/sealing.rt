@@ -1,10 +1,8 @@
 //! Commands sealed: from state to state, each with what is left to be done.
 
-ghost use Rattle.std.specs.Prelude.{true, ◌≡◌, List, None, Some, [], option_copied};
+ghost use Rattle.std.specs.Prelude.{true, ◌≡◌, List, None, Some};
 ghost use Rattle.command_marker.specs.Commands.{passes};
-ghost use Rattle.context_machine.specs.Kept.{AreFedFrom, fed_some};
 ghost use Rattle.context_machine.specs.Rings.{AreOpened, Finder, finder, needs_of};
-ghost use Rattle.context_machine.specs.Waiting.{wanted_of};
 ghost use Rattle.doc_rewrite.specs.Sites.{sites_of};
 ghost use Rattle.encrypt_schema.specs.Commands.Targets.{rows_in};
 ghost use Rattle.encrypt_schema.specs.Commands.Visits.{roles};
@@ -15,7 +13,6 @@ ghost use Rattle.fle_engine.specs.Sealing.{seal_contents, seal_ruling, seal_unde
 ghost use Rattle.fle_outside.specs.Seen.{EntropySeen};
 
 use crate::answer::Answer;
-use crate::fetching::key_by;
 use crate::marker::Marker;
 use crate::opener::Opener;
 use crate::refusing::{refuse_fault, refuse_stop};
@@ -23,7 +20,6 @@ use crate::starting::{Started, start};
 use bson_codec::RawDoc;
 use context_machine::{NeedKeys, NeedMarkings, Ready};
 use crypto_hooks::Block256;
-use data_key::KeyDoc;
 use fle_outside::{Entropy, Failed};
 use key_vault::{KeyCache, Vault};
 use std::alloc::Global;
@@ -79,10 +75,10 @@ fn pass_command(alloc: Global, command: &RawDoc<'_>) -> Answer
 }
 
 /// Seals a command by its contents, under the rules of its collection.
-fn seal_by_contents<'a, B: Block256, N: Entropy>(
+fn seal_by_contents<B: Block256, N: Entropy>(
     alloc: Global,
-    state: NeedMarkings<'a>,
-    keys: &'a Vault,
+    state: NeedMarkings<'_>,
+    keys: &Vault,
     cache: &mut KeyCache,
     hooks: &B,
     entropy: &mut N,
@@ -91,7 +87,7 @@ fn seal_by_contents<'a, B: Block256, N: Entropy>(
     requires whole { state.command.start ≡ 0 }
     ensures master { cache.new.master ≡ cache.old.master }
     ensures answers { AnswerIs
-        (seal_contents (finder keys.entry.now cache.old.master) (rows_in state.entry.info) state.entry.command.tree)
+        (seal_contents (finder keys.now cache.old.master) (rows_in state.entry.info) state.entry.command.tree)
         state.entry.command.tree (N.seen entropy.old) (N.seen entropy.new) result }
 {
     match state.mark_here(alloc) {
@@ -101,55 +97,24 @@ fn seal_by_contents<'a, B: Block256, N: Entropy>(
 }
 
 /// Seals a command whose contents aren't refused: its keys and its length.
-fn seal_marked<'a, B: Block256, N: Entropy>(
+fn seal_marked<B: Block256, N: Entropy>(
     alloc: Global,
-    state: NeedKeys<'a>,
-    keys: &'a Vault,
+    state: NeedKeys<'_>,
+    keys: &Vault,
     cache: &mut KeyCache,
     hooks: &B,
     entropy: &mut N,
 ) -> Answer
     requires hooks { B.answers hooks.now }
     requires whole { state.command.start ≡ 0 }
-    requires none { state.kept ≡ [] }
     ensures master { cache.new.master ≡ cache.old.master }
     ensures answers { AnswerIs
-        (seal_under (finder keys.entry.now cache.old.master) (rows_in state.entry.info) state.entry.command.tree)
+        (seal_under (finder keys.now cache.old.master) (rows_in state.entry.info) state.entry.command.tree)
         state.entry.command.tree (N.seen entropy.old) (N.seen entropy.new) result }
 {
-    let state = with_keys(state, keys);
-    match state.done_cached(alloc, cache, hooks) {
+    match state.done_from_vault(alloc, keys, cache, hooks) {
         Ok(state) => seal_ready(state, hooks, entropy),
         Err((state, stop)) => refuse_stop(alloc, state.command(), stop),
-    }
-}
-
-/// A command with the keys that it needs, those that there are.
-fn with_keys<'a>(state: NeedKeys<'a>, keys: &'a Vault) -> NeedKeys<'a>
-    requires none { state.kept ≡ [] }
-    ensures command { result.command ≡ state.entry.command }
-    ensures info { result.info ≡ state.entry.info }
-    ensures fed { AreFedFrom keys.entry.now (wanted_of state.entry.info state.entry.command) result.kept }
-{
-    let _distinct = keys.keys();
-    let mut state = state;
-    for i in 0..state.needs().len() {
-        let key = key_by(keys, state.needs()[i].need);
-        feed(&mut state, key);
-    }
-    state
-}
-
-/// Hands in a key that may not be there.
-fn feed<'a>(state: &mut NeedKeys<'a>, key: Option<&'a KeyDoc>)
-    ensures fed { state.new ≡ record {
-      command = state.old.command;
-      info = state.old.info;
-      kept = fed_some (wanted_of state.old.info state.old.command) state.old.kept (option_copied key.entry);
-    } }
-{
-    if let Some(key) = key {
-        state.feed(key);
     }
 }
 

@@ -1,37 +1,25 @@
--- The keys kept are the vault's for the document's payloads.
+-- The keys are those that the vault has for the document's payloads.
 use Rattle.std.proofs.Common.{◌≡◌, ◌∙◌, ap, subst}
 use Rattle.bson_codec.specs.Borrowed.{At}
 use Rattle.context_machine.specs.Rings.{ring}
 use Rattle.context_machine.specs.States.{Opens}
 use Rattle.fle_engine.specs.Answers.{AnswerIs}
 use Rattle.fle_engine.specs.Opening.{open_ruling}
-use Rattle.fle_engine.proofs.Unseals.{keys_fail, keys_open}
+use Rattle.fle_engine.proofs.Unseals.{keyless_told, keys_open}
 use Rattle.fle_engine.proofs.opening.open_shaped.Goals as goal
 
 pub returns-in-Ok-clause-answers : goal.returns-in-Ok-clause-answers
 returns-in-Ok-clause-answers g c = λ e.
-    keys_open c.args.keys.now c.args.cache.now.master c.args.state.document c.with_keys-state.result c.in-Ok.state e
-    c.open_ready.result
-    (record {
-      whole = c.requires.whole;
-      same = c.with_keys-state.ensures.document;
-      fed = c.with_keys-state.ensures.fed;
-    })
+    keys_open (ring c.args.keys.now c.args.cache.now.master) c.args.state c.in-Ok.state e c.open_ready.result
     c.in-Ok.ensures.ready c.in-Ok.ensures.opened (λ keys are. c.open_ready.ensures.answers keys e are)
 
 pub returns-in-Err-clause-answers : goal.returns-in-Err-clause-answers
 returns-in-Err-clause-answers g c = λ e.
     let d = c.args.state.document in
-    let v = open_ruling (ring c.args.keys.now c.args.cache.now.master) d.tree in
+    let keys = ring c.args.keys.now c.args.cache.now.master in
+    let v = open_ruling keys d.tree in
     let here : c.document.result.now ≡ d =
-    c.document.ensures.document
-    ∙ (ap (λ (w : Opens). w.document) c.in-Err.ensures.back ∙ c.with_keys-state.ensures.document) in
+    c.document.ensures.document ∙ ap (λ (w : Opens). w.document) c.in-Err.ensures.back in
     subst (λ (x : At). AnswerIs v x.tree e e c.refuse_stop.result) here
     (c.refuse_stop.ensures.answers v e
-    (keys_fail c.args.keys.now c.args.cache.now.master d c.with_keys-state.result c.in-Err.stop c.requires.shaped
-    (record {
-      whole = c.requires.whole;
-      same = c.with_keys-state.ensures.document;
-      fed = c.with_keys-state.ensures.fed;
-    })
-    c.in-Err.ensures.refused))
+    (keyless_told keys d c.in-Err.stop c.requires.whole c.requires.shaped c.in-Err.ensures.refused))
