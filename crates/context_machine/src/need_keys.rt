@@ -170,8 +170,8 @@ impl<'a> NeedKeys<'a> {
         }
     }
 
-    /// The same with the keys of a vault in place of those that were handed in: each need has the vault's own answer, in
-    /// time that grows with n log n in the number of needs, however many names a key has.
+    /// The same with the keys of a vault in place of those that were handed in: each need has the vault's own answer.
+    /// It takes a time that grows with n log n in the number of needs, however many names a key has.
     pub fn done_from_vault<B: Block256>(
         self,
         alloc: Global,
