@@ -7,7 +7,7 @@ use Rattle.bson_tree.specs.Spelling.{doc_bytes}
 use Rattle.bson_codec.specs.declared.fault.BsonFault.{BsonFault}
 use Rattle.bson_codec.specs.Bytes.{AreBytes}
 use Rattle.bson_codec.specs.Layout.{IsDoc}
-use Rattle.bson_codec.specs.Reading.{document, front_document}
+use Rattle.bson_codec.specs.Reading.{IsReadBack, document, front_document}
 use Rattle.bson_codec.proofs.Steps.{ok_is}
 use Rattle.bson_codec.proofs.Pieces.{Begins, begins_of}
 use Rattle.bson_codec.proofs.Documents.{document_takes, document_again, front_again}
@@ -27,6 +27,12 @@ pub no_fault : (bytes : List ℕ) → AreBytes bytes → IsOk (document bytes)
 no_fault bytes fits = (
   spelled bytes (document bytes) fits refl,
   λ h. ap (λ (r : Result Items BsonFault). is_ok r) (document_again bytes h.0 h.1 h.2),
+)
+
+pub read_back : (is : Items) → IsReadBack is ↔ (IsDoc is × AreBytes (doc_bytes is))
+read_back is = (
+  λ h. let read = document_takes (doc_bytes is) is h.0 h.1 in (read.doc, h.0),
+  λ h. (h.1, document_again (doc_bytes is) is h.0 refl),
 )
 
 pub front_read : (bytes rest : List ℕ) (is : Items) → IsDoc is → bytes ≡ doc_bytes is ++ rest

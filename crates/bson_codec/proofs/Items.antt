@@ -64,9 +64,6 @@ doc_elements bs is e =
     let size : length elements ≡ length bs - 1 - 4 = omega (arith, ap length e, length-append elements (0 ∷ [])) in
     ap (take (length bs - 1 - 4)) tail ∙ take_at elements (0 ∷ []) (length bs - 1 - 4) size
 
-pub doc_spells : (bs : List ℕ) → SpellsDoc bs → SpellsElements (take (length bs - 1 - 4) (drop 4 bs))
-doc_spells bs s = record { tree = s.tree; laid = s.doc.inside; parts = doc_elements bs s.tree s.parts }
-
 pub items_are : (bs : List ℕ) → SpellsDoc bs → elements_of (take (length bs - 1 - 4) (drop 4 bs)) ≡ doc_of bs
 items_are bs s = elements_of_spelling _ s.tree s.doc.inside (doc_elements bs s.tree s.parts)
     ∙ sym (doc_of_spelling bs s.tree s.doc s.parts)

@@ -23,3 +23,6 @@ pub mod Offsets
 pub mod Spots
 pub mod Standings
 pub mod PlainNames
+pub mod Ways
+pub mod Descent
+pub mod Turns

@@ -1,10 +1,12 @@
 -- BSON 1.1, read from left to right, with the first fault. `p` is the offset of the first byte of `bs`,
 -- and `bs` ends before the final 00 of the document that the bytes stand in.
 use Rattle.std.specs.Prelude.{◌+◌, ◌-◌, ◌^◌, ℕ, zero, suc, Bool, true, false, ◌||◌, ◌&&◌, not, List, [], ◌∷◌, length}
-use Rattle.std.specs.Prelude.{take, drop, get_or, Option, Some, None, option_map, Result, Ok, nat_lt, nat_le, ◌==◌}
+use Rattle.std.specs.Prelude.{◌≡◌, take, drop, get_or, Option, Some, None, option_map, Result, Ok, nat_lt, nat_le, ◌==◌}
 use Rattle.std.specs.Prelude.{if◌then◌else◌}
 use Rattle.std.specs.Int.{from_le_bytes, w32}
 use Rattle.bson_tree.specs.Tree.{Tree, Items, leaf, node, no_items, item}
+use Rattle.bson_tree.specs.Spelling.{doc_bytes}
+use Rattle.bson_codec.specs.Bytes.{AreBytes}
 use Rattle.bson_codec.specs.declared.fault.BsonKind.TheVariants as kinds
 use Rattle.bson_codec.specs.declared.fault.BsonFault.{BsonFault}
 use Rattle.bson_codec.specs.declared.table.ValueLayout.{ValueLayout}
@@ -226,3 +228,7 @@ document bs = do
   _ ← fault_if (nat_lt n (length bs)) kinds.Extra n
   read ← front_document bs
   Ok read.0
+
+-- bytes spell the document, and it is read from them
+abbrev pub IsReadBack : Items → Type 0
+IsReadBack is = AreBytes (doc_bytes is) × (document (doc_bytes is) ≡ Ok is)

@@ -7,7 +7,7 @@ ghost use Rattle.bson_tree.specs.Spelling.{doc_bytes};
 ghost use Rattle.bson_tree.specs.Tree.{Items};
 ghost use Rattle.bson_codec.specs.Bytes.{AreBytes};
 ghost use Rattle.bson_codec.specs.Layout.{IsDoc};
-ghost use Rattle.bson_codec.specs.Reading.{document, front_document};
+ghost use Rattle.bson_codec.specs.Reading.{IsReadBack, document, front_document};
 
 /// Bytes are read without a fault exactly where they are the spelling of a document, and what is read is
 /// that document.
@@ -16,6 +16,11 @@ pub fn no_fault_where_spelled()
         ↔ (IsDoc is × (bytes ≡ doc_bytes is)) }
     ensures fault { (bytes : List ℕ) → AreBytes bytes → IsOk (document bytes)
         ↔ ((is : Items) × IsDoc is × (bytes ≡ doc_bytes is)) }
+{}
+
+/// A document is read back exactly where it has a spelling, and that is bytes.
+pub fn read_back_where_spelled()
+    ensures document { (is : Items) → IsReadBack is ↔ (IsDoc is × AreBytes (doc_bytes is)) }
 {}
 
 /// Bytes that begin with the spelling of a document are read as that document, with its length.

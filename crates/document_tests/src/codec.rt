@@ -2,3 +2,4 @@
 
 mod borrowed_tests;
 mod owned_tests;
+mod placing_tests;

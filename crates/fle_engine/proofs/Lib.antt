@@ -1,6 +1,3 @@
-pub mod Ways
-pub mod Descent
-pub mod Spots
 pub mod Rulings
 pub mod Starts
 pub mod Replied

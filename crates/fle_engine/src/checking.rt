@@ -10,9 +10,8 @@ ghost use Rattle.reply_check.specs.declared.wrong.WrongReply.{WrongReply as AnyW
 
 use crate::answer::Refused;
 use crate::marker::Marker;
-use crate::placing::place_at;
 use crate::starting::{Started, start};
-use bson_codec::RawDoc;
+use bson_codec::{RawDoc, place_at};
 use bson_tree::Place;
 use context_machine::NeedMarkings;
 use encrypt_schema::MarkFault;

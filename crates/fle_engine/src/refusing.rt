@@ -7,8 +7,7 @@ ghost use Rattle.fle_engine.specs.Rulings.{Ruling, StopsAs, Tells, refused};
 ghost use Rattle.fle_outside.specs.Seen.{EntropySeen};
 
 use crate::answer::{Answer, Refused};
-use crate::placing::place_at;
-use bson_codec::RawDoc;
+use bson_codec::{RawDoc, place_at};
 use context_machine::{KeysStop, ReplyStop};
 use encrypt_schema::{MarkFault, Reason};
 use fle_outside::Memory;

@@ -23,6 +23,5 @@ mod program;
 mod rewrap;
 mod show;
 
-pub use fle_engine::place_at;
 pub use help::{HELP, VERSION, tell};
 pub use program::fle;

@@ -44,8 +44,6 @@ mod pair_samples;
 #[cfg(test)]
 mod pair_tests;
 #[cfg(test)]
-mod placing_tests;
-#[cfg(test)]
 mod pointer_refusal_tests;
 #[cfg(test)]
 mod pointer_samples;

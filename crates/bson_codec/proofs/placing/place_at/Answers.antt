@@ -2,9 +2,9 @@
 use Rattle.std.proofs.Common.{◌≡◌, ◌+◌, [], ◌∷◌, ◌++◌, sym, ◌∙◌, arith}
 use Rattle.std.proofs.lemmas.Grind.{common_steps}
 use Rattle.bson_tree.specs.Places.{place_of}
-use Rattle.fle_engine.proofs.Spots.{place_is, ends_nowhere, ends_here, ends_in_leaf, goes_on, is_smaller}
-use Rattle.fle_engine.proofs.placing.place_at.Goals as goal
-use Rattle.fle_engine.proofs.placing.place_at.Goals.{in-Some+else-is_err+else-start-at+in-None, in_default}
+use Rattle.bson_codec.proofs.Turns.{place_is, ends_nowhere, ends_here, ends_in_leaf, goes_on, is_smaller}
+use Rattle.bson_codec.proofs.placing.place_at.Goals as goal
+use Rattle.bson_codec.proofs.placing.place_at.Goals.{in-Some+else-is_err+else-start-at+in-None, in_default}
 
 pub loop-number-init : goal.loop-number-init
 loop-number-init c =

@@ -3,7 +3,7 @@
 ghost use Rattle.std.specs.Prelude.{◌≡◌, IfOk};
 ghost use Rattle.bson_tree.specs.Places.{place_of};
 
-use bson_codec::RawDoc;
+use crate::borrowed::RawDoc;
 use bson_tree::Place;
 use fle_outside::Memory;
 use std::alloc::Global;

@@ -11,7 +11,7 @@ use Rattle.bson_tree.proofs.Sizes.{framed_size}
 use Rattle.bson_codec.proofs.Offsets.{within_from}
 use Rattle.bson_codec.proofs.Spots.{same}
 use Rattle.bson_codec.specs.Borrowed.{has_inside, holds}
-use Rattle.fle_engine.proofs.Ways.{spot_in, spot_from}
+use Rattle.bson_codec.proofs.Ways.{spot_in, spot_from}
 
 -- ---- choices
 

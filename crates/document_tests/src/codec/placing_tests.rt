@@ -1,5 +1,4 @@
-use bson_codec::check_bson;
-use fle_runner::place_at;
+use bson_codec::{check_bson, place_at};
 use std::alloc::Global;
 use std::process::Abort;
 

@@ -9,8 +9,8 @@ use Rattle.bson_tree.specs.Places.{start_of, place_of}
 use Rattle.bson_codec.specs.Borrowed.{Elem}
 use Rattle.bson_codec.proofs.Spots.{same, place_begun, place_none}
 use Rattle.bson_codec.specs.Borrowed.{holds, holding}
-use Rattle.fle_engine.proofs.Ways.{spot_in, spot_from, below}
-use Rattle.fle_engine.proofs.Descent.{if_true, if_false, found_from, begins_from}
+use Rattle.bson_codec.proofs.Ways.{spot_in, spot_from, below}
+use Rattle.bson_codec.proofs.Descent.{if_true, if_false, found_from, begins_from}
 
 -- ---- the way down leads to the place
 
