@@ -114,12 +114,12 @@ acts_behind t {files = files} {out = out} {entropy = entropy} {end = end} leads 
       folder_cause = λ at. absurd (unfailed at);
       folder_sure = λ _. unfailed;
       out_cause = run.out_cause;
-      out_sure = λ all told shown is enough.
-          run.out_sure all told tt is
+      out_sure = λ all told shown over enough.
+          run.out_sure all told tt (λ reads. over (ap reads_input (leads all shown) ∙ reads))
           (subst (λ (u : Task). size_of (outcome_of u told).outputs ≤ out.assured) (leads all shown) enough);
       entropy_cause = run.entropy_cause;
-      entropy_sure = λ all told shown is enough.
-          run.entropy_sure all told tt is
+      entropy_sure = λ all told shown over enough.
+          run.entropy_sure all told tt (λ reads. over (ap reads_input (leads all shown) ∙ reads))
           (subst (λ (u : Task). draws_of (outcome_of u told).outputs ≤ entropy.assured) (leads all shown) enough);
     }
 

@@ -32,6 +32,10 @@ AreTold files all = files.told ≡ Some all
 abbrev pub AreAny : FolderSeen → Files → Type 0
 AreAny files all = Unit {0}
 
+-- the bytes that a task goes over: those that the input tells, where it reads the input; any at all, where it reads none
+abbrev pub GoesOver : Task → SourceSeen → List ℕ → Type 0
+GoesOver t input told = reads_input t ≡ true → input.told ≡ Some told
+
 -- how a task ends: one that fails ends so, one that makes an output is done, or its output or its blocks failed, and no
 -- end is of words or files where documents are judged; a folder's failure may come first, and memory may run out
 abbrev pub EndsAs : Task → Why → Type 0
@@ -65,9 +69,9 @@ pub record Acted (shows : FolderSeen → Files → Type 0) (task : Files → Tas
   pub folder_cause : end.why ≡ whys.Cut cuts.Folder → Rose before.files.faults after.files.faults
   pub folder_sure : before.files.assured ≡ true → end.why ≡ whys.Cut cuts.Folder → ⊥
   pub out_cause : end.why ≡ whys.Cut cuts.Output → Rose before.out.faults after.out.faults
-  pub out_sure : (all : Files) (told : List ℕ) → shows before.files all → before.input.told ≡ Some told
+  pub out_sure : (all : Files) (told : List ℕ) → shows before.files all → GoesOver (task all) before.input told
       → size_of (outcome_of (task all) told).outputs ≤ before.out.assured → end.why ≡ whys.Cut cuts.Output → ⊥
   pub entropy_cause : end.why ≡ whys.Cut cuts.Entropy → Rose before.entropy.faults after.entropy.faults
-  pub entropy_sure : (all : Files) (told : List ℕ) → shows before.files all → before.input.told ≡ Some told
+  pub entropy_sure : (all : Files) (told : List ℕ) → shows before.files all → GoesOver (task all) before.input told
       → draws_of (outcome_of (task all) told).outputs ≤ before.entropy.assured
       → end.why ≡ whys.Cut cuts.Entropy → ⊥

@@ -6,7 +6,7 @@ use Rattle.fle_outside.specs.Files.{Files}
 use Rattle.fle_outside.specs.Seen.{Draws, EntropySeen, FolderSeen, Gains, SinkSeen, SourceSeen}
 use Rattle.fle_outside.specs.Writing.{WritesWhole}
 use Rattle.fle_outside.specs.declared.answers.Failed.{Failed}
-use Rattle.fle_stream.specs.Acted.{Acted, Objects, objects}
+use Rattle.fle_stream.specs.Acted.{Acted, GoesOver, Objects, objects}
 use Rattle.fle_stream.specs.Codes.{status_of, status_of_finish}
 use Rattle.fle_stream.specs.Line.{line_of}
 use Rattle.fle_stream.specs.Outcome.{Outcome}
@@ -87,16 +87,17 @@ WritesAll task before after status =
     (all : Files) (told : List ℕ) → before.files.told ≡ Some all → before.input.told ≡ Some told
     → IsSettled status → Whole (outcome_of (task all) told) before.entropy after.entropy before.out after.out
 
--- a sink that is assured of all bytes that are to be written doesn't fail
+-- a sink that is assured of all bytes that are to be written doesn't fail; the input need not tell what it holds where
+-- the task reads none
 abbrev pub WritesSurely : (Files → Task) → World → Status → Type 0
 WritesSurely task before status =
-    (all : Files) (told : List ℕ) → before.files.told ≡ Some all → before.input.told ≡ Some told
+    (all : Files) (told : List ℕ) → before.files.told ≡ Some all → GoesOver (task all) before.input told
     → size_of (outcome_of (task all) told).outputs ≤ before.out.assured → status ≡ statuses.WriteFault → ⊥
 
 -- nor does a source of blocks that is assured of all that are to be drawn
 abbrev pub DrawsSurely : (Files → Task) → World → Status → Type 0
 DrawsSurely task before status =
-    (all : Files) (told : List ℕ) → before.files.told ≡ Some all → before.input.told ≡ Some told
+    (all : Files) (told : List ℕ) → before.files.told ≡ Some all → GoesOver (task all) before.input told
     → draws_of (outcome_of (task all) told).outputs ≤ before.entropy.assured → status ≡ statuses.EntropyFault → ⊥
 
 -- words or a file are at fault, so the input isn't read and nothing is written

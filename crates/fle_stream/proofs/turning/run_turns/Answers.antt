@@ -73,13 +73,13 @@ returns-in-Ended-clause-run g c = λ files.
       folder_cause = λ at. absurd (folder_no _ ends.kind at);
       folder_sure = λ _ at. folder_no _ ends.kind at;
       out_cause = λ at. omega (arith, before.out_later, ends.out_cause at);
-      out_sure = λ all told _ is enough at.
-          let going = before.going told is in
+      out_sure = λ all told _ over enough at.
+          let going = before.going told (over c.requires.reads) in
           let sure = rw before.same at (ends.out_sure (drop c.loop-bytes.taken told) going.here) in
           sure (room_left going (course_bytes task told enough)) at;
       entropy_cause = λ at. omega (arith, before.entropy_later, ends.entropy_cause at);
-      entropy_sure = λ all told _ is enough at.
-          let going = before.going told is in
+      entropy_sure = λ all told _ over enough at.
+          let going = before.going told (over c.requires.reads) in
           let sure = rw before.same at (ends.entropy_sure (drop c.loop-bytes.taken told) going.here) in
           sure (supply_left going (course_blocks task told enough)) at;
     }
