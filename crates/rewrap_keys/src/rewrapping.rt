@@ -9,7 +9,7 @@ ghost use Rattle.rewrap_keys.specs.Reloaded.{Reloads};
 ghost use Rattle.rewrap_keys.specs.Rewrapped.{change, draws_of};
 
 use crate::document::Masters;
-use crate::passes::{find_damaged, rewrap_all};
+use crate::passes::{Unopened, open_keys, rewrap_all};
 use crypto_hooks::Block256;
 use fle_outside::{Entropy, Failed};
 use key_vault::Vault;
@@ -26,7 +26,7 @@ pub enum RewrapFault {
     },
     /// A draw failed. Fewer blocks were drawn than there are local keys.
     EntropyFailed,
-    /// There was no memory for the file. No block was drawn.
+    /// There was no memory for the data keys or for the file. No block was drawn.
     Memory,
 }
 
@@ -35,7 +35,8 @@ pub enum RewrapFault {
 /// its data key sealed anew with the next random block as IV, and the date of its last change is
 /// that time. All else stays, and so do all lengths.
 ///
-/// First each local key is opened, then the new file is allocated, then a block is drawn for each local key.
+/// First each local key is opened, and its 96 bytes are kept; then the new file is allocated; then a block is drawn for
+/// each local key.
 pub fn rewrap_vault<B: Block256, N: Entropy>(
     alloc: Global,
     keys: &[u8],
@@ -57,19 +58,28 @@ pub fn rewrap_vault<B: Block256, N: Entropy>(
     ensures unopened { (document : ℕ) → result ≡ Err (RewrapFault.Damaged document) → entropy.new ≡ entropy.old }
     ensures sure { draws_of vault.now ≤ (N.seen entropy.old).assured → result ≢ Err RewrapFault.EntropyFailed }
 {
-    match find_damaged(hooks, from_master, vault.keys()) {
-        Some(document) => return Err(RewrapFault::Damaged { document }),
-        None => {}
-    }
-    let Ok(mut out) = vec![in alloc; 0; keys.len()] else {
-        return Err(RewrapFault::Memory);
-    };
     let masters = Masters {
         from: from_master,
         to: to_master,
         time: now_ms.cast_unsigned(),
     };
-    match rewrap_all(hooks, &masters, keys, vault.keys(), &mut out, entropy) {
+    let opened = match open_keys(alloc, hooks, masters.from, vault.keys()) {
+        Ok(opened) => opened,
+        Err(Unopened::Damaged(document)) => return Err(RewrapFault::Damaged { document }),
+        Err(Unopened::Memory) => return Err(RewrapFault::Memory),
+    };
+    let Ok(mut out) = vec![in alloc; 0; keys.len()] else {
+        return Err(RewrapFault::Memory);
+    };
+    match rewrap_all(
+        hooks,
+        &masters,
+        keys,
+        vault.keys(),
+        &opened,
+        &mut out,
+        entropy,
+    ) {
         Ok(()) => Ok(out),
         Err(Failed) => Err(RewrapFault::EntropyFailed),
     }
