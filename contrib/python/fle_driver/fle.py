@@ -7,6 +7,7 @@ from types import TracebackType
 from typing import Optional, Type, Union
 
 from .errors import NotStarted
+from .files import read_all
 from .kept import Kept
 from .library import Engine, Part, loaded
 from .process import Bytes
@@ -21,23 +22,23 @@ class Fle:
     """The library libfle, where the system finds it and no program is named; else two kept processes: `fle encrypt db
     keys schemas master` and `fle decrypt keys master`.
 
-    The library reads the files here, once. Both processes begin here, so that a fault of a file is raised here. One that ended, by a refusal or otherwise, begins anew at
-    the next call, and reads its files again; one that goes on doesn't: make another `Fle` where a file has changed.
+    The files are read here, once, and a fault of one is raised here: both processes begin here. One that ended, by a
+    refusal or otherwise, begins anew at the next call, over what was read here: make another `Fle` where a file has
+    changed.
     """
 
     def __init__(self, db: str, keys: File, schemas: File, master: File, program: Optional[File] = None) -> None:
-        files = [os.path.abspath(path) for path in (keys, schemas, master)]
         self.db = db
         calls = loaded() if program is None else None
+        fle = found(program or "fle") if calls is None else ""
+        paths = [os.path.abspath(path) for path in (keys, schemas, master)]
+        contents = read_all(paths)
         if calls is not None:
-            engine = Engine(calls, db, files)
+            engine = Engine(calls, db, paths, contents)
             self._sealing: Union[Kept, Part] = Part(engine, True)
             self._opening: Union[Kept, Part] = Part(engine, False)
             return
-        found = shutil.which(program or "fle")
-        if found is None:
-            raise NotStarted(f"there is no program {os.fspath(program or 'fle')} in PATH")
-        fle = os.path.abspath(found)
+        files = list(zip(paths, contents))
         self._sealing = Kept([fle, "encrypt", db], files)
         self._opening = Kept([fle, "decrypt"], [files[0], files[2]])
         try:
@@ -66,3 +67,11 @@ class Fle:
     def __exit__(self, kind: Optional[Type[BaseException]], error: Optional[BaseException],
                  trace: Optional[TracebackType]) -> None:
         self.close()
+
+
+def found(program: File) -> str:
+    """The path of a program, by its name in PATH."""
+    path = shutil.which(program)
+    if path is None:
+        raise NotStarted(f"there is no program {os.fspath(program)} in PATH")
+    return os.path.abspath(path)

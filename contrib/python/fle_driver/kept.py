@@ -4,7 +4,7 @@ from __future__ import annotations
 import os
 import threading
 import weakref
-from typing import Optional, Sequence
+from typing import Optional, Sequence, Tuple
 
 from .errors import Closed, ended
 from .process import Bytes, Process
@@ -19,14 +19,16 @@ def want_whole(document: Bytes) -> None:
 
 
 class Kept:
-    """One process at a time, with these words and files: begun at the first call, and anew after it ended.
+    """One process at a time, with these words, and files by their paths and contents: begun at the first call, and anew
+    after it ended, over the same contents.
 
     A call leaves nothing in the pipes: one that doesn't come to an answer ends its process. Safe for threads, which
     wait for one another, and for forks: a child begins a process of its own.
     """
 
-    def __init__(self, words: Sequence[str], files: Sequence[str]) -> None:
-        self._words, self._files = [*words, *files], files
+    def __init__(self, words: Sequence[str], files: Sequence[Tuple[str, bytes]]) -> None:
+        self._words = words
+        self._paths, self._contents = [path for path, _ in files], [content for _, content in files]
         self._lock, self._closed = threading.Lock(), False
         self._process: Optional[Process] = None
         self._answered = self._taken = 0
@@ -42,7 +44,7 @@ class Kept:
             try:
                 answer = process.answer(document)
                 if answer is None:
-                    raise ended(*process.end(), bytes(document), self._answered, self._files)
+                    raise ended(*process.end(), bytes(document), self._answered, self._paths)
                 self._answered += 1
                 self._taken += len(document)
             except BaseException:  # KeyboardInterrupt too: no later call may read the answer to this document
@@ -53,14 +55,14 @@ class Kept:
     def close(self) -> None:
         """Ends the process, once a call that is at work has ended."""
         with self._lock:
-            self._closed = True
+            self._closed, self._contents = True, []
             self._stop()
 
     def _running(self) -> Process:
         if self._process is not None and (self._taken >= STREAM or self._process.has_ended()):
             self._stop()
         if self._process is None:
-            self._process, self._answered, self._taken = Process(self._words), 0, 0
+            self._process, self._answered, self._taken = Process(self._words, self._contents), 0, 0
         return self._process
 
     def _stop(self) -> None:

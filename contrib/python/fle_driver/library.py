@@ -55,20 +55,6 @@ def loaded() -> Optional[ctypes.CDLL]:
     return calls
 
 
-def read_all(files: Sequence[str]) -> List[bytes]:
-    """What the files hold; raises what `fle` ends with where one can't be read."""
-    contents = []
-    for number, path in enumerate(files, 1):
-        try:
-            with open(path, "rb") as file:
-                contents.append(file.read())
-        except FileNotFoundError as missing:
-            raise ended(4, f"fle: 4 {number} 1 0\n", b"", 0, files) from missing
-        except OSError as failed:
-            raise ended(5, "fle: 5 0 0 -\n", b"", 0, files) from failed
-    return contents
-
-
 class Opened:
     """A slot with its engine, of one thread; freed where the thread ends, or the last that names it."""
 
@@ -93,9 +79,9 @@ class Opened:
 class Engine:
     """Engines of one database and one set of files: one in each thread that calls, since a slot stays on its thread."""
 
-    def __init__(self, calls: ctypes.CDLL, db: str, files: Sequence[str]) -> None:
+    def __init__(self, calls: ctypes.CDLL, db: str, files: Sequence[str], contents: Sequence[bytes]) -> None:
         self._calls, self._files, self._own = calls, list(files), threading.local()
-        self._arguments, self._closed = [db.encode(), *read_all(files)], False
+        self._arguments, self._closed = [db.encode(), *contents], False
         self._opened()
 
     def _opened(self) -> Opened:

@@ -7,6 +7,7 @@ import subprocess
 from typing import Optional, Sequence, Tuple, Union
 
 from .errors import FleError, NotStarted
+from .files import handed, name_of
 
 Bytes = Union[bytes, bytearray, memoryview]
 
@@ -15,12 +16,15 @@ LONGEST = 48_000_000  # bytes of an answer, at most
 
 
 class Process:
-    """A process that answers each document before it takes the next."""
+    """A process that answers each document before it takes the next. Its words end with the names of files that hold
+    these contents."""
 
-    def __init__(self, words: Sequence[str]) -> None:
+    def __init__(self, words: Sequence[str], contents: Sequence[bytes]) -> None:
         pipe = subprocess.PIPE
         try:
-            self._child = subprocess.Popen(words, bufsize=0, stdin=pipe, stdout=pipe, stderr=pipe)
+            with handed(contents) as files:  # it has descriptors of its own once it has begun
+                self._child = subprocess.Popen([*words, *map(name_of, files)], bufsize=0, stdin=pipe, stdout=pipe,
+                                               stderr=pipe, pass_fds=files)
         except OSError as error:
             raise NotStarted(f"{words[0]} doesn't start: {error.strerror}") from error
         assert self._child.stdin and self._child.stdout and self._child.stderr

@@ -1,8 +1,12 @@
 """Two kept processes, bytes to bytes: what they answer, and what becomes of calls that come to no answer."""
+import contextlib
+import itertools
 import os
 import shutil
 import signal
 import stat
+import subprocess
+import sys
 import tempfile
 import unittest
 from concurrent.futures import ThreadPoolExecutor
@@ -10,14 +14,22 @@ from pathlib import Path
 from unittest import mock
 
 from fle_driver import (Closed, Ended, FaultyFile, FileFault, Fle, FleError, InputFault, KeyFault, Limit, MasterFault,
-                        NotStarted, Reason, Refused)
+                        NotStarted, Reason, Refused, Status)
 from fle_driver.kept import Kept
 
 from .samples import EXAMPLES, FILES, KEYS, MASTER, PERSON, SCHEMAS, binary, element, insert, sealed, spelled, string
 
 COMMAND, OTHER = insert(PERSON), insert(spelled(string("ssn", "987-65-4321")))
 REFUSED = insert(spelled(element(10, "ssn", b"")))
+SHORT = spelled(binary("a payload that is too short", 6, b"\1"))
 LARGE = 16_000_000
+PACKAGE = Path(__file__).parents[1]
+NO_STANDARD = """
+import os, sys
+from fle_driver import Fle
+with Fle(*sys.argv[1:], program="fle") as fle:
+    os._exit(0 if fle.decrypt(b"\\5\\0\\0\\0\\0") == b"\\5\\0\\0\\0\\0" else 1)
+"""
 
 
 def setUpModule():
@@ -88,6 +100,40 @@ class Answers(WithFle):
             answers = list(threads.map(self.fle.encrypt, commands))
             self.assertEqual(list(threads.map(self.fle.decrypt, answers)), commands)
         self.assertEqual(answers[::16], list(map(sealed, commands[::16])))
+
+
+class Descriptors(WithFle):
+    """What a process has open, and who else has."""
+
+    def open_in(self, process):
+        found = {}
+        for name in os.listdir(f"/proc/{process}/fd"):
+            with contextlib.suppress(FileNotFoundError):  # what lists them is no longer open
+                found[int(name)] = os.readlink(f"/proc/{process}/fd/{name}")
+        return found
+
+    def test_a_process_has_its_pipes_and_what_it_was_handed(self):
+        for kept, count in ((self.fle._sealing, 3), (self.fle._opening, 2)):
+            found = self.open_in(child_of(kept).pid)  # it has answered
+            handed = {number for number, name in found.items() if name.startswith("/memfd:fle")}
+            self.assertEqual((set(found) - handed, len(handed)), ({0, 1, 2}, count))
+
+    def test_what_a_process_was_handed_is_open_there_alone(self):
+        held = [name for name in self.open_in(os.getpid()).values() if name.startswith("/memfd:fle")]
+        self.assertEqual(held, [])
+
+    def test_what_a_process_was_handed_stays_as_it_was(self):
+        process = child_of(self.fle._opening).pid
+        for number, name in self.open_in(process).items():
+            if name.startswith("/memfd:fle"):
+                with open(f"/proc/{process}/fd/{number}", "r+b", buffering=0) as file, self.assertRaises(OSError):
+                    file.write(b"x")
+
+    def test_a_caller_that_has_no_standard_files(self):
+        words = [sys.executable, "-c", NO_STANDARD, *map(str, FILES)]
+        script = 'exec "$@" <&- >&- 2>&-'
+        run = subprocess.run(["sh", "-c", script, "sh", *words], cwd=PACKAGE, timeout=60, check=False)
+        self.assertEqual(run.returncode, 0)
 
 
 class Interrupted(WithFle):
@@ -181,17 +227,42 @@ class Beginnings(unittest.TestCase):
             self.assertEqual((faulty.exception.file, faulty.exception.reason), (str(file), reason))
 
     @unittest.skipUnless(shutil.which("fle"), "no fle in PATH")
-    def test_a_file_that_goes_away(self):
-        keys = self.written("keys.bson", KEYS.read_bytes())
-        with Fle("hr", keys, SCHEMAS, MASTER) as fle:
-            keys.unlink()
-            self.assertEqual(fle.encrypt(OTHER), sealed(OTHER))
-            with self.assertRaises(Refused):
-                fle.encrypt(REFUSED)
-            with self.assertRaises(FaultyFile):
-                fle.encrypt(OTHER)
-            self.written("keys.bson", KEYS.read_bytes())
-            self.assertEqual(fle.encrypt(OTHER), sealed(OTHER))
+    def test_files_that_change_behind_the_first_reading(self):
+        copies = [self.written(file.name, file.read_bytes()) for file in (KEYS, SCHEMAS, MASTER)]
+        changes = (lambda copy: copy.write_bytes(b""), lambda copy: copy.write_bytes(copy.read_bytes()[:9]),
+                   Path.unlink)
+        with Fle("hr", *copies) as fle:
+            for copy, change in itertools.product(copies, changes):
+                before = copy.read_bytes()
+                change(copy)
+                for call, refused in ((fle.encrypt, REFUSED), (fle.decrypt, SHORT)):
+                    with self.assertRaises(Refused):  # behind a refusal another process begins
+                        call(refused)
+                self.assertEqual(fle.encrypt(OTHER), sealed(OTHER))
+                self.assertEqual(fle.decrypt(sealed(OTHER)), OTHER)
+                copy.write_bytes(before)
+
+    @unittest.skipUnless(shutil.which("fle"), "no fle in PATH")
+    def test_files_that_are_no_plain_files(self):
+        pipes = []
+        for file in (KEYS, SCHEMAS, MASTER):
+            source, sink = os.pipe()
+            self.addCleanup(os.close, source)
+            os.write(sink, file.read_bytes())
+            os.close(sink)
+            pipes.append(f"/dev/fd/{source}")
+        with Fle("hr", *pipes) as fle:
+            self.assertEqual(fle.decrypt(fle.encrypt(OTHER)), OTHER)
+        with self.assertRaises(Ended) as ended:
+            Fle("hr", KEYS, self.folder, MASTER)
+        self.assertEqual(ended.exception.status, Status.ReadFault)
+        self.assertIn(str(self.folder), str(ended.exception))
+
+    @unittest.skipUnless(shutil.which("fle"), "no fle in PATH")
+    def test_a_file_that_is_too_long(self):
+        with self.assertRaises(FaultyFile) as faulty:
+            Fle("hr", "/dev/zero", SCHEMAS, MASTER)
+        self.assertEqual((faulty.exception.file, faulty.exception.reason), ("/dev/zero", FileFault.TooLong))
 
     @unittest.skipUnless(shutil.which("fle"), "no fle in PATH")
     def test_a_database_that_is_no_word(self):
