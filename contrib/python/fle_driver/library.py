@@ -5,7 +5,7 @@ import ctypes
 import enum
 import os
 import threading
-from typing import Any, List, Optional, Sequence
+from typing import Any, List, Optional, Sequence, Tuple
 
 from .errors import Closed, Ended, ended
 from .faults import Status
@@ -43,15 +43,23 @@ class Need(ctypes.Structure):
     _fields_ = [("room", ctypes.c_size_t), ("random", ctypes.c_size_t)]
 
 
+SLOT = ctypes.POINTER(Slot)
+BYTES = ctypes.c_char_p, ctypes.c_size_t
+# What each call answers, and what it takes: with an argument too few it isn't called.
+FORMS = {"fle_open": (Answer, (SLOT, *BYTES * 4)), "fle_seal": (Answer, (SLOT, *BYTES * 3)),
+         "fle_unseal": (Answer, (SLOT, *BYTES * 2)), "fle_close": (None, (SLOT,)),
+         "fle_needed": (Need, (ctypes.c_size_t,))}
+
+
 def loaded() -> Optional[ctypes.CDLL]:
     """The library, where the system finds it."""
     try:
         calls = ctypes.CDLL(FOUND)
     except OSError:
         return None
-    calls.fle_open.restype = calls.fle_seal.restype = calls.fle_unseal.restype = Answer
-    calls.fle_needed.restype = Need
-    calls.fle_close.restype = None
+    for name, (answer, arguments) in FORMS.items():
+        call = getattr(calls, name)
+        call.restype, call.argtypes = answer, arguments
     return calls
 
 
@@ -66,9 +74,9 @@ class Opened:
         """What a call answers at this slot."""
         words: List[object] = [ctypes.byref(self.slot)]
         for argument in arguments:
-            words += [argument, ctypes.c_size_t(len(argument))]
+            words += [argument, len(argument)]
         if out is not None:
-            words += [out, ctypes.c_size_t(len(out))]
+            words += [out, len(out)]
         answer: Answer = call(*words)
         return answer
 
@@ -81,17 +89,18 @@ class Engine:
 
     def __init__(self, calls: ctypes.CDLL, db: str, files: Sequence[str], contents: Sequence[bytes]) -> None:
         self._calls, self._files, self._own = calls, list(files), threading.local()
-        self._arguments, self._closed = [db.encode(), *contents], False
+        self._arguments: Optional[Tuple[bytes, ...]] = (db.encode(), *contents)
         self._opened()
 
     def _opened(self) -> Opened:
         """The engine of this thread."""
-        if self._closed:
+        arguments = self._arguments  # read once: a `close` beside this call takes them away, all or none
+        if arguments is None:
             self._own.__dict__.clear()
             raise Closed("fle was closed")
         opened: Optional[Opened] = self._own.__dict__.get("opened")
         if opened is None:
-            opened = Opened(self._calls, self._arguments)
+            opened = Opened(self._calls, arguments)
             if opened.answer.status:
                 raise self._end(opened.answer, b"")
             self._own.opened = opened
@@ -100,7 +109,7 @@ class Engine:
     def seal(self, command: Bytes) -> bytes:
         """A command, sealed with random bytes of the system; with more of them where it draws more than a few."""
         whole = bytes(command)
-        need = self._calls.fle_needed(ctypes.c_size_t(len(whole)))
+        need = self._calls.fle_needed(len(whole))
         answer = self._answer(self._calls.fle_seal, [whole, os.urandom(min(FEW, need.random))], whole)
         if answer is None:
             answer = self._answer(self._calls.fle_seal, [whole, os.urandom(need.random)], whole, True)
@@ -141,7 +150,7 @@ class Engine:
 
     def close(self) -> None:
         """Frees the engine of this thread; those of others are freed where their threads end, or call again."""
-        self._closed, self._arguments = True, []
+        self._arguments = None
         self._own.__dict__.clear()
 
 

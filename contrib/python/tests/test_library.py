@@ -1,13 +1,17 @@
 """The library in place of processes: the same answers, and the same exceptions."""
+import ctypes
 import os
 import shutil
+import sys
 import tempfile
+import threading
 import unittest
 from concurrent.futures import ThreadPoolExecutor
 from pathlib import Path
+from unittest import mock
 
 from fle_driver import Closed, FaultyFile, FileFault, Fle, InputFault, Limit, Reason, Refused
-from fle_driver.library import Part, loaded
+from fle_driver.library import FORMS, FOUND, Answer, Need, Part, loaded
 from fle_driver.walk import place_at
 
 from .samples import FILES, KEYS, MASTER, PERSON, SCHEMAS, binary, element, insert, integer, spelled, string
@@ -15,6 +19,14 @@ from .samples import FILES, KEYS, MASTER, PERSON, SCHEMAS, binary, element, inse
 COMMAND, OTHER = insert(PERSON), insert(spelled(string("ssn", "987-65-4321")))
 REFUSED = insert(spelled(element(10, "ssn", b"")))
 LARGE = 16_000_000
+
+
+def setUpModule():
+    """Where FLE_LIBRARY_WANTED is 1, the library and the program are there: else this fails, in place of a skip."""
+    if os.environ.get("FLE_LIBRARY_WANTED") == "1":
+        ctypes.CDLL(FOUND)
+        if shutil.which("fle") is None:
+            raise FileNotFoundError("no fle in PATH")
 
 
 @unittest.skipUnless(loaded() and shutil.which("fle"), "no libfle.so that the system finds, or no fle in PATH")
@@ -44,7 +56,8 @@ class WithBoth(unittest.TestCase):
             self.assertEqual(self.library.decrypt(sealed), command)
 
     def test_random_values_open_again(self):
-        many = [insert(*(spelled(string("salary", str(number))) for number in range(count))) for count in (1, 16, 17, 300)]
+        many = [insert(*(spelled(string("salary", str(number))) for number in range(count)))
+                for count in (1, 16, 17, 300)]
         for command in many:
             sealed = self.library.encrypt(command)
             self.assertNotEqual(sealed, self.library.encrypt(command))
@@ -107,6 +120,83 @@ class Files(unittest.TestCase):
             self.assertEqual(self.told(schemas=missing), (str(missing), FileFault.Missing, (0,)))
             self.assertEqual(self.told(keys=MASTER)[0], str(MASTER))
             self.assertEqual(self.told(master=none)[0], str(none))
+
+
+class Calls:
+    """A library that takes each call with all its arguments, and answers nothing."""
+
+    def __getattr__(self, name):
+        answer, arguments = FORMS[name]
+
+        def call(*words):
+            if len(words) != len(arguments):
+                raise AssertionError(f"{name} called with {len(words)} of {len(arguments)} arguments")
+            return Need(64, 64) if answer is Need else Answer()
+        return call
+
+
+class Stopped:
+    """Stops the thread that traces by it at one line of library.py, the nth that it comes to; there something is done
+    by another thread."""
+
+    def __init__(self, number, something):
+        self.left, self.something = number, something
+
+    def __call__(self, frame, event, _):
+        if os.path.basename(frame.f_code.co_filename) != "library.py":
+            return None
+        self.left -= event == "line"
+        if event == "line" and self.left == 0:
+            other = threading.Thread(target=self.something)
+            other.start()
+            other.join()
+        return self
+
+
+class ClosedBesideACall(unittest.TestCase):
+    def first_call(self, fle, number):
+        """A thread's first call, with `close` called by another thread at a line of it; whether it came so far, and
+        what it raised."""
+        stopped, raised = Stopped(number, fle.close), []
+
+        def call():
+            sys.settrace(stopped)
+            try:
+                fle.encrypt(spelled())
+            except BaseException as error:
+                raised.append(error)
+            finally:
+                sys.settrace(None)
+
+        thread = threading.Thread(target=call)
+        thread.start()
+        thread.join()
+        return stopped.left <= 0, raised
+
+    def closed_at_each_line(self, made):
+        """At each line the call either answers or raises `Closed`, and both are seen."""
+        number, seen, comes = 0, set(), True
+        while comes:
+            number += 1
+            comes, raised = self.first_call(made(), number)
+            self.assertLessEqual({type(error) for error in raised}, {Closed}, raised)
+            seen.add(bool(raised))
+        self.assertEqual(seen, {False, True})
+
+    def test_a_call_has_all_its_arguments(self):
+        with mock.patch("fle_driver.fle.loaded", return_value=Calls()):
+            self.closed_at_each_line(lambda: Fle(*FILES))
+
+    @unittest.skipUnless(loaded(), "no libfle.so that the system finds")
+    def test_a_call_of_the_library(self):
+        self.closed_at_each_line(lambda: Fle(*FILES))
+
+    @unittest.skipUnless(loaded(), "no libfle.so that the system finds")
+    def test_a_call_with_arguments_missing(self):
+        calls = loaded()
+        for name, (_, arguments) in FORMS.items():
+            with self.subTest(name), self.assertRaises(TypeError):
+                getattr(calls, name)(*[None] * (len(arguments) - 1))
 
 
 class Places(unittest.TestCase):
