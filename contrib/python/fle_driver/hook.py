@@ -1,18 +1,17 @@
 """A whole pymongo client, by the hook of pymongo's own automatic encryption."""
 from __future__ import annotations
 
-from typing import Any, Mapping, MutableMapping, NoReturn
+from typing import Any, Mapping, NoReturn
 
 import bson
 import pymongo
-from bson.raw_bson import RawBSONDocument
-from bson.son import SON
 
 from .errors import Unsupported
 from .fle import Fle
-from .walk import ARRAY, Element, elements
+from .sent import Sent
 
 TRIED = "pymongo 3.11"
+TIME = "$clusterTime"  # the server's own; as in pymongo's own encryption it isn't judged: a check of names refuses it
 
 
 class Hook:
@@ -25,17 +24,19 @@ class Hook:
 
     def encrypt(self, database: str, command: Mapping[str, Any], *options: Any) -> Mapping[str, Any]:
         """The command as it is sent. pymongo 3 hands in whether names are checked, and then, as pymongo 4 does, the
-        codec options."""
-        # As pymongo's own: the server's time has names that a check of names refuses.
-        judged = {name: value for name, value in command.items() if name != "$clusterTime"}
+        codec options.
+
+        It is encoded here, once: what is sent is what was judged, since its values may have changed when they are
+        encoded again, by another thread or by a codec's own code."""
+        judged = {name: value for name, value in command.items() if name != TIME}
         plain = bson.encode(judged, *options[:-1], codec_options=options[-1])
-        if database != self._fle.db:
+        if database == self._fle.db:
+            plain = self._fle.encrypt(plain)
+        else:
             return command
-        sealed = self._fle.encrypt(plain)
-        sent: MutableMapping[str, Any] = SON(command)  # a copy: a retry hands in the same command again
-        if sealed != plain:
-            changed = (new for old, new in zip(elements(plain), elements(sealed)) if old != new)
-            sent.update((element.name, raw(element)) for element in changed)
+        sent = Sent(plain, options[-1])
+        if TIME in command:
+            sent[TIME] = command[TIME]
         return sent
 
     def decrypt(self, response: bytes) -> bytes:
@@ -45,12 +46,6 @@ class Hook:
     def close(self) -> None:
         """What the client's own `close` calls."""
         self._fle.close()
-
-
-def raw(element: Element) -> Any:
-    """A document, or the documents of an array, that pymongo sends as these bytes; only such hold sealed values."""
-    document = RawBSONDocument(element.value)
-    return list(document.values()) if element.tag == ARRAY else document
 
 
 def enable(client: pymongo.MongoClient, fle: Fle) -> None:

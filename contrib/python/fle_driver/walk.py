@@ -1,12 +1,12 @@
 """A walk over the elements of a BSON document, as far as names and places need it."""
 from __future__ import annotations
 
-from typing import Iterator, List, NamedTuple, Sequence, Tuple
+from typing import Iterable, Iterator, List, NamedTuple, Sequence, Tuple
 
-DOCUMENT, ARRAY, REGEX = 3, 4, 11
+STRING, DOCUMENT, ARRAY, REGEX = 2, 3, 4, 11
 # The lengths of the values of each type (bsonspec.org): the same for all, or what stands beside a stated length.
 FIXED = {1: 8, 6: 0, 7: 12, 8: 1, 9: 8, 10: 0, 16: 4, 17: 8, 18: 8, 19: 16, 127: 0, 255: 0}
-BESIDE = {2: 4, DOCUMENT: 0, ARRAY: 0, 5: 5, 12: 16, 13: 4, 14: 4, 15: 0}
+BESIDE = {STRING: 4, DOCUMENT: 0, ARRAY: 0, 5: 5, 12: 16, 13: 4, 14: 4, 15: 0}
 
 
 class Element(NamedTuple):
@@ -15,6 +15,16 @@ class Element(NamedTuple):
     tag: int
     name: str
     value: bytes
+
+    def spelled(self) -> bytes:
+        """Its bytes in a document."""
+        return bytes([self.tag]) + self.name.encode() + b"\0" + self.value
+
+
+def spelled(parts: Iterable[bytes]) -> bytes:
+    """A document of elements that are spelled."""
+    body = b"".join(parts)
+    return (len(body) + 5).to_bytes(4, "little") + body + b"\0"
 
 
 def elements(document: bytes) -> Iterator[Element]:

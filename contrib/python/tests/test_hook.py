@@ -171,7 +171,7 @@ class Commands(unittest.TestCase):
     def test_fields_that_have_no_protected_value_stay_what_they_are(self):
         sent = self.hook.encrypt("hr", self.command, True, CodecOptions())
         self.assertEqual(list(sent), list(self.command))
-        self.assertIs(sent["comment"], self.comment)
+        self.assertEqual(bson.decode(sent.raw)["comment"], self.comment)
         self.assertEqual(sent["$clusterTime"], {"$any": 1})
 
     def test_a_call_without_a_check_of_names(self):

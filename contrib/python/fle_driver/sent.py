@@ -1,0 +1,58 @@
+"""A command as pymongo sends it: the bytes that were judged, and beside them what pymongo sets itself."""
+from __future__ import annotations
+
+from typing import Any, Dict, Iterator, MutableMapping
+
+import bson
+from bson.codec_options import CodecOptions
+from bson.raw_bson import RawBSONDocument
+
+from .walk import Element, elements, spelled
+
+
+class Sent(MutableMapping[str, Any]):
+    """The elements of a command that was judged, in their order. pymongo reads it, takes the documents of a write out,
+    which it sends beside it, and sets `$db` and the like; the rest it sends as `raw`, as it does with a
+    RawBSONDocument. So no element that was judged is encoded anew, and none changes its type or a byte.
+    """
+
+    _type_marker = RawBSONDocument._type_marker
+
+    def __init__(self, judged: bytes, options: CodecOptions) -> None:
+        self._options = options
+        self._items: Dict[str, Any] = {element.name: element for element in elements(judged)}
+
+    @property
+    def raw(self) -> bytes:
+        """The whole, as it is sent."""
+        return spelled(self._spelled(name, value) for name, value in self._items.items())
+
+    def _spelled(self, name: str, value: Any) -> bytes:
+        """An element: as it was judged, or, where it was set behind that, encoded."""
+        if isinstance(value, Element):
+            return value.spelled()
+        encoded: bytes = bson.encode({name: value}, codec_options=self._options)
+        return encoded[4:-1]
+
+    def __getitem__(self, name: str) -> Any:
+        """A value to be read. Documents, those of an array too, are RawBSONDocuments: sent, they are the same bytes."""
+        value = self._items[name]
+        return RawBSONDocument(spelled([value.spelled()]))[name] if isinstance(value, Element) else value
+
+    def __setitem__(self, name: str, value: Any) -> None:
+        self._items[name] = value
+
+    def __delitem__(self, name: str) -> None:
+        del self._items[name]
+
+    def __contains__(self, name: object) -> bool:
+        return name in self._items
+
+    def __iter__(self) -> Iterator[str]:
+        return iter(self._items)
+
+    def __len__(self) -> int:
+        return len(self._items)
+
+    def __repr__(self) -> str:
+        return f"Sent({list(self)})"
