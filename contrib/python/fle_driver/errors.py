@@ -25,7 +25,8 @@ class Closed(FleError):
 
 
 class Unsupported(FleError):
-    """A client that has no place for an encrypter, or has one already."""
+    """A client that has no place for an encrypter, or has one already; or a command that would write into the database
+    past the rules, from another one."""
 
 
 class Ended(FleError):

@@ -8,6 +8,7 @@ import pymongo
 
 from .errors import Unsupported
 from .fle import Fle
+from .reach import REACHING, name_of, reaches
 from .sent import Sent
 
 TRIED = "pymongo 3.11"
@@ -32,8 +33,11 @@ class Hook:
         plain = bson.encode(judged, *options[:-1], codec_options=options[-1])
         if database == self._fle.db:
             plain = self._fle.encrypt(plain)
-        else:
+        elif name_of(plain) not in REACHING:
             return command
+        elif reaches(self._fle.db, plain):
+            raise Unsupported(f"{name_of(plain)} of another database would write into {self._fle.db} past its rules: "
+                              "write by the calls of its collections")
         sent = Sent(plain, options[-1])
         if TIME in command:
             sent[TIME] = command[TIME]
@@ -51,8 +55,9 @@ class Hook:
 def enable(client: pymongo.MongoClient, fle: Fle) -> None:
     """From here on the client seals what it sends to the database of `fle`, and opens each reply that it receives.
 
-    Commands that `fle` doesn't know, such as aggregate, raise `Refused` for that database; commands of other databases
-    are sent as they are. Closing the client closes `fle`.
+    Commands that `fle` doesn't know, such as aggregate, raise `Refused` for that database. Commands of other databases
+    are sent as they are; those of them that would write into that database raise `Unsupported`. Closing the client
+    closes `fle`.
     """
     if not isinstance(client, pymongo.MongoClient) or "_encrypter" not in vars(client):
         raise Unsupported(f"no MongoClient with a place for an encrypter, in pymongo {pymongo.version}; tried: {TRIED}")

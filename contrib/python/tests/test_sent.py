@@ -124,6 +124,11 @@ class Commands(unittest.TestCase):
                                 "comment": "turn 3"})
         self.assertEqual(counting.turns, 3)
 
+    def test_a_stage_that_changes(self):
+        stage = Filling({"$match": {}}, {"$out": {"db": "hr", "coll": "people"}})
+        sent = self.sent(SON([("aggregate", "c"), ("pipeline", [stage])]), "other")
+        self.assertEqual(bson.encode(sent), bson.encode(SON([("aggregate", "c"), ("pipeline", [{"$match": {}}])])))
+
 
 class Keeping(CommandListener):
     """The commands that were told."""
