@@ -18,7 +18,7 @@ def reaches(db: str, command: bytes) -> bool:
 
 
 def always(_db: str, _element: Element) -> bool:
-    """applyOps names a collection in each write, and has writes within writes."""
+    """applyOps, and doTxn of older servers, name a collection in each write, and have writes within writes."""
     return True
 
 
@@ -74,6 +74,6 @@ def inner(element: Element) -> Iterator[Element]:
 
 
 REACHING: Dict[str, Callable[[str, Element], bool]] = {
-    "aggregate": by_stages, "applyOps": always, "bulkWrite": by_collections, "explain": by_command, "mapReduce": by_out,
-    "mapreduce": by_out,
+    "aggregate": by_stages, "applyOps": always, "bulkWrite": by_collections, "doTxn": always, "explain": by_command,
+    "mapReduce": by_out, "mapreduce": by_out,
 }

@@ -48,6 +48,7 @@ REACHING = {
     "explain of explain": {"explain": {"explain": aggregate({"$merge": {"into": INTO}})}},
     "bulkWrite": bulk({"ns": "other.c"}, {"ns": "hr.people"}),
     "applyOps": {"applyOps": [{"op": "i", "ns": "hr.people", "o": {"ssn": "x"}}]},
+    "doTxn": {"doTxn": [{"op": "i", "ns": "hr.people", "o": {"ssn": "x"}}]},
     "mapReduce": reduced(SON([("merge", "people"), ("db", "hr")])),
     "mapreduce": SON([("mapreduce", "c"), ("out", {"replace": "people", "db": "hr"})]),
 }
