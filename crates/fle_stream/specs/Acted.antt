@@ -32,7 +32,7 @@ AreTold files all = files.told ≡ Some all
 abbrev pub AreAny : FolderSeen → Files → Type 0
 AreAny files all = Unit {0}
 
--- the bytes that a task goes over: those that the input tells, where it reads the input; any at all, where it reads none
+-- the bytes that a task goes over: those that the input tells, where it reads the input; any, where it reads none
 abbrev pub GoesOver : Task → SourceSeen → List ℕ → Type 0
 GoesOver t input told = reads_input t ≡ true → input.told ≡ Some told
 
