@@ -6,6 +6,7 @@
 //! ```
 #![tactic(auto)]
 
+pub mod laws;
 mod names;
 mod words;
 
