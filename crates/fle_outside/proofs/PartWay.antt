@@ -3,7 +3,7 @@ use denote.Ref.{Bor}
 use Rattle.std.proofs.Common.{get_or, drop-cons, add-one, ◌≡◌, ℕ, ◌+◌, ◌<◌, ◌≤◌, Option, Some, Ok, Err, List, [], ◌++◌}
 use Rattle.std.proofs.Common.{length, take, drop, refl, sym, ◌∙◌, ap, arith, append_assoc, append-nil, length-append}
 use Rattle.std.proofs.Common.{length-take-le, take-append-drop}
-use Rattle.fle_outside.specs.Writes.{WriteTakes, WriteCause, WriteAssured}
+use Rattle.fle_outside.specs.Writes.{WriteTakes}
 use Rattle.fle_outside.specs.Seen.{Gains, SinkSeen}
 use Rattle.fle_outside.specs.Writing.{WritesWhole, joined}
 use Rattle.fle_outside.specs.declared.answers.WriteAnswer.TheVariants as writes
@@ -48,20 +48,6 @@ part_took {before} {now} {new} {whole} {left} n way takes within later falls =
       later = omega (arith, way.later);
       falls = omega (arith, way.falls, length-append way.put (take n left), size);
     }
-
--- a write failed
-pub part_stop : {before now new : SinkSeen} {whole left : List ℕ}
-    → PartWay before now whole left
-    → WriteTakes now.told new.told writes.Failed left → 0 < length left → WriteCause now.faults new.faults writes.Failed
-    → WriteAssured now.assured new.assured writes.Failed
-    → (f : Failed) → WritesWhole before new (Err f) whole
-part_stop {before} {now} {new} {whole} {left} way takes more cause sure f = record {
-  puts = (way.put, (left, more, way.split), λ w is. rw (way.gains w is) at takes);
-  later = omega (arith, way.later, cause.later);
-  cause = omega (arith, way.later, cause.failed refl);
-  sure = λ enough. absurd (omega (arith, enough, way.falls, sure, ap length way.split, length-append way.put left));
-  falls = tt;
-}
 
 -- all of them are written
 pub part_end : {before now : SinkSeen} {whole : List ℕ}
