@@ -14,7 +14,7 @@ use Rattle.lru.proofs.CallerLemmas.{Contains-lookup, Contains-promoted, Contains
 use Rattle.data_key.specs.declared.key_doc.KeyDoc.{KeyDoc}
 use Rattle.local_kms.specs.Wrapped.{Unwraps, unwrapped, key_of_plain}
 use Rattle.key_vault.specs.declared.cache.Opened.{Opened}
-use Rattle.key_vault.specs.Cached.{AreOpened, Entry, capacity, entry_in, entry_of, found_first, is_first, is_kept}
+use Rattle.key_vault.specs.Cached.{AreOpened, Entry, entry_in, entry_of, found_first, is_first, is_kept}
 use Rattle.key_vault.specs.Cached.{kept_first, kept_key, key_from, used_first, without, KeepsOpened}
 
 -- a look-up gives what was kept
@@ -105,30 +105,6 @@ abbrev put_to : List ℕ → Opened → LruCache (List ℕ) Opened → Option (L
 put_to id v s o = option_map_or (λ e. (e.0, v) ∷ remove_entry (bytes_eq id) s.entries) o
     ((id, v) ∷ take (s.cap - 1) s.entries)
 
--- ---- found, and promoted
-some_value : (a b : Opened) → Some a ≡ Some b → a ≡ b
-some_value a b e = ap (λ (o : Option Opened). unwrap_or o a) e
-
-promoted_by : (id : List ℕ) (v : Opened) (es : List (List ℕ × Opened)) (o : Option (List ℕ × Opened))
-    → lookup_entry (bytes_eq id) es ≡ o
-    → Found id o (Some v) → map entry_of (promoted (bytes_eq id) es) ≡ kept_first (entry id v) (map entry_of es)
-promoted_by id v es None is found = absurd (false≢true (sym (ap is_some found)))
-promoted_by id v es (Some e) is found =
-    let first : entry_of e ≡ entry id v = ap (λ (i : List ℕ). entry i e.1) found.0
-    ∙ ap (entry id) (sym (some_value v e.1 found.1)) in
-    let here : is_kept id (map entry_of es) ≡ true = kept_found id es ∙ ap is_some is in
-    ap (λ (x : Option (List ℕ × Opened)). map entry_of (promoted_to id es x)) is
-    ∙ ap (λ (x : Entry). x ∷ map entry_of (remove_entry (bytes_eq id) es)) first
-    ∙ ap (λ (xs : List Entry). entry id v ∷ xs) (removed id es)
-    ∙ ap (λ (b : Bool). entry id v ∷ cond b (without id (map entry_of es)) (take (capacity - 1) (map entry_of es)))
-    (sym here)
-
-pub promoted_first : (id : List ℕ) (v : Opened) (es : List (List ℕ × Opened)) → lookup (bytes_eq id) es ≡ Some v
-    → map entry_of (promoted (bytes_eq id) es) ≡ kept_first (entry id v) (map entry_of es)
-promoted_first id v es is =
-    promoted_by id v es (lookup_entry (bytes_eq id) es) refl
-    (subst (λ (x : Option Opened). Found id (lookup_entry (bytes_eq id) es) x) is (found_entry id es))
-
 -- ---- found by id, and by material
 
 entry_if : (b : Bool) (e : List ℕ × Opened) (x : Option Entry) (o : Option (List ℕ × Opened))
@@ -211,8 +187,9 @@ promoted_used id es = by_entry (lookup_entry (bytes_eq id) es) refl
     by_entry (Some e) is =
         let found : Found id (Some e) (lookup (bytes_eq id) es) =
         subst (λ (o : Option (List ℕ × Opened)). Found id o (lookup (bytes_eq id) es)) is (found_entry id es) in
-        promoted_first id e.1 es found.1
-        ∙ ap (λ (i : List ℕ). kept_first (entry i e.1) (map entry_of es)) (sym found.0)
+        ap (λ (x : Option (List ℕ × Opened)). map entry_of (promoted_to id es x)) is
+        ∙ ap (λ (xs : List Entry). entry_of e ∷ xs) (removed id es)
+        ∙ ap (λ (i : List ℕ). entry_of e ∷ without i (map entry_of es)) (sym found.0)
         ∙ sym (ap (λ (x : Option Entry). found_first x (map entry_of es))
         (entry_by id es ∙ ap (option_map entry_of) is))
 
@@ -230,29 +207,43 @@ has_id : (id : List ℕ) (es : List Entry) → HasId id (entry_in id es)
 has_id id [] = tt
 has_id id (e ∷ es) = has_id_if id (bytes_eq id e.id) e _ refl (has_id id es)
 
-used_by : (key : KeyDoc) (k : List ℕ) (es : List Entry) (o : Option Entry) → HasId key.id o
-    → key_from key.material o ≡ Some k
-    → found_first o es ≡ kept_first (record { id = key.id; material = key.material; key = k }) es
-used_by key k es None has e = absurd (false≢true (ap is_some e))
-used_by key k es (Some f) has e = by_test (bytes_eq f.material key.material) refl e
+-- an entry is kept where one is found
+kept_in : (id : List ℕ) (es : List Entry) → is_kept id es ≡ is_some (entry_in id es)
+kept_in id [] = refl
+kept_in id (e ∷ es) =
+    ap (λ (b : Bool). cond (bytes_eq id e.id) true b) (kept_in id es)
+    ∙ some_in (bytes_eq id e.id) e (entry_in id es)
+  where
+    some_in : (b : Bool) (e : Entry) (o : Option Entry) → cond b true (is_some o) ≡ is_some (cond b (Some e) o)
+    some_in true e o = refl
+    some_in false e o = refl
+
+used_by : (capacity : ℕ) (key : KeyDoc) (k : List ℕ) (es : List Entry) (o : Option Entry) → entry_in key.id es ≡ o
+    → HasId key.id o → key_from key.material o ≡ Some k
+    → found_first o es ≡ kept_first capacity (record { id = key.id; material = key.material; key = k }) es
+used_by capacity key k es None is has e = absurd (false≢true (ap is_some e))
+used_by capacity key k es (Some f) is has e = by_test (bytes_eq f.material key.material) refl e
   where
     by_test : (b : Bool) → bytes_eq f.material key.material ≡ b → cond b (Some f.key) None ≡ Some k
-        → kept_first f es ≡ kept_first (record { id = key.id; material = key.material; key = k }) es
+        → f ∷ without f.id es
+        ≡ kept_first capacity (record { id = key.id; material = key.material; key = k }) es
     by_test true same e =
-        ap (λ (i : List ℕ). kept_first (record { id = i; material = f.material; key = f.key }) es) (sym has)
-        ∙ ap (λ (m : List ℕ). kept_first (record { id = key.id; material = m; key = f.key }) es)
+        ap (λ (i : List ℕ). (record { id = i; material = f.material; key = f.key }) ∷ without i es) (sym has)
+        ∙ ap (λ (m : List ℕ). (record { id = key.id; material = m; key = f.key }) ∷ without key.id es)
         ((bytes_decides f.material key.material).0 same)
-        ∙ ap (λ (x : Option (List ℕ)). kept_first (record {
+        ∙ ap (λ (x : Option (List ℕ)). (record {
           id = key.id;
           material = key.material;
           key = unwrap_or x k;
-        }) es) e
+        }) ∷ without key.id es) e
+        ∙ ap (λ (b : Bool). (record { id = key.id; material = key.material; key = k })
+        ∷ cond b (without key.id es) (take (capacity - 1) es)) (sym (kept_in key.id es ∙ ap is_some is))
     by_test false same e = absurd (false≢true (ap is_some e))
 
 -- a key that is used goes first as one that was opened
-pub used_kept : (key : KeyDoc) (k : List ℕ) (es : List Entry) → kept_key key es ≡ Some k
-    → used_first key.id es ≡ kept_first (record { id = key.id; material = key.material; key = k }) es
-used_kept key k es e = used_by key k es (entry_in key.id es) (has_id key.id es) e
+pub used_kept : (capacity : ℕ) (key : KeyDoc) (k : List ℕ) (es : List Entry) → kept_key key es ≡ Some k
+    → used_first key.id es ≡ kept_first capacity (record { id = key.id; material = key.material; key = k }) es
+used_kept capacity key k es e = used_by capacity key k es (entry_in key.id es) refl (has_id key.id es) e
 
 -- ---- the most recently used
 
@@ -288,8 +279,7 @@ used_again id [] same = refl
 used_again id (e ∷ es) same =
     let self : bytes_eq e.id e.id ≡ true = (bytes_decides e.id e.id).1 refl in
     sym (ap (λ (b : Bool). found_first (cond b (Some e) (entry_in id es)) (e ∷ es)) same
-    ∙ ap (λ (b : Bool). e ∷ cond (cond b true (is_kept e.id es)) (cond b es (e ∷ without e.id es))
-    (take (capacity - 1) (e ∷ es))) self)
+    ∙ ap (λ (b : Bool). e ∷ cond b es (e ∷ without e.id es)) self)
 
 -- ---- put
 map_take : (n : ℕ) (es : List (List ℕ × Opened)) → map entry_of (take n es) ≡ take n (map entry_of es)
@@ -298,23 +288,21 @@ map_take (suc n) [] = refl
 map_take (suc n) (e ∷ es) = ap (λ (xs : List Entry). entry_of e ∷ xs) (map_take n es)
 
 put_by : (id : List ℕ) (v : Opened) (s : LruCache (List ℕ) Opened) (o : Option (List ℕ × Opened)) (w : Option Opened)
-    → s.cap ≡ capacity
     → lookup_entry (bytes_eq id) s.entries ≡ o → Found id o w
-    → map entry_of (put_entries bytes_eq s id v) ≡ kept_first (entry id v) (map entry_of s.entries)
-put_by id v s None w full is found =
+    → map entry_of (put_entries bytes_eq s id v) ≡ kept_first s.cap (entry id v) (map entry_of s.entries)
+put_by id v s None w is found =
     let here : is_kept id (map entry_of s.entries) ≡ false = kept_found id s.entries ∙ ap is_some is in
     ap (λ (x : Option (List ℕ × Opened)). map entry_of (put_to id v s x)) is
-    ∙ ap (λ (n : ℕ). entry id v ∷ map entry_of (take (n - 1) s.entries)) full
-    ∙ ap (λ (xs : List Entry). entry id v ∷ xs) (map_take (capacity - 1) s.entries)
+    ∙ ap (λ (xs : List Entry). entry id v ∷ xs) (map_take (s.cap - 1) s.entries)
     ∙ ap (λ (b : Bool). entry id v ∷ cond b (without id (map entry_of s.entries))
-    (take (capacity - 1) (map entry_of s.entries))) (sym here)
-put_by id v s (Some e) w full is found =
+    (take (s.cap - 1) (map entry_of s.entries))) (sym here)
+put_by id v s (Some e) w is found =
     let here : is_kept id (map entry_of s.entries) ≡ true = kept_found id s.entries ∙ ap is_some is in
     ap (λ (x : Option (List ℕ × Opened)). map entry_of (put_to id v s x)) is
     ∙ ap (λ (i : List ℕ). entry i v ∷ map entry_of (remove_entry (bytes_eq id) s.entries)) found.0
     ∙ ap (λ (xs : List Entry). entry id v ∷ xs) (removed id s.entries)
     ∙ ap (λ (b : Bool). entry id v ∷ cond b (without id (map entry_of s.entries))
-    (take (capacity - 1) (map entry_of s.entries))) (sym here)
+    (take (s.cap - 1) (map entry_of s.entries))) (sym here)
 
 none_there : (o : Option (List ℕ × Opened)) (id : List ℕ) (w : Option Opened) → Found id o w → (IsSome w → ⊥)
     → is_some o ≡ false
@@ -323,20 +311,21 @@ none_there (Some e) id w found nothing = absurd (nothing (ap is_some found.1))
 
 -- whether there was memory or not
 pub kept_put : {A E : Type 0} (key : KeyDoc) (opened : List ℕ) (v : Opened) (s n : LruCache (List ℕ) Opened)
-    (r : Result A E) → s.cap ≡ capacity
+    (r : Result A E)
     → v.material ≡ key.material → v.key ≡ opened → OnOk r (n ≡ lru_cache (put_entries bytes_eq s key.id v) s.cap)
     → OnErr r (n ≡ s)
     → (IsSome (lookup (bytes_eq key.id) s.entries) → IsOk r)
-    → KeepsOpened key opened (map entry_of s.entries) (map entry_of n.entries)
-kept_put key opened v s n (Ok x) full m k ok err sure =
+    → KeepsOpened s.cap key opened (map entry_of s.entries) (map entry_of n.entries)
+kept_put key opened v s n (Ok x) m k ok err sure =
     inl
     (ap (λ (c : LruCache (List ℕ) Opened). map entry_of c.entries) ok
-    ∙ put_by key.id v s (lookup_entry (bytes_eq key.id) s.entries) (lookup (bytes_eq key.id) s.entries) full refl
+    ∙ put_by key.id v s (lookup_entry (bytes_eq key.id) s.entries) (lookup (bytes_eq key.id) s.entries) refl
     (found_entry key.id s.entries)
-    ∙ ap (λ (a : List ℕ). kept_first (record { id = key.id; material = a; key = v.key }) (map entry_of s.entries)) m
-    ∙ ap (λ (a : List ℕ). kept_first (record { id = key.id; material = key.material; key = a })
+    ∙ ap (λ (a : List ℕ). kept_first s.cap (record { id = key.id; material = a; key = v.key })
+    (map entry_of s.entries)) m
+    ∙ ap (λ (a : List ℕ). kept_first s.cap (record { id = key.id; material = key.material; key = a })
     (map entry_of s.entries)) k)
-kept_put key opened v s n (Err x) full m k ok err sure =
+kept_put key opened v s n (Err x) m k ok err sure =
     inr (
       kept_found key.id s.entries
           ∙ none_there (lookup_entry (bytes_eq key.id) s.entries) key.id (lookup (bytes_eq key.id) s.entries)

@@ -2,4 +2,5 @@ pub mod Keys
 pub mod Lookup
 pub mod Loading
 pub mod Numbers
+pub mod Held
 pub mod Cached

@@ -1,12 +1,13 @@
 //! A bounded cache of opened keys.
 
-ghost use Rattle.std.specs.Prelude.{◌≡◌, ℕ, List, [], map, length, bytes_eq, option_copied, Ok, IfOk, IfSome, Some};
+ghost use Rattle.std.specs.Prelude.{◌≡◌, [], map, length, bytes_eq, option_copied, option_map, Ok, IfOk, IfSome};
 ghost use Rattle.std.specs.Map.{lookup};
+ghost use Rattle.std.specs.NonZero.{non_zero_usize_get};
 ghost use Rattle.local_kms.specs.Wrapped.{Unwraps};
-ghost use Rattle.key_vault.specs.Cached.{AreOpened, capacity, entry_of, is_first, Keeps, KeepsOpened, kept_key};
-ghost use Rattle.key_vault.specs.Cached.{used_first};
+ghost use Rattle.key_vault.specs.Cached.{AreOpened, entry_of, is_first, Keeps, KeepsOpened, kept_key, Opens, used_first};
 
-use crate::kept_key::{KeptKey, again};
+use crate::kept_key::KeptKey;
+use crate::open_stop::OpenStop;
 use crypto_hooks::Block256;
 use data_key::KeyDoc;
 use fle_aead::{DataKey, SharedKey};
@@ -17,7 +18,7 @@ use std::alloc::Global;
 use std::marker::Model;
 use std::num::NonZeroUsize;
 
-/// How many keys are kept.
+/// How many keys are kept where a caller names no number.
 const CAPACITY: usize = 64;
 
 /// How many bytes of material a key that opened has.
@@ -30,7 +31,7 @@ pub(crate) struct Opened {
     key: KeptKey,
 }
 
-/// A master key and at most 64 keys that were opened under it, the most recently used first.
+/// A master key and the keys that were opened under it, the most recently used first, no more than a capacity.
 #[derive(Drop)]
 pub struct KeyCache {
     alloc: Global,
@@ -39,27 +40,42 @@ pub struct KeyCache {
 }
 
 impl Model for KeyCache {
-    ghost use Rattle.std.specs.Prelude.{◌≡◌, List, map};
-    ghost use Rattle.key_vault.specs.Cached.{AreOpened, Cached, capacity, coded_cached, entry_of};
+    ghost use Rattle.std.specs.Prelude.{List, map};
+    ghost use Rattle.key_vault.specs.Cached.{AreOpened, Cached, coded_cached, entry_of};
 
     ghost Value = { Cached };
 
     ghost coded = { coded_cached };
 
-    ghost view = { λ c. record { master = c.master; entries = map entry_of c.kept.entries } };
+    ghost view = { λ c. record { master = c.master; capacity = c.kept.cap; entries = map entry_of c.kept.entries } };
 
-    ghost invariant = { λ c. AreOpened c.master c.kept.entries × (c.kept.cap ≡ capacity) };
+    ghost invariant = { λ c. AreOpened c.master c.kept.entries };
 }
 
 impl KeyCache {
-    /// No key yet. `Memory` where there is none for it.
+    /// No key yet, of at most 64. `Memory` where there is none for it.
     pub fn new(alloc: Global, master: MasterKey) -> Result<KeyCache, Memory>
-        ensures empty { IfOk result (λ c. c ≡ record { master = master; entries = [] }) }
+        ensures empty { IfOk result (λ c. c ≡ record { master = master; capacity = 64; entries = [] }) }
     {
-        let Some(most) = NonZeroUsize::new(CAPACITY) else {
+        let Some(capacity) = NonZeroUsize::new(CAPACITY) else {
             unreachable!()
         };
-        match LruCache::new(alloc, most) {
+        KeyCache::with_capacity(alloc, master, capacity)
+    }
+
+    /// No key yet, of at most this many, for which there is room from the start. `Memory` where there is none for it.
+    pub fn with_capacity(
+        alloc: Global,
+        master: MasterKey,
+        capacity: NonZeroUsize,
+    ) -> Result<KeyCache, Memory>
+        ensures empty { IfOk result (λ c. c ≡ record {
+          master = master;
+          capacity = non_zero_usize_get capacity;
+          entries = [];
+        }) }
+    {
+        match LruCache::new(alloc, capacity) {
             Ok(kept) => Ok(KeyCache {
                 alloc,
                 master,
@@ -76,59 +92,95 @@ impl KeyCache {
         self.kept.len()
     }
 
-    /// The data key of a key under the cache's master key: found where it is kept with this material, else opened and
-    /// kept. A key that isn't opened isn't kept. Where there is no memory to keep one, it is answered all the same.
+    /// The data key of a key under the cache's master key, shared: found where it is kept with this material, else
+    /// opened and kept. A key that isn't opened isn't kept. Where there is no memory to keep one, it is answered all the
+    /// same; where there is none to share it, nothing changes.
+    pub fn open<B: Block256>(&mut self, hooks: &B, key: &KeyDoc) -> Result<SharedKey, OpenStop>
+        requires hooks { B.answers hooks.now }
+        ensures master { self.new.master ≡ self.old.master }
+        ensures capacity { self.new.capacity ≡ self.old.capacity }
+        ensures answer { Opens self.old.master key.now.material result }
+        ensures kept { Keeps self.old.capacity key.now self.old.entries self.new.entries result }
+    {
+        match self.kept_key(key) {
+            Some(kept) => match kept.share(self.alloc) {
+                Ok(shared) => {
+                    self.promote(&key.id);
+                    Ok(shared)
+                }
+                Err(Memory) => Err(OpenStop::Memory),
+            },
+            None => self.open_new(hooks, key),
+        }
+    }
+
+    /// The same, not shared. It takes no memory but to keep the key.
     pub fn data_key<B: Block256>(&mut self, hooks: &B, key: &KeyDoc) -> Result<DataKey, UnwrapFault>
         requires hooks { B.answers hooks.now }
         ensures master { self.new.master ≡ self.old.master }
+        ensures capacity { self.new.capacity ≡ self.old.capacity }
         ensures answer { Unwraps self.old.master key.now.material result }
-        ensures kept { Keeps key.now self.old.entries self.new.entries result }
+        ensures kept { Keeps self.old.capacity key.now self.old.entries self.new.entries result }
     {
-        match self.kept_key(key) {
-            Some(kept) => {
-                let opened = again(kept);
-                self.promote(&key.id);
+        match self.open(hooks, key) {
+            Ok(shared) => Ok(again(shared.key())),
+            Err(OpenStop::Unopened(fault)) => Err(fault),
+            Err(OpenStop::Memory) => self.open_alone(hooks, key),
+        }
+    }
+
+    /// Opens a key, and keeps it shared.
+    fn open_new<B: Block256>(&mut self, hooks: &B, key: &KeyDoc) -> Result<SharedKey, OpenStop>
+        requires hooks { B.answers hooks.now }
+        ensures master { self.new.master ≡ self.old.master }
+        ensures capacity { self.new.capacity ≡ self.old.capacity }
+        ensures answer { Opens self.old.master key.now.material result }
+        ensures kept { Keeps self.old.capacity key.now self.old.entries self.new.entries result }
+    {
+        match unwrap_key(hooks, &self.master, key.material.as_slice()) {
+            Ok(opened) => match SharedKey::new(self.alloc, opened) {
+                Ok(shared) => {
+                    keep(&mut self.kept, &self.master, key, KeptKey::of(&shared));
+                    Ok(shared)
+                }
+                Err(_) => Err(OpenStop::Memory),
+            },
+            Err(fault) => Err(OpenStop::Unopened(fault)),
+        }
+    }
+
+    /// Opens a key, and keeps its bytes.
+    fn open_alone<B: Block256>(&mut self, hooks: &B, key: &KeyDoc) -> Result<DataKey, UnwrapFault>
+        requires hooks { B.answers hooks.now }
+        ensures master { self.new.master ≡ self.old.master }
+        ensures capacity { self.new.capacity ≡ self.old.capacity }
+        ensures answer { Unwraps self.old.master key.now.material result }
+        ensures kept { Keeps self.old.capacity key.now self.old.entries self.new.entries result }
+    {
+        match unwrap_key(hooks, &self.master, key.material.as_slice()) {
+            Ok(opened) => {
+                keep(&mut self.kept, &self.master, key, KeptKey::alone(&opened));
                 Ok(opened)
             }
-            None => match unwrap_key(hooks, &self.master, key.material.as_slice()) {
-                Ok(opened) => {
-                    keep(self.alloc, &mut self.kept, &self.master, key, &opened);
-                    Ok(opened)
-                }
-                Err(fault) => Err(fault),
-            },
+            Err(fault) => Err(fault),
         }
     }
 
     /// The data key, where it is kept under the key's id with its material; `None` exactly where it isn't.
-    pub(crate) fn kept_key(&self, key: &KeyDoc) -> Option<&DataKey>
+    fn kept_key(&self, key: &KeyDoc) -> Option<&KeptKey>
         ensures kept { option_copied result ≡ kept_key key.now self.now.entries }
         ensures opened { IfSome result (λ k. Unwraps self.now.master key.now.material (Ok k.now)) }
     {
         match found(&self.kept, key) {
-            Some(kept) => Some(kept.key()),
+            Some(opened) => Some(&opened.key),
             None => None,
         }
     }
 
-    /// The data key, shared, where it is kept under the key's id with its material; `None` exactly where it isn't.
-    /// `Memory` for want of memory alone.
-    pub fn shared_key(&self, key: &KeyDoc) -> Result<Option<SharedKey>, Memory>
-        ensures kept { IfOk result (λ k. k ≡ kept_key key.now self.now.entries) }
-        ensures opened { IfOk result (λ k. IfSome k (λ k. Unwraps self.now.master key.now.material (Ok k))) }
-    {
-        let Some(kept) = found(&self.kept, key) else {
-            return Ok(None);
-        };
-        match kept.share() {
-            Ok(shared) => Ok(Some(shared)),
-            Err(_) => Err(Memory),
-        }
-    }
-
     /// Makes the key of this id the most recently used, where one is kept.
-    pub fn promote(&mut self, id: &[u8; 16])
+    fn promote(&mut self, id: &[u8; 16])
         ensures master { self.new.master ≡ self.old.master }
+        ensures capacity { self.new.capacity ≡ self.old.capacity }
         ensures first { self.new.entries ≡ used_first id.now self.old.entries }
     {
         if !is_first(&self.kept, id) {
@@ -137,14 +189,24 @@ impl KeyCache {
     }
 }
 
-/// The data key, where it is kept under the key's id with its material.
-fn found<'k>(kept: &'k LruCache<[u8; 16], Opened>, key: &KeyDoc) -> Option<&'k KeptKey>
-    ensures found { option_copied result ≡ kept_key key.now (map entry_of kept.now.entries) }
+/// The same key.
+fn again(key: &DataKey) -> DataKey
+    ensures same { result ≡ key.now }
+{
+    match key.clone() {
+        Ok(key) => key,
+        Err(_) => unreachable!(),
+    }
+}
+
+/// What is kept under a key's id, where it is of the key's material.
+fn found<'k>(kept: &'k LruCache<[u8; 16], Opened>, key: &KeyDoc) -> Option<&'k Opened>
+    ensures found { option_map (λ o. o.key) (option_copied result) ≡ kept_key key.now (map entry_of kept.now.entries) }
 {
     match looked_up(kept, &key.id) {
         Some(opened) => {
             if is_material(&opened.material, key.material.as_slice()) {
-                Some(&opened.key)
+                Some(opened)
             } else {
                 None
             }
@@ -197,19 +259,13 @@ fn array_of(material: &[u8]) -> [u8; 160]
 }
 
 /// Keeps a key that was opened, before the others. Where there is no memory for it, it isn't kept.
-fn keep(
-    alloc: Global,
-    kept: &mut LruCache<[u8; 16], Opened>,
-    master: &MasterKey,
-    key: &KeyDoc,
-    opened: &DataKey,
-)
+fn keep(kept: &mut LruCache<[u8; 16], Opened>, master: &MasterKey, key: &KeyDoc, opened: KeptKey)
     requires opened { AreOpened master.now kept.old.entries }
-    requires full { kept.old.cap ≡ capacity }
-    requires right { Unwraps master.now key.now.material (Ok opened.now) }
+    requires right { Unwraps master.now key.now.material (Ok opened) }
     ensures opened { AreOpened master.now kept.new.entries }
-    ensures full { kept.new.cap ≡ capacity }
-    ensures kept { KeepsOpened key.now opened.now (map entry_of kept.old.entries) (map entry_of kept.new.entries) }
+    ensures capacity { kept.new.cap ≡ kept.old.cap }
+    ensures kept { KeepsOpened kept.old.cap key.now opened (map entry_of kept.old.entries)
+        (map entry_of kept.new.entries) }
 {
     let _ = master;
     let material = array_of(key.material.as_slice());
@@ -217,7 +273,7 @@ fn keep(
         key.id,
         Opened {
             material,
-            key: KeptKey::new(alloc, opened),
+            key: opened,
         },
     );
 }

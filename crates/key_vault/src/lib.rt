@@ -12,13 +12,16 @@
 mod cache;
 mod faults;
 mod kept_key;
+pub mod laws;
 mod loading;
 mod lookup;
 mod numbers;
+mod open_stop;
 mod place;
 mod vault;
 
 pub use cache::KeyCache;
 pub use faults::{VaultFault, VaultKind};
 pub use lookup::{Keyless, open_key};
+pub use open_stop::OpenStop;
 pub use vault::Vault;

@@ -4,11 +4,9 @@ use Rattle.key_vault.proofs.Kept.{promoted_opened, promoted_used, used_again}
 use Rattle.key_vault.proofs.cache.KeyCache.promote.Goals as goal
 
 pub invariant_of-self : goal.invariant_of-self
-invariant_of-self c = (
-  subst (λ s. AreOpened c.self.inside.master s.entries) (sym c.promote.ensures.entries)
-      (promoted_opened c.self.inside.master _ c.self.inside.kept.entries c.self.invariant.0),
-  ap (λ s. s.cap) c.promote.ensures.entries ∙ c.self.invariant.1,
-)
+invariant_of-self c =
+    subst (λ s. AreOpened c.self.inside.master s.entries) (sym c.promote.ensures.entries)
+    (promoted_opened c.self.inside.master _ c.self.inside.kept.entries c.self.invariant)
 
 pub returns-then-not-is_first-clause-first : goal.returns-then-not-is_first-clause-first
 returns-then-not-is_first-clause-first c =
