@@ -234,10 +234,6 @@ nothing_behind : (r : Option Refusal) → or_else r None ≡ r
 nothing_behind None = refl
 nothing_behind (Some x) = refl
 
-view_root : (info : Option Collection) (c : Items) → view_of info (command_visit c) ≡ None
-unfolding view_offence
-view_root info c = refl
-
 -- the refusal of a view, of a command with fields
 pub view_alone : (info : Option Collection) (rows : List Row) (at : ℕ) (name : List ℕ) (t : Tree) (is : Items)
     → first_refusal (view_of info) (command_visits rows at (item name t is))

@@ -16,17 +16,6 @@ pub record Few (words : List (Bor (List ℕ))) (count : ℕ) (left whole : Items
   pub known : (name : List ℕ) → is_among name (names (take count words)) ≡ is_among name before
   pub read : distinct_behind before left ≡ are_distinct whole
 
--- at the start there is none
-pub none_yet : (words : List (Bor (List ℕ))) (left whole : Items) → length words ≡ few → left ≡ whole
-    → Few words 0 left whole
-none_yet words left whole long same = record {
-  before = [];
-  long = long;
-  room = omega arith;
-  known = λ name. refl;
-  read = ap (distinct_behind []) same;
-}
-
 or_swap : (a b c : Bool) → (a || (b || c)) ≡ (b || (a || c))
 or_swap true true c = refl
 or_swap true false c = refl

@@ -1,5 +1,5 @@
 -- Paths compared name by name: equal ones, prefixes, and paths with one name more.
-use Rattle.std.proofs.Common.{◌≡◌, ℕ, ◌+◌, Bool, true, false, cond, ◌&&◌, ◌||◌, List, [], ◌∷◌, ◌++◌, Option, Some, None}
+use Rattle.std.proofs.Common.{◌≡◌, ℕ, ◌+◌, Bool, true, false, cond, ◌&&◌, ◌||◌, List, [], ◌∷◌, ◌++◌, Option, Some}
 use Rattle.std.proofs.Common.{◌≤◌, length, arith}
 use Rattle.std.proofs.Common.{is_some, refl, sym, ap, ap₂, ◌∙◌, bytes_eq, ⊎_elim}
 use mathlib.Core.Bool.{false≢true}
@@ -45,12 +45,6 @@ pub path_self : (p : List (List ℕ)) → is_same_path p p ≡ true
 path_self [] = refl
 path_self (x ∷ p) = and_from (named x x) (is_same_path p p) (named_self x) (path_self p)
 
-path_turn : (p q : List (List ℕ)) → is_same_path p q ≡ is_same_path q p
-path_turn [] [] = refl
-path_turn [] (y ∷ q) = refl
-path_turn (x ∷ p) [] = refl
-path_turn (x ∷ p) (y ∷ q) = ap₂ (λ (a b : Bool). a && b) (named_turn x y) (path_turn p q)
-
 pub path_prefix : (p q : List (List ℕ)) → is_same_path p q ≡ true → is_prefix p q ≡ true
 path_prefix [] q e = refl
 path_prefix (x ∷ p) [] e = e
@@ -85,12 +79,6 @@ pub found_is : (k : ℕ) (q : List (List ℕ)) (ps : List (List (List ℕ))) →
 found_is k q [] = refl
 found_is k q (p ∷ ps) = some_if (is_same_path q p) k (number_of (k + 1) q ps) (among q ps) (found_is (k + 1) q ps)
 
-pub not_among : (q : List (List ℕ)) (ps : List (List (List ℕ))) → among q ps ≡ false → number_of 0 q ps ≡ None
-not_among q ps e = none_is (number_of 0 q ps) (found_is 0 q ps ∙ e) where
-  none_is : (o : Option ℕ) → is_some o ≡ false → o ≡ None
-  none_is None e = refl
-  none_is (Some i) e = absurd (false≢true (sym e))
-
 pub some_among : (q : List (List ℕ)) (ps : List (List (List ℕ))) (i : ℕ) → number_of 0 q ps ≡ Some i → among q ps ≡ true
 some_among q ps i e = sym (found_is 0 q ps) ∙ ap is_some e
 
@@ -103,14 +91,6 @@ leads_front p n (r ∷ rs) e =
     (λ (h : is_prefix (p ++ n ∷ []) r ≡ true). or_left (is_prefix p r) (leads p rs) (prefix_front p n r h))
     (λ (h : leads (p ++ n ∷ []) rs ≡ true). or_right (is_prefix p r) (leads p rs) (leads_front p n rs h))
     (or_cases (is_prefix (p ++ n ∷ []) r) (leads (p ++ n ∷ []) rs) e)
-
-pub among_leads : (p : List (List ℕ)) (rs : List (List (List ℕ))) → among p rs ≡ true → leads p rs ≡ true
-among_leads p [] e = e
-among_leads p (r ∷ rs) e =
-    ⊎_elim
-    (λ (h : is_same_path p r ≡ true). or_left (is_prefix p r) (leads p rs) (path_prefix p r h))
-    (λ (h : among p rs ≡ true). or_right (is_prefix p r) (leads p rs) (among_leads p rs h))
-    (or_cases (is_same_path p r) (among p rs) e)
 
 -- a path of a name or more isn't the empty one
 pub not_nil : (p q : List (List ℕ)) → 1 ≤ length p → q ≡ [] → is_same_path p q ≡ false
