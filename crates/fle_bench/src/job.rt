@@ -58,7 +58,7 @@ pub enum Subject {
     Document(Direction),
     /// The file of a vault, which stands on standard input, under another master key.
     VaultRewrap,
-    /// The keys of such a vault alone: each opened twice and sealed once.
+    /// The keys of such a vault alone: each opened and sealed once.
     VaultKeys,
 }
 

@@ -15,7 +15,7 @@ use crypto_hooks::Tables;
 use data_key::KeyDoc;
 use fle_vectors::{DATA_KEY, MASTER_KEY};
 use key_vault::Vault;
-use local_kms::{MasterKey, unwrap_key, wrap_key};
+use local_kms::{MasterKey, unwrap_bytes, wrap_bytes};
 use rewrap_keys::rewrap_vault;
 use std::alloc::Global;
 
@@ -80,8 +80,8 @@ fn rewrap_once(
     }
 }
 
-/// Opens each key of a vault's file twice and seals it once, some times over, and gives the checksum of the last
-/// material; `None` where the bytes are no vault.
+/// Opens each key of a vault's file to its 96 bytes and seals these, some times over, and gives the checksum of the
+/// last material; `None` where the bytes are no vault.
 pub fn run_keys(alloc: Global, bytes: &[u8], turns: u32) -> Option<u32>
     requires { length bytes.now ≤ 67108864 }
 {
@@ -109,13 +109,10 @@ fn last_material(from: &MasterKey, to: &MasterKey, keys: &[KeyDoc]) -> [u8; 160]
     last
 }
 
-/// The material of a key that is opened twice and sealed anew; `None` where it doesn't open.
+/// The material of a key that is opened and sealed anew; `None` where it doesn't open.
 fn new_material(from: &MasterKey, to: &MasterKey, key: &KeyDoc) -> Option<[u8; 160]> {
-    if unwrap_key(&Tables, from, key.material.as_slice()).is_err() {
-        return None;
-    }
-    match unwrap_key(&Tables, from, key.material.as_slice()) {
-        Ok(data_key) => Some(wrap_key(&Tables, to, IV, &data_key)),
+    match unwrap_bytes(&Tables, from, key.material.as_slice()) {
+        Ok(data_key) => Some(wrap_bytes(&Tables, to, IV, &data_key)),
         Err(_) => None,
     }
 }
