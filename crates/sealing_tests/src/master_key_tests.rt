@@ -7,7 +7,8 @@ use fle_aead::DataKey;
 use fle_outside::MemEntropy;
 use fle_vectors::{DATA_KEY, MASTER_KEY};
 use local_kms::{
-    MasterFault, MasterKey, NewFault, UnwrapFault, new_key, read_master, unwrap_key, wrap_key,
+    KeyBytes, MasterFault, MasterKey, NewFault, UnwrapFault, new_key, read_master, unwrap_bytes,
+    unwrap_key, wrap_bytes, wrap_key,
 };
 use sample_documents::{KEY_ID, KEY_MATERIAL};
 use std::alloc::Global;
@@ -136,6 +137,15 @@ fn a_key_is_sealed_and_opened_as_elsewhere(rt: HostRuntime) {
     let key = DataKey::new(DATA_KEY);
     assert!(rt; wrap_key(&Tables, &master, BLOCKS[7], &key) == *KEY_MATERIAL);
     let opened = unwrap_key(&Tables, &master, KEY_MATERIAL);
+    assert!(rt; matches!(&opened, Ok(k) if *k.bytes() == DATA_KEY));
+}
+
+#[test]
+fn the_bytes_of_a_key_are_sealed_and_opened_as_elsewhere(rt: HostRuntime) {
+    let master = MasterKey::new(MASTER_KEY);
+    let key = KeyBytes::new(DATA_KEY);
+    assert!(rt; wrap_bytes(&Tables, &master, BLOCKS[7], &key) == *KEY_MATERIAL);
+    let opened = unwrap_bytes(&Tables, &master, KEY_MATERIAL);
     assert!(rt; matches!(&opened, Ok(k) if *k.bytes() == DATA_KEY));
 }
 
