@@ -28,8 +28,10 @@ coded_entry = code_by (List ℕ × (List ℕ × List ℕ))
 
 -- how the logic stores them: the master key, the number, and the entries in order
 abbrev pub coded_cached : Coded Cached
-coded_cached = code_by (List ℕ × (ℕ × List Entry)) (coded× (coded_list coded_ℕ) (coded× coded_ℕ (coded_list coded_entry)))
-    (λ c. (c.master, (c.capacity, c.entries))) (λ p. record { master = p.0; capacity = p.1.0; entries = p.1.1 }) (λ _. refl)
+coded_cached = code_by (List ℕ × (ℕ × List Entry))
+    (coded× (coded_list coded_ℕ) (coded× coded_ℕ (coded_list coded_entry)))
+    (λ c. (c.master, (c.capacity, c.entries)))
+    (λ p. record { master = p.0; capacity = p.1.0; entries = p.1.1 }) (λ _. refl)
 
 -- the entry of a pair that is kept
 abbrev pub entry_of : List ℕ × Opened → Entry

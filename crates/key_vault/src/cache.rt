@@ -4,7 +4,8 @@ ghost use Rattle.std.specs.Prelude.{◌≡◌, [], map, length, bytes_eq, option
 ghost use Rattle.std.specs.Map.{lookup};
 ghost use Rattle.std.specs.NonZero.{non_zero_usize_get};
 ghost use Rattle.local_kms.specs.Wrapped.{Unwraps};
-ghost use Rattle.key_vault.specs.Cached.{AreOpened, entry_of, is_first, Keeps, KeepsOpened, kept_key, Opens, used_first};
+ghost use Rattle.key_vault.specs.Cached.{AreOpened, entry_of, is_first, Keeps, KeepsOpened, kept_key, Opens};
+ghost use Rattle.key_vault.specs.Cached.{used_first};
 
 use crate::kept_key::KeptKey;
 use crate::open_stop::OpenStop;
@@ -93,8 +94,8 @@ impl KeyCache {
     }
 
     /// The data key of a key under the cache's master key, shared: found where it is kept with this material, else
-    /// opened and kept. A key that isn't opened isn't kept. Where there is no memory to keep one, it is answered all the
-    /// same; where there is none to share it, nothing changes.
+    /// opened and kept. A key that isn't opened isn't kept. Where there is no memory to keep one, it is answered all
+    /// the same; where there is none to share it, nothing changes.
     pub fn open<B: Block256>(&mut self, hooks: &B, key: &KeyDoc) -> Result<SharedKey, OpenStop>
         requires hooks { B.answers hooks.now }
         ensures master { self.new.master ≡ self.old.master }
