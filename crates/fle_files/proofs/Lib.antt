@@ -1,2 +1,3 @@
 pub mod InfosRead
 pub mod Loaded
+pub mod Asks

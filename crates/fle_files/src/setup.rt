@@ -1,9 +1,10 @@
 //! What the named files of the words hold: collection infos, a key vault, a master key.
 
-ghost use Rattle.std.specs.Prelude.{true, ◌≡◌, ◌≤◌, length, IfErr, IfOk, Ok, Some};
+ghost use Rattle.std.specs.Prelude.{true, ◌≡◌, ◌≤◌, length, IfErr, IfOk, Ok, Some, [], ◌∷◌};
 ghost use Rattle.key_vault.specs.Loading.{vault};
 ghost use Rattle.fle_outside.specs.Counts.{Rose};
 ghost use Rattle.fle_outside.specs.Files.{Files, file_of};
+ghost use Rattle.fle_outside.specs.Seen.{AsksOnly};
 ghost use Rattle.fle_files.specs.Setup.{Leads, at_fault, infos_why, master_why, vault_why};
 ghost use Rattle.fle_files.specs.Limits.{file_limit};
 ghost use Rattle.fle_files.specs.Setup.{with_infos, with_keys, with_master, with_vault};
@@ -39,6 +40,7 @@ pub fn load_infos<F: Folder>(
         → Leads (with_infos number (file_of all name.now)) result }
     ensures kind { IfErr result IsOfFiles }
     ensures same { (F.seen files.new).told ≡ (F.seen files.old).told }
+    ensures asked { AsksOnly (name.now ∷ []) (F.seen files.old) (F.seen files.new) }
     ensures later { (F.seen files.old).faults ≤ (F.seen files.new).faults }
     ensures cause { IfErr result (λ why. why ≡ Why.Cut Cut.Folder
         → Rose (F.seen files.old).faults (F.seen files.new).faults) }
@@ -66,6 +68,7 @@ pub fn load_vault<F: Folder>(
         → Leads (with_vault number (file_of all name.now)) result }
     ensures kind { IfErr result IsOfFiles }
     ensures same { (F.seen files.new).told ≡ (F.seen files.old).told }
+    ensures asked { AsksOnly (name.now ∷ []) (F.seen files.old) (F.seen files.new) }
     ensures later { (F.seen files.old).faults ≤ (F.seen files.new).faults }
     ensures cause { IfErr result (λ why. why ≡ Why.Cut Cut.Folder
         → Rose (F.seen files.old).faults (F.seen files.new).faults) }
@@ -105,6 +108,7 @@ pub fn load_keys<F: Folder>(
     ensures small { IfOk result (λ file. length file.bytes ≤ file_limit) }
     ensures kind { IfErr result IsOfFiles }
     ensures same { (F.seen files.new).told ≡ (F.seen files.old).told }
+    ensures asked { AsksOnly (name.now ∷ []) (F.seen files.old) (F.seen files.new) }
     ensures later { (F.seen files.old).faults ≤ (F.seen files.new).faults }
     ensures cause { IfErr result (λ why. why ≡ Why.Cut Cut.Folder
         → Rose (F.seen files.old).faults (F.seen files.new).faults) }
@@ -135,6 +139,7 @@ pub fn load_master<F: Folder>(
         → Leads (with_master number (file_of all name.now)) result }
     ensures kind { IfErr result IsOfFiles }
     ensures same { (F.seen files.new).told ≡ (F.seen files.old).told }
+    ensures asked { AsksOnly (name.now ∷ []) (F.seen files.old) (F.seen files.new) }
     ensures later { (F.seen files.old).faults ≤ (F.seen files.new).faults }
     ensures cause { IfErr result (λ why. why ≡ Why.Cut Cut.Folder
         → Rose (F.seen files.old).faults (F.seen files.new).faults) }

@@ -24,3 +24,6 @@ returns-clause-leads g c = λ all has.
     rw c.why_master.ensures.why
     (master_fail c.args.number (file_of all c.args.name.now) c.in-Ok.bytes.items c.in-Err-read_master.fault
     (c.in-Ok.ensures.load all has) (sym read))
+
+pub returns-in-Ok-read_master-clause-asked : goal.returns-in-Ok-read_master-clause-asked
+returns-in-Ok-read_master-clause-asked g c = c.in-Ok.ensures.asked
