@@ -1,8 +1,7 @@
 //! The data keys of what is needed.
 
-ghost use Rattle.std.specs.Prelude.{◌≡◌, option_copied, IfErr, IfSome, Ok, OnOk, Some};
+ghost use Rattle.std.specs.Prelude.{◌≡◌, option_copied, IfErr, Ok, OnOk, Some};
 ghost use Rattle.doc_rewrite.specs.Keys.{with_id, with_name};
-ghost use Rattle.key_vault.specs.Lookup.{opened_key};
 ghost use Rattle.context_machine.specs.Needs.{need_at_seen};
 ghost use Rattle.context_machine.specs.Rings.{finder, found_key, keyless_reason};
 ghost use Rattle.context_machine.specs.Tables.{IsShort, PutsKey, TellsTable, table_of};
@@ -16,7 +15,7 @@ use data_key::{KeyDoc, Provider};
 use doc_rewrite::KeyTable;
 use encrypt_schema::Reason;
 use fle_aead::{DataKey, SharedKey};
-use key_vault::{KeyCache, Keyless, open_key};
+use key_vault::{KeyCache, Keyless, OpenStop, open_key};
 use local_kms::MasterKey;
 use payload6::Need;
 use std::alloc::Global;
@@ -122,8 +121,7 @@ pub(crate) fn put_cached<B: Block256>(
     }
 }
 
-/// Puts the data key of a key document behind the others: the one that the cache keeps, shared, or else the one that
-/// the cache opens.
+/// Puts the data key of a key document behind the others, as the cache opens it.
 fn put_found<B: Block256>(
     alloc: Global,
     table: &mut KeyTable,
@@ -136,15 +134,13 @@ fn put_found<B: Block256>(
     ensures master { cache.new.master ≡ cache.old.master }
     ensures put { PutsKey (need_at_seen n.now) (found_key cache.old.master (Some key.now)) table.old table.new result }
 {
-    match shared_in(cache, key) {
-        Some(shared) => {
-            cache.promote(&key.id);
-            put_shared(alloc, table, n, key, shared)
-        }
-        None => match open_cached(hooks, cache, key) {
-            Ok(data_key) => put_key(alloc, table, n, key, data_key),
-            Err(keyless) => Err(refused(n, keyless)),
+    match key.provider {
+        Provider::Local => match cache.open(hooks, key) {
+            Ok(shared) => put_shared(alloc, table, n, key, shared),
+            Err(OpenStop::Unopened(_)) => Err(refused(n, Keyless::Damaged)),
+            Err(OpenStop::Memory) => Err(KeysStop::Memory),
         },
+        Provider::Other => Err(refused(n, Keyless::NotLocal)),
     }
 }
 
@@ -211,38 +207,6 @@ fn put_by_name(
             Err(_) => Err(KeysStop::Memory),
         },
         Err(_) => Err(KeysStop::Memory),
-    }
-}
-
-/// The data key of a key, where a cache keeps it.
-fn shared_in(cache: &KeyCache, key: &KeyDoc) -> Option<SharedKey>
-    ensures kept { IfSome result (λ k. opened_key cache.now.master (Some key.now) ≡ Ok k) }
-{
-    match key.provider {
-        Provider::Local => match cache.shared_key(key) {
-            Ok(shared) => shared,
-            Err(_) => None,
-        },
-        Provider::Other => None,
-    }
-}
-
-/// The data key of a key, by a cache.
-fn open_cached<B: Block256>(
-    hooks: &B,
-    cache: &mut KeyCache,
-    key: &KeyDoc,
-) -> Result<DataKey, Keyless>
-    requires hooks { B.answers hooks.now }
-    ensures master { cache.new.master ≡ cache.old.master }
-    ensures opened { result ≡ opened_key cache.old.master (Some key.now) }
-{
-    match key.provider {
-        Provider::Local => match cache.data_key(hooks, key) {
-            Ok(data_key) => Ok(data_key),
-            Err(_) => Err(Keyless::Damaged),
-        },
-        Provider::Other => Err(Keyless::NotLocal),
     }
 }
 
