@@ -1,16 +1,49 @@
-//! A cache beside a plain list.
+//! Caches beside plain lists.
 
+ghost use Rattle.std.specs.Prelude.{⊤};
+
+use aes_block::{Schedule, cipher, inv_cipher};
 use bson_tree::{Bytes, Names};
-use crypto_hooks::Tables;
+use crypto_hooks::{Block256, Tables};
 use data_key::{KeyDoc, Provider};
 use fle_aead::DataKey;
-use key_vault::KeyCache;
+use key_vault::{KeyCache, OpenStop};
 use local_kms::{MasterKey, UnwrapFault, wrap_key};
 use std::alloc::Global;
+use std::cell::Cell;
+use std::num::NonZeroUsize;
 use std::process::Abort;
 
-/// The most keys that are kept.
+/// The most keys that `KeyCache::new` keeps.
 const MOST: usize = 64;
+
+/// The cipher of FIPS 197, and how many blocks it decrypted.
+#[derive(Drop)]
+struct Counted {
+    opened: Cell<u32>,
+}
+
+impl Block256 for Counted {
+    ghost answers = { λ _. ⊤ };
+
+    fn seal_block(&self, schedule: &Schedule, block: [u8; 16]) -> [u8; 16] {
+        cipher(schedule, block)
+    }
+
+    fn open_block(&self, schedule: &Schedule, block: [u8; 16]) -> [u8; 16] {
+        self.opened.set(self.opened.get().saturating_add(1));
+        inv_cipher(schedule, block)
+    }
+}
+
+/// A cache and the list of the bytes whose keys it has to keep, the most recently used first.
+#[derive(Drop)]
+struct Beside {
+    cache: KeyCache,
+    list: Vec<u8>,
+    most: usize,
+    hooks: Counted,
+}
 
 /// A key whose data key is this byte, 96 times; where it is `damaged`, the last byte of its tag is another.
 fn key_of(rt: &impl Abort, alloc: Global, byte: u8, damaged: bool) -> KeyDoc {
@@ -27,16 +60,26 @@ fn key_of(rt: &impl Abort, alloc: Global, byte: u8, damaged: bool) -> KeyDoc {
     }
 }
 
-/// A cache without keys.
-fn no_keys(rt: &impl Abort, alloc: Global) -> KeyCache {
-    KeyCache::new(alloc, MasterKey::new([7; 96])).expect(rt, "memory")
+/// The master key of every cache.
+fn master() -> MasterKey {
+    MasterKey::new([7; 96])
 }
 
-/// Whether the data key of this byte was answered; or no key, where its material is damaged.
-fn is_answer(answer: Result<DataKey, UnwrapFault>, byte: u8, damaged: bool) -> bool {
-    match answer {
-        Ok(key) => !damaged && *key.bytes() == [byte; 96],
-        Err(_) => damaged,
+/// A cache without keys.
+fn no_keys(rt: &impl Abort, alloc: Global) -> KeyCache {
+    KeyCache::new(alloc, master()).expect(rt, "memory")
+}
+
+/// A cache without keys that keeps at most this many, beside an empty list.
+fn none_of(rt: &impl Abort, alloc: Global, most: usize) -> Beside {
+    let capacity = NonZeroUsize::new(most).expect(rt, "no capacity");
+    Beside {
+        cache: KeyCache::with_capacity(alloc, master(), capacity).expect(rt, "memory"),
+        list: Vec::new(alloc),
+        most,
+        hooks: Counted {
+            opened: Cell::new(0),
+        },
     }
 }
 
@@ -47,62 +90,106 @@ fn next(x: u64) -> u64 {
     x ^ (x << 17)
 }
 
-/// The list with this byte in front.
-fn fronted(rt: &impl Abort, alloc: Global, byte: u8, list: &[u8]) -> Vec<u8> {
+/// The list with this byte in front, of at most so many.
+fn fronted(rt: &impl Abort, alloc: Global, byte: u8, list: &[u8], most: usize) -> Vec<u8> {
     let mut fronted = vec![in alloc; byte].expect(rt, "memory");
     for other in list {
-        if *other != byte && fronted.len() < MOST {
+        if *other != byte && fronted.len() < most {
             fronted.push(*other).expect(rt, "memory");
         }
     }
     fronted
 }
 
-/// Whether a key is kept with its material. A look doesn't make it the one used last.
-fn is_found(rt: &impl Abort, cache: &KeyCache, key: &KeyDoc, byte: u8) -> bool {
-    match cache.shared_key(key).expect(rt, "memory") {
-        Some(kept) => {
-            assert!(rt; *kept.key().bytes() == [byte; 96], "another key");
-            true
+/// The data key that a cache answers, asked for it by `open` or by `data_key`; `None` where the material doesn't open.
+fn answer(
+    rt: &impl Abort,
+    cache: &mut KeyCache,
+    hooks: &Counted,
+    key: &KeyDoc,
+    shared: bool,
+) -> Option<[u8; 96]> {
+    if shared {
+        match cache.open(hooks, key) {
+            Ok(key) => Some(*key.key().bytes()),
+            Err(OpenStop::Unopened(_)) => None,
+            Err(OpenStop::Memory) => {
+                assert!(rt; false, "memory");
+                None
+            }
         }
-        None => false,
+    } else {
+        match cache.data_key(hooks, key) {
+            Ok(key) => Some(*key.bytes()),
+            Err(_) => None,
+        }
     }
 }
 
-/// Whether the key of this byte is kept.
-fn is_kept(rt: &impl Abort, alloc: Global, cache: &KeyCache, byte: u8) -> bool {
-    is_found(rt, cache, &key_of(rt, alloc, byte, false), byte)
+/// Whether the answer is the data key of this byte; or none, where its material is damaged.
+fn is_right(answer: Option<[u8; 96]>, byte: u8, damaged: bool) -> bool {
+    match answer {
+        Some(key) => !damaged && key == [byte; 96],
+        None => damaged,
+    }
 }
 
-/// Asks for the key of this byte, and puts it in front of the list beside the cache. Whether both kept the same.
+/// Asks for the key of this byte, and puts it in front of the list. Whether the answer is right, and no block was
+/// decrypted where the list had the byte.
 fn agree(
     rt: &impl Abort,
     alloc: Global,
-    cache: &mut KeyCache,
-    list: &mut Vec<u8>,
+    beside: &mut Beside,
     byte: u8,
     damaged: bool,
+    shared: bool,
 ) -> bool {
-    let was_kept = is_kept(rt, alloc, cache, byte) == list.contains(&byte);
     let key = key_of(rt, alloc, byte, damaged);
-    let answered = is_answer(cache.data_key(&Tables, &key), byte, damaged);
+    let undecrypted = damaged || beside.list.contains(&byte);
+    let before = beside.hooks.opened.get();
+    let answered = is_right(
+        answer(rt, &mut beside.cache, &beside.hooks, &key, shared),
+        byte,
+        damaged,
+    );
     if !damaged {
-        *list = fronted(rt, alloc, byte, list);
+        beside.list = fronted(rt, alloc, byte, &beside.list, beside.most);
     }
-    was_kept && answered && cache.len() == list.len()
+    answered
+        && undecrypted == (beside.hooks.opened.get() == before)
+        && beside.cache.len() == beside.list.len()
+}
+
+/// Looks up so many random keys, every eleventh or so damaged.
+fn look_up(rt: &impl Abort, alloc: Global, most: usize, times: u32) {
+    let mut beside = none_of(rt, alloc, most);
+    let mut x = 88172645463325252;
+    for _ in 0..times {
+        x = next(x);
+        let byte = (x % 100) as u8;
+        assert!(rt; agree(rt, alloc, &mut beside, byte, x % 11 == 0, x % 3 == 0));
+    }
+    assert!(rt; beside.cache.len() == most.min(100));
 }
 
 #[test]
 fn a_cache_keeps_what_a_plain_list_keeps(rt: HostRuntime) {
-    let mut cache = no_keys(&rt, rt.alloc());
-    let mut list = Vec::new(rt.alloc());
-    let mut x = 88172645463325252;
-    for _ in 0..10_000 {
-        x = next(x);
-        let byte = (x % 100) as u8;
-        assert!(rt; agree(&rt, rt.alloc(), &mut cache, &mut list, byte, x % 11 == 0));
+    look_up(&rt, rt.alloc(), MOST, 10_000);
+}
+
+#[test]
+fn a_cache_keeps_as_many_keys_as_it_may(rt: HostRuntime) {
+    for most in [1, 2, 65, 4_096] {
+        look_up(&rt, rt.alloc(), most, 1_000);
     }
-    assert!(rt; cache.len() == MOST);
+}
+
+/// Whether the data key of this byte was answered; or no key, where its material is damaged.
+fn is_answer(answer: Result<DataKey, UnwrapFault>, byte: u8, damaged: bool) -> bool {
+    match answer {
+        Ok(key) => !damaged && *key.bytes() == [byte; 96],
+        Err(_) => damaged,
+    }
 }
 
 /// Whether the answer is that the tag is wrong.
@@ -121,45 +208,22 @@ fn a_kept_key_doesnt_answer_for_other_material(rt: HostRuntime) {
     assert!(rt; cache.len() == 1);
 }
 
-/// Whether the data keys of the bytes from `from` up to `to` are had, one after another. They are kept from then on.
-fn open(rt: &impl Abort, alloc: Global, cache: &mut KeyCache, from: u8, to: u8) -> bool {
-    for byte in from..to {
-        let key = key_of(rt, alloc, byte, false);
-        if !is_answer(cache.data_key(&Tables, &key), byte, false) {
-            return false;
-        }
-    }
-    true
-}
-
-/// Whether of these bytes' keys those are kept that are said to be.
-fn are_kept(rt: &impl Abort, alloc: Global, cache: &KeyCache, bytes: &[(u8, bool)]) -> bool {
-    for (byte, kept) in bytes {
-        if is_kept(rt, alloc, cache, *byte) != *kept {
-            return false;
-        }
-    }
-    true
-}
-
 #[test]
-fn a_kept_key_is_found_with_its_own_material_alone(rt: HostRuntime) {
+fn a_new_cache_keeps_64_keys(rt: HostRuntime) {
     let mut cache = no_keys(&rt, rt.alloc());
-    assert!(rt; open(&rt, rt.alloc(), &mut cache, 0, 3));
-    assert!(rt; are_kept(&rt, rt.alloc(), &cache, &[(0, true), (3, false)]));
-    let damaged = key_of(&rt, rt.alloc(), 0, true);
-    assert!(rt; !is_found(&rt, &cache, &damaged, 0));
+    for byte in 0..65 {
+        let key = key_of(&rt, rt.alloc(), byte, false);
+        assert!(rt; is_answer(cache.data_key(&Tables, &key), byte, false));
+    }
+    assert!(rt; cache.len() == MOST);
 }
 
 #[test]
 fn the_key_used_least_recently_goes_first(rt: HostRuntime) {
-    let mut cache = no_keys(&rt, rt.alloc());
-    assert!(rt; open(&rt, rt.alloc(), &mut cache, 0, 3));
-    cache.promote(&[0; 16]);
-    // This one isn't kept yet.
-    cache.promote(&[3; 16]);
-    assert!(rt; open(&rt, rt.alloc(), &mut cache, 3, 65));
-    assert!(rt; are_kept(&rt, rt.alloc(), &cache, &[(1, false), (2, true)]));
-    assert!(rt; open(&rt, rt.alloc(), &mut cache, 65, 66));
-    assert!(rt; are_kept(&rt, rt.alloc(), &cache, &[(2, false), (0, true)]));
+    let mut beside = none_of(&rt, rt.alloc(), 3);
+    // 1 goes for 3, since 0 was used after it, and 2 for 1.
+    for byte in [0, 1, 2, 0, 3, 1, 0, 3] {
+        assert!(rt; agree(&rt, rt.alloc(), &mut beside, byte, false, true));
+    }
+    assert!(rt; beside.list.as_slice() == [3, 0, 1].as_slice());
 }
