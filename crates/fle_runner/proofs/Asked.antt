@@ -2,7 +2,7 @@
 use Rattle.std.proofs.Common.{◌≡◌, ℕ, ◌≤◌, ◌⊎◌, List, Option, Some, None, refl, subst, sym}
 use Rattle.fle_outside.specs.Counts.{Rose}
 use Rattle.fle_outside.specs.Files.{Files}
-use Rattle.fle_outside.specs.Seen.{EntropySeen, FolderSeen, SourceSeen}
+use Rattle.fle_outside.specs.Seen.{AsksOnly, EntropySeen, FolderSeen, SourceSeen}
 use Rattle.fle_stream.specs.Acted.{Acted, Objects}
 use Rattle.fle_stream.specs.Codes.{status_of}
 use Rattle.fle_stream.specs.Turn.{IsOfStream}
@@ -18,7 +18,7 @@ use Rattle.fle_runner.specs.Keygen.{DrawsEight, IsOfKeygen}
 use Rattle.fle_runner.specs.Keys.{IsOfKeys, IsOfText}
 use Rattle.fle_runner.specs.Rewrap.{IsOfRewrap}
 use Rattle.fle_runner.specs.Statuses.{EndsByVerb, IsUndrawn, IsUnwritten}
-use Rattle.fle_runner.specs.Verbs.{AreShown, pace_for, task_of}
+use Rattle.fle_runner.specs.Verbs.{AreShown, files_of, pace_for, task_of}
 use Rattle.fle_runner.proofs.VerbEnds.{encrypt_status, keygen_status, keys_status, show_status, text_status}
 use Rattle.fle_runner.proofs.VerbEnds.{rewrap_status, undrawn_status}
 
@@ -124,6 +124,12 @@ pub acts_asked : {form asked : Option Form} {before after : Objects} {end : End}
 acts_asked {before = before} {after = after} {end = end} time is run =
     subst (λ (f : Option Form). Acted (AreShown f) (task_of time f) (pace_for f) before after end) (sym is) run
 
+-- and which files were asked for
+pub asks_asked : {form asked : Option Form} {before after : FolderSeen} → form ≡ asked
+    → AsksOnly (files_of asked) before after → AsksOnly (files_of form) before after
+asks_asked {before = before} {after = after} is asks =
+    subst (λ (f : Option Form). AsksOnly (files_of f) before after) (sym is) asks
+
 module _ {S F O N : Type 0} {reads : S → SourceSeen} {input input_after : S} {shows : F → FolderSeen}
     {files files_after : F} {out out_after : O} {seen : N → EntropySeen} {entropy entropy_after : N} where
   -- and how it ends
@@ -137,13 +143,14 @@ module _ {S F O N : Type 0} {reads : S → SourceSeen} {input input_after : S} {
       seen entropy entropy_after) (sym is) ends
 
   -- words without a form
-  pub by_none : entropy_after ≡ entropy
+  pub by_none : files_after ≡ files → entropy_after ≡ entropy
       → EndsByVerb None statuses.Words reads input input_after shows files files_after
       out out_after seen entropy entropy_after
-  by_none same = record {
+  by_none closed same = record {
     undrawn = λ _ at. subst NotEntropy at tt;
     no_block = λ _. same;
     allowed = tt;
+    no_file = λ _. closed;
     no_input = λ no. absurd no;
     by_folder = λ no. absurd no;
     by_source = λ no. absurd no;
@@ -151,7 +158,6 @@ module _ {S F O N : Type 0} {reads : S → SourceSeen} {input input_after : S} {
     none_or_eight = λ no. absurd no;
     rewrap_unwritten = λ no. absurd no;
     rewrap_undrawn = λ no. absurd no;
-    alone = λ no. absurd no;
   }
 
   pub by_mark : {db schemas : List ℕ} (why : Why) → entropy_after ≡ entropy
@@ -162,6 +168,7 @@ module _ {S F O N : Type 0} {reads : S → SourceSeen} {input input_after : S} {
     undrawn = λ _ at. undrawn (of_entropy why at);
     no_block = λ _. same;
     allowed = undrawn_status why formed undrawn;
+    no_file = λ no. absurd no;
     no_input = λ no. absurd no;
     by_folder = λ no. absurd no;
     by_source = λ no. absurd no;
@@ -169,7 +176,6 @@ module _ {S F O N : Type 0} {reads : S → SourceSeen} {input input_after : S} {
     none_or_eight = λ no. absurd no;
     rewrap_unwritten = λ no. absurd no;
     rewrap_undrawn = λ no. absurd no;
-    alone = λ no. absurd no;
   }
 
   pub by_decrypt : {vault master : List ℕ} (why : Why) → entropy_after ≡ entropy
@@ -180,6 +186,7 @@ module _ {S F O N : Type 0} {reads : S → SourceSeen} {input input_after : S} {
     undrawn = λ _ at. undrawn (of_entropy why at);
     no_block = λ _. same;
     allowed = undrawn_status why formed undrawn;
+    no_file = λ no. absurd no;
     no_input = λ no. absurd no;
     by_folder = λ no. absurd no;
     by_source = λ no. absurd no;
@@ -187,7 +194,6 @@ module _ {S F O N : Type 0} {reads : S → SourceSeen} {input input_after : S} {
     none_or_eight = λ no. absurd no;
     rewrap_unwritten = λ no. absurd no;
     rewrap_undrawn = λ no. absurd no;
-    alone = λ no. absurd no;
   }
 
   pub by_encrypt : {db vault schemas master : List ℕ} (why : Why) → (why ≡ whys.Finished finishes.Words → ⊥)
@@ -197,6 +203,7 @@ module _ {S F O N : Type 0} {reads : S → SourceSeen} {input input_after : S} {
     undrawn = λ no. absurd no;
     no_block = λ no. absurd no;
     allowed = encrypt_status why formed;
+    no_file = λ no. absurd no;
     no_input = λ no. absurd no;
     by_folder = λ no. absurd no;
     by_source = λ no. absurd no;
@@ -204,7 +211,6 @@ module _ {S F O N : Type 0} {reads : S → SourceSeen} {input input_after : S} {
     none_or_eight = λ no. absurd no;
     rewrap_unwritten = λ no. absurd no;
     rewrap_undrawn = λ no. absurd no;
-    alone = λ no. absurd no;
   }
 
   pub by_encrypt_with : {db vault schemas master : List ℕ} (why : Why) → (why ≡ whys.Finished finishes.Words → ⊥)
@@ -214,6 +220,7 @@ module _ {S F O N : Type 0} {reads : S → SourceSeen} {input input_after : S} {
     undrawn = λ no. absurd no;
     no_block = λ no. absurd no;
     allowed = encrypt_status why formed;
+    no_file = λ no. absurd no;
     no_input = λ no. absurd no;
     by_folder = λ no. absurd no;
     by_source = λ no. absurd no;
@@ -221,17 +228,18 @@ module _ {S F O N : Type 0} {reads : S → SourceSeen} {input input_after : S} {
     none_or_eight = λ no. absurd no;
     rewrap_unwritten = λ no. absurd no;
     rewrap_undrawn = λ no. absurd no;
-    alone = λ no. absurd no;
   }
 
-  pub by_show : (why : Why) → entropy_after ≡ entropy → IsOfStream why → (why ≡ whys.Cut cuts.Entropy → ⊥)
+  pub by_show : (why : Why) → files_after ≡ files → entropy_after ≡ entropy → IsOfStream why
+      → (why ≡ whys.Cut cuts.Entropy → ⊥)
       → (why ≡ whys.Cut cuts.Input → Rose (reads input).faults (reads input_after).faults)
       → EndsByVerb (Some show) (status_of why) reads input input_after shows files files_after
       out out_after seen entropy entropy_after
-  by_show why same kind undrawn cause = record {
+  by_show why closed same kind undrawn cause = record {
     undrawn = λ _ at. undrawn (of_entropy why at);
     no_block = λ _. same;
     allowed = show_status why kind undrawn;
+    no_file = λ _. closed;
     no_input = λ no. absurd no;
     by_folder = λ no. absurd no;
     by_source = λ _ at. of_read why _ (λ f. absurd (subst IsOfStream f kind)) cause at;
@@ -239,7 +247,6 @@ module _ {S F O N : Type 0} {reads : S → SourceSeen} {input input_after : S} {
     none_or_eight = λ no. absurd no;
     rewrap_unwritten = λ no. absurd no;
     rewrap_undrawn = λ no. absurd no;
-    alone = λ no. absurd no;
   }
 
   pub by_keys : {vault : List ℕ} (why : Why) → input_after ≡ input → entropy_after ≡ entropy → IsOfKeys why
@@ -250,6 +257,7 @@ module _ {S F O N : Type 0} {reads : S → SourceSeen} {input input_after : S} {
     undrawn = λ _ at. subst IsOfKeys (of_entropy why at) kind;
     no_block = λ _. same;
     allowed = keys_status why kind;
+    no_file = λ no. absurd no;
     no_input = λ _. still;
     by_folder = λ _ at. of_read why _ cause (λ i. absurd (subst IsOfKeys i kind)) at;
     by_source = λ no. absurd no;
@@ -257,7 +265,6 @@ module _ {S F O N : Type 0} {reads : S → SourceSeen} {input input_after : S} {
     none_or_eight = λ no. absurd no;
     rewrap_unwritten = λ no. absurd no;
     rewrap_undrawn = λ no. absurd no;
-    alone = λ no. absurd no;
   }
 
   pub by_keygen : {master : List ℕ} {names : List (List ℕ)} (why : Why) → input_after ≡ input → IsOfKeygen why
@@ -270,6 +277,7 @@ module _ {S F O N : Type 0} {reads : S → SourceSeen} {input input_after : S} {
     undrawn = λ no. absurd no;
     no_block = λ no. absurd no;
     allowed = keygen_status why kind;
+    no_file = λ no. absurd no;
     no_input = λ _. still;
     by_folder = λ _ at. of_read why _ cause (λ i. absurd (subst IsOfKeygen i kind)) at;
     by_source = λ no. absurd no;
@@ -277,7 +285,6 @@ module _ {S F O N : Type 0} {reads : S → SourceSeen} {input input_after : S} {
     none_or_eight = λ _ at. none_or (of_memory why at);
     rewrap_unwritten = λ no. absurd no;
     rewrap_undrawn = λ no. absurd no;
-    alone = λ no. absurd no;
   }
 
   pub by_demo : {db : List ℕ} {n : ℕ} (why : Why) → input_after ≡ input → files_after ≡ files → entropy_after ≡ entropy
@@ -287,6 +294,7 @@ module _ {S F O N : Type 0} {reads : S → SourceSeen} {input input_after : S} {
     undrawn = λ _ at. subst IsOfText (of_entropy why at) kind;
     no_block = λ _. same;
     allowed = text_status why kind;
+    no_file = λ _. closed;
     no_input = λ _. still;
     by_folder = λ _ at. of_read why _ (λ f. absurd (subst IsOfText f kind)) (λ i. absurd (subst IsOfText i kind)) at;
     by_source = λ no. absurd no;
@@ -294,7 +302,6 @@ module _ {S F O N : Type 0} {reads : S → SourceSeen} {input input_after : S} {
     none_or_eight = λ no. absurd no;
     rewrap_unwritten = λ no. absurd no;
     rewrap_undrawn = λ no. absurd no;
-    alone = λ _. (closed, same);
   }
 
   pub by_rewrap : {from to vault : List ℕ} (why : Why) → input_after ≡ input → IsOfRewrap why
@@ -306,6 +313,7 @@ module _ {S F O N : Type 0} {reads : S → SourceSeen} {input input_after : S} {
     undrawn = λ no. absurd no;
     no_block = λ no. absurd no;
     allowed = rewrap_status why kind;
+    no_file = λ no. absurd no;
     no_input = λ _. still;
     by_folder = λ _ at. of_read why _ cause (λ i. absurd (subst IsOfRewrap i kind)) at;
     by_source = λ no. absurd no;
@@ -313,5 +321,4 @@ module _ {S F O N : Type 0} {reads : S → SourceSeen} {input input_after : S} {
     none_or_eight = λ no. absurd no;
     rewrap_unwritten = λ _. unwritten;
     rewrap_undrawn = λ _. undrawn;
-    alone = λ no. absurd no;
   }

@@ -1,5 +1,5 @@
 -- How a verb ends, by what its words ask for: its statuses, and what it did with the input, the files and the blocks.
-use Rattle.std.specs.Prelude.{◌≡◌, ◌≤◌, ◌⊎◌, Option, Some}
+use Rattle.std.specs.Prelude.{◌≡◌, ◌≤◌, ◌⊎◌, Option, Some, None}
 use Rattle.fle_outside.specs.Counts.{Rose}
 use Rattle.fle_outside.specs.Seen.{EntropySeen, FolderSeen, SourceSeen}
 use Rattle.fle_runner.specs.Keygen.{DrawsEight}
@@ -16,6 +16,13 @@ ReadsNoInput (Some (demo db n)) = Unit {0}
 ReadsNoInput (Some (rewrap from to vault)) = Unit {0}
 ReadsNoInput form = ⊥
 
+-- the words name no file
+abbrev pub ReadsNoFile : Option Form → Type 0
+ReadsNoFile None = Unit {0}
+ReadsNoFile (Some show) = Unit {0}
+ReadsNoFile (Some (demo db n)) = Unit {0}
+ReadsNoFile form = ⊥
+
 -- the words ask for a new key
 abbrev pub AsksKey : Option Form → Type 0
 AsksKey (Some (keygen master names)) = Unit {0}
@@ -25,11 +32,6 @@ AsksKey form = ⊥
 abbrev pub AsksText : Option Form → Type 0
 AsksText (Some show) = Unit {0}
 AsksText form = ⊥
-
--- the words ask for the demo
-abbrev pub AsksDemo : Option Form → Type 0
-AsksDemo (Some (demo db n)) = Unit {0}
-AsksDemo form = ⊥
 
 -- the words ask for a vault under another master key
 abbrev pub AsksRewrap : Option Form → Type 0
@@ -115,6 +117,8 @@ pub record EndsByVerb {S F O N : Type 0} (form : Option Form) (status : Status) 
   -- `keys` ends with 0, 4, 5, 6 or 8, `keygen` with these or 7, `rewrap` with these, 7 or 1, `demo` with 0, 6 or 8,
   -- `show` with none of 2, 4 and 7, `mark` and `decrypt` with neither 2 nor 7, `encrypt` and `encrypt-with` not with 2
   pub allowed : MayEnd form status
+  -- `show`, `demo` and words without a form make no call on the files
+  pub no_file : ReadsNoFile form → files_after ≡ files
   -- `keys`, `keygen`, `rewrap` and `demo` make no call on the input
   pub no_input : ReadsNoInput form → input_after ≡ input
   -- so with 5 a named file failed
@@ -130,5 +134,3 @@ pub record EndsByVerb {S F O N : Type 0} (form : Option Form) (status : Status) 
   pub rewrap_unwritten : AsksRewrap form → IsUnwritten status → out_after ≡ out
   -- and none on the source of blocks but with 0, 6 and 7
   pub rewrap_undrawn : AsksRewrap form → IsUndrawn status → entropy_after ≡ entropy
-  -- `demo` makes no call on the files or on the source of blocks
-  pub alone : AsksDemo form → (files_after ≡ files) × (entropy_after ≡ entropy)

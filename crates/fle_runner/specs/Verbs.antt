@@ -1,5 +1,5 @@
 -- What each form of the words asks for, with the files that there are.
-use Rattle.std.specs.Prelude.{ℕ, Option, Some, None, List}
+use Rattle.std.specs.Prelude.{ℕ, Option, Some, None, List, [], ◌∷◌}
 use Rattle.fle_outside.specs.Files.{Files, file_of}
 use Rattle.fle_outside.specs.Seen.{FolderSeen}
 use Rattle.fle_stream.specs.Acted.{AreAny, AreTold}
@@ -44,6 +44,19 @@ AreShown None files all = AreAny files all
 AreShown (Some show) files all = AreAny files all
 AreShown (Some (demo db n)) files all = AreAny files all
 AreShown (Some form) files all = AreTold files all
+
+-- the names of files in the words, in the order in which they are read
+abbrev pub files_of : Option Form → List (List ℕ)
+files_of None = []
+files_of (Some (mark db schemas)) = schemas ∷ []
+files_of (Some show) = []
+files_of (Some (keys vault)) = vault ∷ []
+files_of (Some (keygen master names)) = master ∷ []
+files_of (Some (encrypt db vault schemas master)) = vault ∷ schemas ∷ master ∷ []
+files_of (Some (encrypt_with db vault schemas master)) = vault ∷ schemas ∷ master ∷ []
+files_of (Some (decrypt vault master)) = vault ∷ master ∷ []
+files_of (Some (demo db n)) = []
+files_of (Some (rewrap from to vault)) = from ∷ to ∷ vault ∷ []
 
 -- how they read the input: one document a step, or the two of a pair
 abbrev pub pace_for : Option Form → Pace

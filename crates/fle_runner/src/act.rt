@@ -1,8 +1,9 @@
 //! What the words ask for, done.
 
 ghost use Rattle.std.specs.Prelude.{◌≡◌, None, map, string_bytes};
+ghost use Rattle.fle_outside.specs.Seen.{AsksOnly};
 ghost use Rattle.fle_runner.specs.Statuses.{EndsByVerb};
-ghost use Rattle.fle_runner.specs.Verbs.{AreShown, pace_for, task};
+ghost use Rattle.fle_runner.specs.Verbs.{AreShown, files_of, pace_for, task};
 ghost use Rattle.fle_words.specs.Words.{form_of};
 ghost use Rattle.fle_stream.specs.Acted.{Acted, objects};
 ghost use Rattle.fle_stream.specs.Codes.{status_of};
@@ -53,6 +54,8 @@ pub fn act<S: Source, F: Folder, O: Sink, N: Entropy, B: Block256>(
     ensures formed { result.why ≡ Why.Finished Finish.Words → form_of
         (map string_bytes request.entry.words.now) ≡ None }
     ensures unread { result.why ≡ Why.Finished Finish.Words → files.new ≡ files.old }
+    ensures asked { AsksOnly (files_of (form_of (map string_bytes request.entry.words.now)))
+        (F.seen files.old) (F.seen files.new) }
     ensures untouched { IsUnread (status_of result.why)
         → (input.new ≡ input.old) × (out.new ≡ out.old) × (entropy.new ≡ entropy.old) }
     // What each verb may end with, and what it then did with the input, the files and the blocks.

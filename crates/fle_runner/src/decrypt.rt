@@ -1,9 +1,9 @@
 //! `decrypt KEYS MASTER`: each document with its payloads opened.
 
-ghost use Rattle.std.specs.Prelude.{true, ◌≡◌, ◌<◌, ◌≤◌, IfErr, List, ℕ, Some};
+ghost use Rattle.std.specs.Prelude.{true, ◌≡◌, ◌<◌, ◌≤◌, IfErr, List, ℕ, Some, [], ◌∷◌};
 ghost use Rattle.fle_outside.specs.Counts.{Rose};
 ghost use Rattle.fle_outside.specs.Files.{Files, file_of};
-ghost use Rattle.fle_outside.specs.Seen.{EntropySeen};
+ghost use Rattle.fle_outside.specs.Seen.{AsksOnly, EntropySeen};
 ghost use Rattle.fle_runner.specs.Decrypt.{decrypt_task, with_opening};
 ghost use Rattle.fle_files.specs.Setup.{Leads};
 ghost use Rattle.fle_stream.specs.Acted.{Acted, AreTold, objects};
@@ -47,6 +47,7 @@ pub fn decrypt<S: Source, F: Folder, O: Sink, B: Block256>(
         (file_of all master.now))
         one_document (objects (S.seen input.old) (F.seen files.old) (O.seen out.old) e)
         (objects (S.seen input.new) (F.seen files.new) (O.seen out.new) e) result }
+    ensures asked { AsksOnly (keys.now ∷ master.now ∷ []) (F.seen files.old) (F.seen files.new) }
     ensures formed { result.why ≡ Why.Finished Finish.Words → ⊥ }
     ensures untouched { IsUnread (status_of result.why) → (input.new ≡ input.old) × (out.new ≡ out.old) }
     ensures undrawn { result.why ≡ Why.Cut Cut.Entropy → ⊥ }
@@ -62,6 +63,7 @@ pub fn decrypt<S: Source, F: Folder, O: Sink, B: Block256>(
 }
 
 /// Loads the files of the words, in order.
+#[tactic(auto, using(fle_files::proofs::Asks::asks_first, fle_files::proofs::Asks::asks_behind))]
 fn load_opening<F: Folder>(
     alloc: Global,
     files: &mut F,
@@ -71,6 +73,7 @@ fn load_opening<F: Folder>(
     ensures leads { (all : Files) → (F.seen files.old).told ≡ Some all
         → Leads (with_opening (file_of all keys.now) (file_of all master.now)) result }
     ensures kind { IfErr result IsOfFiles }
+    ensures asked { AsksOnly (keys.now ∷ master.now ∷ []) (F.seen files.old) (F.seen files.new) }
     ensures cause { IfErr result (λ why. why ≡ Why.Cut Cut.Folder
         → Rose (F.seen files.old).faults (F.seen files.new).faults) }
     ensures sure { (F.seen files.old).assured ≡ true → IfErr result (λ why. why ≡ Why.Cut Cut.Folder → ⊥) }

@@ -1,8 +1,9 @@
 //! `encrypt DB KEYS SCHEMAS MASTER`: each command with its protected values sealed.
 
-ghost use Rattle.std.specs.Prelude.{true, ◌≡◌, IfErr, Some};
+ghost use Rattle.std.specs.Prelude.{true, ◌≡◌, IfErr, Some, [], ◌∷◌};
 ghost use Rattle.fle_outside.specs.Counts.{Rose};
 ghost use Rattle.fle_outside.specs.Files.{Files, file_of};
+ghost use Rattle.fle_outside.specs.Seen.{AsksOnly};
 ghost use Rattle.fle_runner.specs.Encrypt.{encrypt_task};
 ghost use Rattle.fle_runner.specs.Encrypt.{with_sealing};
 ghost use Rattle.fle_files.specs.Setup.{Leads};
@@ -62,6 +63,8 @@ pub fn encrypt<S: Source, F: Folder, O: Sink, N: Entropy, B: Block256>(
         (file_of all words.entry.schemas.now) (file_of all words.entry.master.now)) one_document
         (objects (S.seen input.old) (F.seen files.old) (O.seen out.old) (N.seen entropy.old))
         (objects (S.seen input.new) (F.seen files.new) (O.seen out.new) (N.seen entropy.new)) result }
+    ensures asked { AsksOnly (words.entry.keys.now ∷ words.entry.schemas.now ∷ words.entry.master.now ∷ [])
+        (F.seen files.old) (F.seen files.new) }
     ensures formed { result.why ≡ Why.Finished Finish.Words → ⊥ }
     ensures untouched { IsUnread (status_of result.why)
         → (input.new ≡ input.old) × (out.new ≡ out.old) × (entropy.new ≡ entropy.old) }
@@ -81,6 +84,7 @@ pub fn encrypt<S: Source, F: Folder, O: Sink, N: Entropy, B: Block256>(
 }
 
 /// Loads the files of the words, in order.
+#[tactic(auto, using(fle_files::proofs::Asks::asks_first, fle_files::proofs::Asks::asks_behind))]
 pub fn load_sealing<F: Folder>(
     alloc: Global,
     files: &mut F,
@@ -91,6 +95,7 @@ pub fn load_sealing<F: Folder>(
     ensures leads { (all : Files) → (F.seen files.old).told ≡ Some all
         → Leads (with_sealing (file_of all keys.now) (file_of all schemas.now) (file_of all master.now)) result }
     ensures kind { IfErr result IsOfFiles }
+    ensures asked { AsksOnly (keys.now ∷ schemas.now ∷ master.now ∷ []) (F.seen files.old) (F.seen files.new) }
     ensures cause { IfErr result (λ why. why ≡ Why.Cut Cut.Folder
         → Rose (F.seen files.old).faults (F.seen files.new).faults) }
     ensures sure { (F.seen files.old).assured ≡ true → IfErr result (λ why. why ≡ Why.Cut Cut.Folder → ⊥) }

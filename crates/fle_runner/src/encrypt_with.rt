@@ -1,8 +1,9 @@
 //! `encrypt-with DB KEYS SCHEMAS MASTER`: each command with its protected values sealed, once the marking reply behind
 //! it was found right.
 
-ghost use Rattle.std.specs.Prelude.{true, ◌≡◌};
+ghost use Rattle.std.specs.Prelude.{true, ◌≡◌, [], ◌∷◌};
 ghost use Rattle.fle_outside.specs.Files.{file_of};
+ghost use Rattle.fle_outside.specs.Seen.{AsksOnly};
 ghost use Rattle.fle_runner.specs.EncryptWith.{encrypt_with_task};
 ghost use Rattle.fle_stream.specs.Acted.{Acted, AreTold, objects};
 ghost use Rattle.fle_stream.specs.Codes.{status_of};
@@ -32,6 +33,8 @@ pub fn encrypt_with<S: Source, F: Folder, O: Sink, N: Entropy, B: Block256>(
         (file_of all words.entry.schemas.now) (file_of all words.entry.master.now)) two_documents
         (objects (S.seen input.old) (F.seen files.old) (O.seen out.old) (N.seen entropy.old))
         (objects (S.seen input.new) (F.seen files.new) (O.seen out.new) (N.seen entropy.new)) result }
+    ensures asked { AsksOnly (words.entry.keys.now ∷ words.entry.schemas.now ∷ words.entry.master.now ∷ [])
+        (F.seen files.old) (F.seen files.new) }
     ensures formed { result.why ≡ Why.Finished Finish.Words → ⊥ }
     ensures untouched { IsUnread (status_of result.why)
         → (input.new ≡ input.old) × (out.new ≡ out.old) × (entropy.new ≡ entropy.old) }

@@ -1,11 +1,11 @@
 //! `keygen MASTER NAME*`: a new key document.
 
-ghost use Rattle.std.specs.Prelude.{◌≡◌, ◌≤◌, ◌⊎◌, List, ℕ, IfOk, length, map, string_bytes};
+ghost use Rattle.std.specs.Prelude.{◌≡◌, ◌≤◌, ◌⊎◌, List, ℕ, IfOk, [], ◌∷◌, length, map, string_bytes};
 ghost use Rattle.bson_tree.specs.Spelling.{doc_bytes};
 ghost use Rattle.data_key.specs.Written.{key_fields, size_of as names_size};
 ghost use Rattle.fle_outside.specs.Blocks.{Block};
 ghost use Rattle.fle_outside.specs.Files.{file_of};
-ghost use Rattle.fle_outside.specs.Seen.{Draws, EntropySeen, FolderSeen, SourceSeen};
+ghost use Rattle.fle_outside.specs.Seen.{AsksOnly, Draws, EntropySeen, FolderSeen, SourceSeen};
 ghost use Rattle.fle_runner.specs.Keygen.{DrawsEight, IsOfKey, IsOfKeygen, document_size, keygen_plan, keygen_task};
 ghost use Rattle.fle_stream.specs.Acted.{Acted, AreAny, AreTold, objects};
 ghost use Rattle.fle_stream.specs.Codes.{status_of};
@@ -52,6 +52,7 @@ pub fn keygen<F: Folder, O: Sink, N: Entropy, B: Block256>(
         (objects input (F.seen files.old) (O.seen out.old) (N.seen entropy.old))
         (objects input (F.seen files.new) (O.seen out.new) (N.seen entropy.new)) result }
     ensures kind { IsOfKeygen result.why }
+    ensures asked { AsksOnly (words.entry.master.now ∷ []) (F.seen files.old) (F.seen files.new) }
     ensures untouched { IsUnread (status_of result.why) → (out.new ≡ out.old) × (entropy.new ≡ entropy.old) }
     ensures eight_assured { 8 ≤ (N.seen entropy.old).assured → result.why ≡ Why.Cut Cut.Entropy → ⊥ }
     ensures none_or_eight { result.why ≡ Why.Cut Cut.Memory

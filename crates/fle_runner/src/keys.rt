@@ -1,8 +1,8 @@
 //! `keys KEYS`: a line of text for each key of a vault.
 
-ghost use Rattle.std.specs.Prelude.{◌≡◌, ◌++◌, IfOk, OnOk};
+ghost use Rattle.std.specs.Prelude.{◌≡◌, ◌++◌, IfOk, OnOk, [], ◌∷◌};
 ghost use Rattle.fle_outside.specs.Files.{file_of};
-ghost use Rattle.fle_outside.specs.Seen.{EntropySeen, FolderSeen, SourceSeen};
+ghost use Rattle.fle_outside.specs.Seen.{AsksOnly, EntropySeen, FolderSeen, SourceSeen};
 ghost use Rattle.fle_runner.specs.Keys.{IsOfKeys, IsOfText, key_line, key_lines, keys_task, provider_word};
 ghost use Rattle.fle_runner.specs.Verdicts.{plain_plan};
 ghost use Rattle.fle_stream.specs.Acted.{Acted, AreAny, AreTold, objects};
@@ -25,6 +25,7 @@ pub fn keys<F: Folder, O: Sink>(alloc: Global, vault: &str, files: &mut F, out: 
         one_document (objects input (F.seen files.old) (O.seen out.old) e)
         (objects input (F.seen files.new) (O.seen out.new) e) result }
     ensures kind { IsOfKeys result.why }
+    ensures asked { AsksOnly (vault.now ∷ []) (F.seen files.old) (F.seen files.new) }
     ensures untouched { IsUnread (status_of result.why) → out.new ≡ out.old }
 {
     match load_vault(alloc, files, 1, vault) {

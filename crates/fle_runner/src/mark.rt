@@ -1,9 +1,9 @@
 //! `mark DB SCHEMAS`: the marking reply to each command.
 
-ghost use Rattle.std.specs.Prelude.{true, ◌≡◌, ◌<◌, ◌≤◌, List, ℕ, Some};
+ghost use Rattle.std.specs.Prelude.{true, ◌≡◌, ◌<◌, ◌≤◌, List, ℕ, Some, [], ◌∷◌};
 ghost use Rattle.fle_outside.specs.Counts.{Rose};
 ghost use Rattle.fle_outside.specs.Files.{Files, file_of};
-ghost use Rattle.fle_outside.specs.Seen.{EntropySeen};
+ghost use Rattle.fle_outside.specs.Seen.{AsksOnly, EntropySeen};
 ghost use Rattle.fle_runner.specs.Mark.{mark_task};
 ghost use Rattle.fle_stream.specs.Acted.{Acted, AreTold, objects};
 ghost use Rattle.fle_stream.specs.Codes.{status_of};
@@ -30,6 +30,7 @@ pub fn mark<S: Source, F: Folder, O: Sink>(
     ensures run { (e : EntropySeen) → Acted AreTold (λ all. mark_task db.now (file_of all schemas.now)) one_document
         (objects (S.seen input.old) (F.seen files.old) (O.seen out.old) e)
         (objects (S.seen input.new) (F.seen files.new) (O.seen out.new) e) result }
+    ensures asked { AsksOnly (schemas.now ∷ []) (F.seen files.old) (F.seen files.new) }
     ensures formed { result.why ≡ Why.Finished Finish.Words → ⊥ }
     ensures untouched { IsUnread (status_of result.why) → (input.new ≡ input.old) × (out.new ≡ out.old) }
     ensures undrawn { result.why ≡ Why.Cut Cut.Entropy → ⊥ }

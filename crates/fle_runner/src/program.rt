@@ -4,11 +4,12 @@ ghost use Rattle.std.specs.Prelude.{true, ◌≡◌, ◌<◌, ℕ, List, None, S
 ghost use Rattle.std.specs.Int.{cast_unsigned, w64};
 ghost use Rattle.std.specs.List.{All};
 ghost use Rattle.fle_outside.specs.Files.{Files};
+ghost use Rattle.fle_outside.specs.Seen.{AsksOnly};
 ghost use Rattle.fle_runner.specs.HeadlineFiles.{OpensAll, SealsAll};
 ghost use Rattle.fle_runner.specs.HeadlinePairs.{SealsPairs};
 ghost use Rattle.fle_runner.specs.HeadlineRewrap.{RewrapsVault};
 ghost use Rattle.fle_runner.specs.Statuses.{EndsByVerb};
-ghost use Rattle.fle_runner.specs.Verbs.{AreShown, pace_for, task};
+ghost use Rattle.fle_runner.specs.Verbs.{AreShown, files_of, pace_for, task};
 ghost use Rattle.fle_words.specs.Words.{form_of, DrawsNoBlock};
 ghost use Rattle.fle_stream.specs.Ended.{Ended, IsSettled, Settles, WritesAll, WritesSurely, DrawsSurely, IsUnread};
 ghost use Rattle.fle_stream.specs.Ended.{world};
@@ -44,6 +45,8 @@ pub fn fle<S: Source, F: Folder, O: Sink, G: Sink, N: Entropy, B: Block256>(
         × (form_of (map string_bytes words.now) ≡ None → result ≡ Status.Words) }
     // Words without a form: no file is read.
     ensures unread { result ≡ Status.Words → files.new ≡ files.old }
+    // No file is asked for but those that the words name.
+    ensures asked { AsksOnly (files_of (form_of (map string_bytes words.now))) (F.seen files.old) (F.seen files.new) }
     // With 2 and 4 no call is made on the input, the output or the source of blocks.
     ensures untouched { IsUnread result → (input.new ≡ input.old) × (out.new ≡ out.old) × (entropy.new ≡ entropy.old) }
     // Where no count rose and memory lasted, the status is that of the outcome.

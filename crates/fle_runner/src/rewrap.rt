@@ -1,11 +1,11 @@
 //! `rewrap OLD NEW KEYS`: the keys of a vault under another master key.
 
-ghost use Rattle.std.specs.Prelude.{true, ◌≡◌, ◌≤◌, length, IfErr, IfOk, Ok, Some};
+ghost use Rattle.std.specs.Prelude.{true, ◌≡◌, ◌≤◌, length, IfErr, IfOk, Ok, Some, [], ◌∷◌};
 ghost use Rattle.fle_files.specs.Limits.{file_limit};
 ghost use Rattle.fle_files.specs.Setup.{Leads};
 ghost use Rattle.fle_outside.specs.Counts.{Rose};
 ghost use Rattle.fle_outside.specs.Files.{Files, file_of};
-ghost use Rattle.fle_outside.specs.Seen.{FolderSeen, SourceSeen};
+ghost use Rattle.fle_outside.specs.Seen.{AsksOnly, FolderSeen, SourceSeen};
 ghost use Rattle.fle_runner.specs.Rewrap.{IsOfRewrap, IsOfVault, rewrap_held, rewrap_task, rewrap_why, with_rewrap};
 ghost use Rattle.fle_runner.specs.Statuses.{IsUndrawn, IsUnwritten};
 ghost use Rattle.fle_stream.specs.Acted.{Acted, AreAny, AreTold, objects};
@@ -65,6 +65,8 @@ pub fn rewrap<F: Folder, O: Sink, N: Entropy, B: Block256>(
         (objects input (F.seen files.old) (O.seen out.old) (N.seen entropy.old))
         (objects input (F.seen files.new) (O.seen out.new) (N.seen entropy.new)) result }
     ensures kind { IsOfRewrap result.why }
+    ensures asked { AsksOnly (words.entry.from.now ∷ words.entry.to.now ∷ words.entry.vault.now ∷ [])
+        (F.seen files.old) (F.seen files.new) }
     ensures untouched { IsUnread (status_of result.why) → (out.new ≡ out.old) × (entropy.new ≡ entropy.old) }
     ensures unwritten { IsUnwritten (status_of result.why) → out.new ≡ out.old }
     ensures undrawn { IsUndrawn (status_of result.why) → entropy.new ≡ entropy.old }
@@ -76,6 +78,7 @@ pub fn rewrap<F: Folder, O: Sink, N: Entropy, B: Block256>(
 }
 
 /// Loads the files of the words, in order.
+#[tactic(auto, using(fle_files::proofs::Asks::asks_first, fle_files::proofs::Asks::asks_behind))]
 fn load_rewrap<F: Folder>(
     alloc: Global,
     files: &mut F,
@@ -87,6 +90,8 @@ fn load_rewrap<F: Folder>(
     ensures loaded { IfOk result (λ held. vault_of held.vault.bytes ≡ Ok held.vault.keys) }
     ensures small { IfOk result (λ held. length held.vault.bytes ≤ file_limit) }
     ensures kind { IfErr result IsOfFiles }
+    ensures asked { AsksOnly (words.entry.from.now ∷ words.entry.to.now ∷ words.entry.vault.now ∷ [])
+        (F.seen files.old) (F.seen files.new) }
     ensures cause { IfErr result (λ why. why ≡ Why.Cut Cut.Folder
         → Rose (F.seen files.old).faults (F.seen files.new).faults) }
     ensures sure { (F.seen files.old).assured ≡ true → IfErr result (λ why. why ≡ Why.Cut Cut.Folder → ⊥) }

@@ -4,6 +4,8 @@
 #![tactic(auto)]
 
 #[cfg(test)]
+mod asking_tests;
+#[cfg(test)]
 mod demo_run_tests;
 #[cfg(test)]
 mod device_tests;

@@ -123,7 +123,7 @@ pub(crate) fn document(rt: &impl Abort, alloc: Global, elements: &[&[u8]]) -> Ve
 }
 
 /// The words as the program gets them.
-fn words_of(rt: &impl Abort, alloc: Global, words: &[&str]) -> Vec<String> {
+pub(crate) fn words_of(rt: &impl Abort, alloc: Global, words: &[&str]) -> Vec<String> {
     let mut all = Vec::new(alloc);
     for word in words {
         let word = String::from_str(alloc, word).expect(rt, "memory");
@@ -133,7 +133,7 @@ fn words_of(rt: &impl Abort, alloc: Global, words: &[&str]) -> Vec<String> {
 }
 
 /// The folder of a run.
-fn folder_of(rt: &impl Abort, alloc: Global, run: Run<'_>) -> MemFolder {
+pub(crate) fn folder_of(rt: &impl Abort, alloc: Global, run: Run<'_>) -> MemFolder {
     let keys = (
         String::from_str(alloc, "keys").expect(rt, "memory"),
         Vec::from_slice(alloc, run.keys).expect(rt, "memory"),
@@ -162,14 +162,14 @@ pub(crate) fn sink_of(rt: &impl Abort, alloc: Global, room: usize, failing: &[u6
 }
 
 /// The input of a run.
-fn source_of(rt: &impl Abort, alloc: Global, run: Run<'_>) -> MemSource {
+pub(crate) fn source_of(rt: &impl Abort, alloc: Global, run: Run<'_>) -> MemSource {
     let input = Vec::from_slice(alloc, run.input).expect(rt, "memory");
     let failing = Vec::from_slice(alloc, run.source).expect(rt, "memory");
     MemSource::new(input, run.step.max(1), failing)
 }
 
 /// The blocks to come in a run.
-fn entropy_of(rt: &impl Abort, alloc: Global, run: Run<'_>) -> MemEntropy {
+pub(crate) fn entropy_of(rt: &impl Abort, alloc: Global, run: Run<'_>) -> MemEntropy {
     let blocks = Vec::from_slice(alloc, run.blocks).expect(rt, "memory");
     let failing = Vec::from_slice(alloc, run.draws).expect(rt, "memory");
     MemEntropy::new(blocks, failing)

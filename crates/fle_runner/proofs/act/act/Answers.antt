@@ -1,13 +1,14 @@
 -- The words have no form, or that of a verb, whose clauses say all.
 use Rattle.std.proofs.Common.{sym, refl, subst}
+use Rattle.fle_outside.proofs.Asked.{asks_none}
 use Rattle.fle_stream.proofs.Acts.{acts_fails}
 use Rattle.fle_stream.specs.Turn.{IsOfStream}
 use Rattle.fle_stream.specs.declared.why.Finish.TheVariants as finishes
 use Rattle.fle_runner.specs.Keygen.{IsOfKeygen}
 use Rattle.fle_runner.specs.Keys.{IsOfKeys, IsOfText}
 use Rattle.fle_runner.specs.Rewrap.{IsOfRewrap}
-use Rattle.fle_runner.proofs.Asked.{acts_asked, by_decrypt, by_demo, by_encrypt, by_encrypt_with, by_keygen, by_keys}
-use Rattle.fle_runner.proofs.Asked.{by_mark, by_none, by_rewrap, by_show, ends_asked}
+use Rattle.fle_runner.proofs.Asked.{acts_asked, asks_asked, by_decrypt, by_demo, by_encrypt, by_encrypt_with}
+use Rattle.fle_runner.proofs.Asked.{by_keygen, by_keys, by_mark, by_none, by_rewrap, by_show, ends_asked}
 use Rattle.fle_runner.proofs.VerbEnds.{stream_reads, text_reads, unasked}
 use Rattle.fle_runner.proofs.act.act.Goals as goal
 
@@ -19,8 +20,9 @@ returns-in-Nothing g c =
       unformed = λ _. refl;
       formed = λ _. asked;
       unread = λ _. refl;
+      asked = asks_asked asked (asks_none _ refl);
       untouched = λ _. (refl, refl, refl);
-      verb = ends_asked asked (by_none refl);
+      verb = ends_asked asked (by_none refl refl);
     })
 
 pub returns-in-Mark : goal.returns-in-Mark
@@ -32,6 +34,7 @@ returns-in-Mark g c =
       unformed = λ none. absurd (unasked asked none);
       formed = λ at. absurd (ends.formed at);
       unread = λ at. absurd (ends.formed at);
+      asked = asks_asked asked ends.asked;
       untouched = λ none. ((ends.untouched none).0, (ends.untouched none).1, refl);
       verb = ends_asked asked (by_mark _ refl ends.formed ends.undrawn);
     }
@@ -46,8 +49,9 @@ returns-in-Show g c =
       unformed = λ none. absurd (unasked asked none);
       formed = λ at. absurd (subst IsOfStream at ends.kind);
       unread = λ at. absurd (subst IsOfStream at ends.kind);
+      asked = asks_asked asked (asks_none _ refl);
       untouched = λ none. absurd (stream_reads _ ends.kind none);
-      verb = ends_asked asked (by_show _ refl ends.kind ends.undrawn run.in_cause);
+      verb = ends_asked asked (by_show _ refl refl ends.kind ends.undrawn run.in_cause);
     }
 
 pub returns-in-Keys : goal.returns-in-Keys
@@ -60,6 +64,7 @@ returns-in-Keys g c =
       unformed = λ none. absurd (unasked asked none);
       formed = λ at. absurd (subst IsOfKeys at ends.kind);
       unread = λ at. absurd (subst IsOfKeys at ends.kind);
+      asked = asks_asked asked ends.asked;
       untouched = λ none. (refl, ends.untouched none, refl);
       verb = ends_asked asked (by_keys _ refl refl ends.kind run.folder_cause);
     }
@@ -74,6 +79,7 @@ returns-in-Keygen g c =
       unformed = λ none. absurd (unasked asked none);
       formed = λ at. absurd (subst IsOfKeygen at ends.kind);
       unread = λ at. absurd (subst IsOfKeygen at ends.kind);
+      asked = asks_asked asked ends.asked;
       untouched = λ none. (refl, (ends.untouched none).0, (ends.untouched none).1);
       verb = ends_asked asked (by_keygen _ refl ends.kind run.folder_cause ends.eight_assured ends.none_or_eight);
     }
@@ -87,6 +93,7 @@ returns-in-Encrypt g c =
       unformed = λ none. absurd (unasked asked none);
       formed = λ at. absurd (ends.formed at);
       unread = λ at. absurd (ends.formed at);
+      asked = asks_asked asked ends.asked;
       untouched = ends.untouched;
       verb = ends_asked asked (by_encrypt _ ends.formed);
     }
@@ -100,6 +107,7 @@ returns-in-EncryptWith g c =
       unformed = λ none. absurd (unasked asked none);
       formed = λ at. absurd (ends.formed at);
       unread = λ at. absurd (ends.formed at);
+      asked = asks_asked asked ends.asked;
       untouched = ends.untouched;
       verb = ends_asked asked (by_encrypt_with _ ends.formed);
     }
@@ -113,6 +121,7 @@ returns-in-Decrypt g c =
       unformed = λ none. absurd (unasked asked none);
       formed = λ at. absurd (ends.formed at);
       unread = λ at. absurd (ends.formed at);
+      asked = asks_asked asked ends.asked;
       untouched = λ none. ((ends.untouched none).0, (ends.untouched none).1, refl);
       verb = ends_asked asked (by_decrypt _ refl ends.formed ends.undrawn);
     }
@@ -126,6 +135,7 @@ returns-in-Demo g c =
       unformed = λ none. absurd (unasked asked none);
       formed = λ at. absurd (subst IsOfText at ends.kind);
       unread = λ at. absurd (subst IsOfText at ends.kind);
+      asked = asks_asked asked (asks_none _ refl);
       untouched = λ none. absurd (text_reads _ ends.kind none);
       verb = ends_asked asked (by_demo _ refl refl refl ends.kind);
     }
@@ -140,6 +150,7 @@ returns-in-Rewrap g c =
       unformed = λ none. absurd (unasked asked none);
       formed = λ at. absurd (subst IsOfRewrap at ends.kind);
       unread = λ at. absurd (subst IsOfRewrap at ends.kind);
+      asked = asks_asked asked ends.asked;
       untouched = λ none. (refl, (ends.untouched none).0, (ends.untouched none).1);
       verb = ends_asked asked (by_rewrap _ refl ends.kind run.folder_cause ends.unwritten ends.undrawn);
     }

@@ -20,6 +20,7 @@ returns-in-Err g c =
           acts_stop (λ (all : Files). with_opening (file_of all c.args.keys.now) (file_of all c.args.master.now))
           (λ held. each (decrypt_verdict (ring held.keys held.master))) c.in-Err.why c.in-Err.ensures.kind
           c.in-Err.ensures.leads c.in-Err.ensures.cause c.in-Err.ensures.sure;
+      asked = c.in-Err.ensures.asked;
       formed = λ at. subst IsOfFiles at c.in-Err.ensures.kind;
       untouched = λ _. (refl, refl);
       undrawn = λ at. subst IsOfFiles at c.in-Err.ensures.kind;
@@ -35,6 +36,7 @@ returns-in-Ok-new g c =
           acts_behind (each (decrypt_verdict (ring c.in-Ok-new.opener.keys c.in-Ok-new.opener.cache.master)))
           (λ all has. c.in-Ok.ensures.leads all has (λ held. each (decrypt_verdict
           (ring held.keys held.master))) ∙ same) (folder_no _ ends.kind) (λ files. ends.run files e);
+      asked = c.in-Ok.ensures.asked;
       formed = λ at. subst IsOfStream at ends.kind;
       untouched = λ none. absurd (stream_reads _ ends.kind none);
       undrawn = ends.undrawn;
@@ -45,6 +47,7 @@ returns-in-Err-new g c =
     rw c.unread-in-Err-new.ensures.unread
     (record {
       run = λ e. acts_memory;
+      asked = c.in-Ok.ensures.asked;
       formed = λ at. uncut (sym at);
       untouched = λ none. absurd none;
       undrawn = memory_not_entropy;

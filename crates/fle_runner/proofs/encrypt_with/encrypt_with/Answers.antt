@@ -22,6 +22,7 @@ returns-in-Err g c =
           (file_of all words.master.now)) (λ held. pairs (encrypt_pairing
           (finder held.keys held.master) held.infos words.db.now)) c.in-Err.why c.in-Err.ensures.kind
           c.in-Err.ensures.leads c.in-Err.ensures.cause c.in-Err.ensures.sure;
+      asked = c.in-Err.ensures.asked;
       formed = λ at. subst IsOfFiles at c.in-Err.ensures.kind;
       untouched = λ _. (refl, refl, refl);
     })
@@ -39,6 +40,7 @@ returns-in-Ok-of g c =
           acts_behind (pairs (encrypt_pairing (finder engine.opener.keys engine.opener.cache.master) engine.marker.infos
           engine.marker.db.items)) (λ all has. c.in-Ok.ensures.leads all has (λ held. pairs (encrypt_pairing
           (finder held.keys held.master) held.infos db)) ∙ same) (folder_no _ ends.kind) ends.run;
+      asked = c.in-Ok.ensures.asked;
       formed = λ at. subst IsOfStream at ends.kind;
       untouched = λ none. absurd (stream_reads _ ends.kind none);
     }
@@ -46,4 +48,9 @@ returns-in-Ok-of g c =
 pub returns-in-Err-of : goal.returns-in-Err-of
 returns-in-Err-of g c =
     rw c.unread-in-Err-of.ensures.unread
-    (record { run = acts_memory; formed = λ at. uncut (sym at); untouched = λ none. absurd none })
+    (record {
+      run = acts_memory;
+      asked = c.in-Ok.ensures.asked;
+      formed = λ at. uncut (sym at);
+      untouched = λ none. absurd none;
+    })

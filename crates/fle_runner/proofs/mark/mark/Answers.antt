@@ -24,6 +24,7 @@ returns-in-Ok-new g c =
           acts_behind (each (mark_verdict c.in-Ok-new.marker.infos c.in-Ok-new.marker.db.items))
           (λ all has. c.in-Ok.ensures.leads all has (λ infos. each (mark_verdict infos c.args.db.now)) ∙ same)
           (folder_no _ ends.kind) (λ files. ends.run files e);
+      asked = c.in-Ok.ensures.asked;
       formed = λ at. subst IsOfStream at ends.kind;
       untouched = λ none. absurd (stream_reads _ ends.kind none);
       undrawn = ends.undrawn;
@@ -36,6 +37,7 @@ returns-in-Err g c =
           acts_stop (λ (all : Files). with_infos 1 (file_of all c.args.schemas.now)) (λ infos. each
           (mark_verdict infos c.args.db.now)) c.in-Err.why c.in-Err.ensures.kind c.in-Err.ensures.leads
           c.in-Err.ensures.cause (λ sure. (c.in-Err.ensures.sure sure).0);
+      asked = c.in-Err.ensures.asked;
       formed = λ at. subst IsOfFiles at c.in-Err.ensures.kind;
       untouched = λ _. (refl, refl);
       undrawn = λ at. subst IsOfFiles at c.in-Err.ensures.kind;
@@ -46,6 +48,7 @@ returns-in-Err-new g c =
     rw c.unread-in-Err-new.ensures.unread
     (record {
       run = λ e. acts_memory;
+      asked = c.in-Ok.ensures.asked;
       formed = λ at. uncut (sym at);
       untouched = λ none. absurd none;
       undrawn = memory_not_entropy;

@@ -107,8 +107,8 @@ returns-clause-write_sure g c =
     c.cast_unsigned.ensures ∙ ap (cast_unsigned w64) (to_z-of_z w64 c.args.now_ms c.ranges.now_ms) in
     let run = c.act-end.ensures.run in
     let shown = told_shown (form_of (map string_bytes c.args.words.now)) (g.F.Folder.seen c.args.files.now) in
-    rw (sym same) (λ all told has is enough at.
-    run.out_sure all told (shown all has) is enough
+    rw (sym same) (λ all told has over enough at.
+    run.out_sure all told (shown all has) over enough
     (of_write c.act-end.result.why (sym c.report.ensures.status ∙ at)))
 
 pub returns-clause-entropy_sure : goal.returns-clause-entropy_sure
@@ -117,8 +117,8 @@ returns-clause-entropy_sure g c =
     c.cast_unsigned.ensures ∙ ap (cast_unsigned w64) (to_z-of_z w64 c.args.now_ms c.ranges.now_ms) in
     let run = c.act-end.ensures.run in
     let shown = told_shown (form_of (map string_bytes c.args.words.now)) (g.F.Folder.seen c.args.files.now) in
-    rw (sym same) (λ all told has is enough at.
-    run.entropy_sure all told (shown all has) is enough
+    rw (sym same) (λ all told has over enough at.
+    run.entropy_sure all told (shown all has) over enough
     (of_entropy c.act-end.result.why (sym c.report.ensures.status ∙ at)))
 
 pub returns-clause-verb : goal.returns-clause-verb
