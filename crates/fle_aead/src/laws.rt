@@ -36,14 +36,20 @@ pub fn published_message()
 /// Any thread may own a data key, and a share of one, and read it beside others: both types are `Send` and `Sync`.
 pub fn keys_of_any_thread()
     ensures owned { IsSend data_row × IsSend shared_row }
-    ensures shared { IsSync data_row × IsSync shared_row }
+    ensures read { IsSync data_row × IsSync shared_row }
 {
-    of_any_thread::<DataKey>();
-    of_any_thread::<SharedKey>();
+    owned_anywhere::<DataKey>();
+    owned_anywhere::<SharedKey>();
+    read_anywhere::<DataKey>();
+    read_anywhere::<SharedKey>();
 }
 
-/// A value of a type that is `Send` and `Sync` may be owned by any thread, and read beside others.
-pub fn of_any_thread<T: Send + Sync>()
+/// Any thread may own a value of a type that is `Send`.
+pub fn owned_anywhere<T: Send>()
     ensures owned { IsSend T.row }
-    ensures shared { IsSync T.row }
+{}
+
+/// Threads may read a value of a type that is `Sync` side by side.
+pub fn read_anywhere<T: Sync>()
+    ensures read { IsSync T.row }
 {}

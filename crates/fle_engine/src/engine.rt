@@ -1,9 +1,9 @@
 //! What marks, seals and opens, and keeps keys, rules and opened keys from call to call.
 
-ghost use Rattle.std.specs.Prelude.{◌≡◌, IfOk};
+ghost use Rattle.std.specs.Prelude.{◌≡◌, IfOk, length};
 ghost use Rattle.context_machine.specs.Rings.{finder};
 ghost use Rattle.fle_engine.specs.Answers.{AnswerIs};
-ghost use Rattle.fle_engine.specs.Engines.{EngineIs};
+ghost use Rattle.fle_engine.specs.Engines.{EngineIs, cache_room};
 ghost use Rattle.fle_engine.specs.Loading.{parts_in};
 ghost use Rattle.fle_engine.specs.Sealing.{seal_ruling};
 
@@ -60,6 +60,7 @@ impl Engine {
     ) -> Result<Engine, Memory>
         ensures rules { IfOk result (λ e. (e.marker.db.items ≡ db.now) × (e.marker.infos ≡ infos)) }
         ensures secrets { IfOk result (λ e. (e.opener.keys ≡ keys) × (e.opener.cache.master ≡ master)) }
+        ensures room { IfOk result (λ e. e.opener.cache.capacity ≡ cache_room (length keys)) }
     {
         let marker = Marker::new(alloc, db, infos)?;
         let opener = Opener::new(alloc, keys, master)?;

@@ -13,6 +13,7 @@
 mod answer;
 mod checking;
 mod engine;
+pub mod laws;
 mod loading;
 mod marker;
 mod opener;
