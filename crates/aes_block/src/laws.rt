@@ -4,10 +4,8 @@
 ghost use Rattle.std.specs.Prelude.{◌≡◌, ℕ, ◌<◌, List};
 ghost use Rattle.aes_block.specs.Block.{IsBlock};
 ghost use Rattle.aes_block.specs.Cipher.{cipher, inv_cipher};
-ghost use Rattle.aes_block.specs.Expansion.{expanded};
 ghost use Rattle.aes_block.specs.Field.{inverse, product};
 ghost use Rattle.aes_block.specs.Substitution.{inv_sub_byte, sub_byte};
-ghost use Rattle.fle_vectors.specs.declared.aes256.TheConstants.{BLOCK_C3, EXPANSION_A3};
 
 /// InvCipher undoes Cipher (FIPS 197, 5.3), on each block and under any words.
 pub fn opening_undoes_sealing()
@@ -31,15 +29,4 @@ pub fn published_entries()
     ensures example { sub_byte 0x53 ≡ 0xED }
     ensures first_back { inv_sub_byte 0x63 ≡ 0x00 }
     ensures example_back { inv_sub_byte 0xED ≡ 0x53 }
-{}
-
-/// The definitions give the words of FIPS 197, appendix A.3, for its key of 256 bits.
-pub fn published_words()
-    ensures expanded { expanded EXPANSION_A3.key ≡ EXPANSION_A3.words }
-{}
-
-/// The definitions give the block of FIPS 197, appendix C.3, and open it.
-pub fn published_block()
-    ensures sealed { cipher (expanded BLOCK_C3.key) BLOCK_C3.plain ≡ BLOCK_C3.sealed }
-    ensures opened { inv_cipher (expanded BLOCK_C3.key) BLOCK_C3.sealed ≡ BLOCK_C3.plain }
 {}

@@ -244,16 +244,6 @@ FillsFront m n id names number =
     → slot_of n need
     ≡ cond (is_free (slot_of m need) && meets_front need id names) (Some (Some number)) (slot_of m need)
 
-meets_all : (need : Need) (k : KeyDoc) → meets_front need k.id k.names ≡ meets need k
-meets_all (Id other) k = refl
-meets_all (Name name) k = refl
-
--- all names of the key
-pub front_fills : (m n : Slots) (k : KeyDoc) (number : ℕ) → FillsFront m n k.id k.names number → FillsSlots m n k number
-front_fills m n k number front need =
-    front need
-    ∙ ap (λ (b : Bool). cond (is_free (slot_of m need) && b) (Some (Some number)) (slot_of m need)) (meets_all need k)
-
 nothing_met : (o w : Option (Option ℕ)) → cond (is_free o && false) w o ≡ o
 nothing_met None w = refl
 nothing_met (Some None) w = refl

@@ -182,9 +182,6 @@ bytes_over : (b c : Bool) (j k : List ℕ) (o : Option (List ℕ))
 bytes_over true c j k o = refl
 bytes_over false c j k o = refl
 
-last_bytes : (b : Bool) (k : List ℕ) → cond b (Some k) None ≡ or_bytes None (cond b (Some k) None)
-last_bytes b k = refl
-
 id_behind : (es : List KeyEntry) (id : List ℕ) (key : List ℕ) (other : List ℕ)
     → key_by_id (es ++ record { id = id; key = key } ∷ []) other
     ≡ or_bytes (key_by_id es other) (cond (bytes_eq id other) (Some key) None)

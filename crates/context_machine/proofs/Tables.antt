@@ -82,11 +82,6 @@ module _ (keys : Finder) (needs : List NeedAt) (shown : List HeldNeedAt) (same :
       (subst (λ (k : Result Found Reason). StopsAt (need_at_seen (get_or shown i d)) k stop) is put)
       (ap (λ (ns : List NeedAt). table_from keys before ns) (sym left_over) ∙ left)
 
--- a cache stays under its master key
-pub under_master : (kept : List KeyDoc) (now master : List ℕ) (need : Need) → now ≡ master
-    → finder kept now need ≡ finder kept master need
-under_master kept now master need same = ap (λ (m : List ℕ). finder kept m need) same
-
 -- the data key of a need, where the key that meets it was looked up
 pub of_found : (kept : List KeyDoc) (master : List ℕ) (need : Need) (found : Option KeyDoc) → found ≡ key_by kept need
     → found_key master found ≡ finder kept master need

@@ -1,13 +1,11 @@
 -- Sites that stand at values of a document, found element by element.
-use Rattle.std.proofs.Common.{◌≡◌, ◌∙◌, ℕ, zero, suc, ◌+◌, ◌<◌, ◌≤◌, Option, Some, None, List, [], ◌∷◌, length, drop}
+use Rattle.std.proofs.Common.{◌≡◌, ◌∙◌, ℕ, zero, suc, ◌+◌, ◌≤◌, Option, Some, None, List, [], ◌∷◌, length, drop}
 use Rattle.std.proofs.Common.{refl, sym, ap, subst, arith}
-use Rattle.std.specs.Prelude.{IfSome, nat_eq, is_some, true}
+use Rattle.std.specs.Prelude.{IfSome, nat_eq, true}
 use Rattle.std.proofs.lemmas.Bool.{eqb-true}
 use Rattle.encrypt_schema.specs.declared.command.marks.Mark.{Mark}
 use Rattle.encrypt_schema.specs.Language.Row.{Row}
-use Rattle.doc_rewrite.specs.Keys.{Lookup}
 use Rattle.doc_rewrite.specs.Plans.{AreNamed, AreRuled, AreMarksOf}
-use Rattle.doc_rewrite.specs.Sealing.{HasKeys}
 use Rattle.bson_tree.specs.Tree.{Tree, leaf, node, Items, no_items, item, tag_of}
 use Rattle.bson_tree.specs.Spelling.{value_bytes}
 use Rattle.bson_codec.specs.Borrowed.{At, Elem}
@@ -100,17 +98,6 @@ pub inside_told : (e : Elem) (d : At) (ss all : List Site) (found : Option ℕ) 
 inside_told e d ss all None is at taken = taken
 inside_told e d ss all (Some n) is at taken = inside_sites e d ss (drop n all) is at taken
 
--- rules of the first mark and of the others
-pub ruled_more : (n : ℕ) (all ms left : List Mark) (m : Mark) → (AreRuled n ms → AreRuled n all) → ms ≡ m ∷ left
-    → m.policy < n
-    → AreRuled n left → AreRuled n all
-ruled_more n all ms left m before first here others =
-    before (subst (λ (ns : List Mark). AreRuled n ns) (sym first) (here, others))
-
-pub ruled_end : (n i : ℕ) (all : List Mark) → length all ≤ i → (AreRuled n (drop i all) → AreRuled n all)
-    → AreRuled n all
-ruled_end n i all past before = before (subst (λ (ms : List Mark). AreRuled n ms) (sym (none_behind i all past)) tt)
-
 -- as many sites stand as there are
 pub all_told : (rows : List Row) (ms : List Mark) (d : At) (ss xs : List Site) (n m : ℕ) → xs ≡ ss
     → ss ≡ sites_of rows d ms → AreRuled (length rows) ms → AreNamed rows d ms
@@ -124,10 +111,3 @@ all_told rows ms d ss xs n m same is ruled named taken long all =
       ruled = ruled;
       named = named;
     }
-
--- keys of the first site and of the others
-pub keys_more : (keys : Lookup) (all ss left : List Site) (s : Site) → (HasKeys keys ss → HasKeys keys all)
-    → ss ≡ s ∷ left
-    → is_some (keys s.need) ≡ true → HasKeys keys left → HasKeys keys all
-keys_more keys all ss left s before first here others =
-    before (subst (λ (rs : List Site). HasKeys keys rs) (sym first) (here, others))

@@ -1,4 +1,3 @@
 pub mod SealedForm
 pub mod OpenedMessage
 pub mod Agreeing
-pub mod Published

@@ -1,13 +1,12 @@
 //! What holds of sealed messages whatever the key, as contracts of functions that do nothing: a
 //! proof calls one, or cites it, for the fact that it ensures.
 
-ghost use Rattle.std.specs.Prelude.{◌≡◌, ◌++◌, length, List, Some, ℕ};
+ghost use Rattle.std.specs.Prelude.{◌≡◌, length, List, Some, ℕ};
 ghost use denote.Param.Send.{IsSend, IsSync};
 ghost use Rattle.cbc_mode.specs.Padding.{pad};
 ghost use Rattle.fle_aead.specs.contracts.key.DataKey.{the_row as data_row};
 ghost use Rattle.fle_aead.specs.contracts.shared_key.SharedKey.{the_row as shared_row};
-ghost use Rattle.fle_aead.specs.Sealed.{IsSealed, IsSealedLength, IsTagged, body, iv_of, opened, opened_message, tag};
-ghost use Rattle.fle_vectors.specs.declared.aead.TheConstants.{AEAD_B3};
+ghost use Rattle.fle_aead.specs.Sealed.{IsSealed, IsSealedLength, IsTagged, iv_of, opened, opened_message};
 
 use crate::key::DataKey;
 use crate::shared_key::SharedKey;
@@ -24,13 +23,6 @@ pub fn sealing()
     ensures opens { (key a iv p c : List ℕ) → IsSealed key a iv p c → opened key c ≡ pad p }
     ensures message { (key a iv p c : List ℕ) → IsSealed key a iv p c
         → opened_message key a c ≡ Some p }
-{}
-
-/// The definitions give what RFC 7518, B.3 (AES_256_CBC_HMAC_SHA_512), prints for its message: S behind the IV,
-/// and T. The document's key has two parts; any 32 bytes stand behind it as the key of IVs.
-pub fn published_message()
-    ensures body { (k : List ℕ) → body (AEAD_B3.key ++ k) AEAD_B3.iv AEAD_B3.plain ≡ AEAD_B3.iv ++ AEAD_B3.sealed }
-    ensures tag { (k : List ℕ) → tag (AEAD_B3.key ++ k) AEAD_B3.aad (AEAD_B3.iv ++ AEAD_B3.sealed) ≡ AEAD_B3.tag }
 {}
 
 /// Any thread may own a data key, and a share of one, and read it beside others: both types are `Send` and `Sync`.

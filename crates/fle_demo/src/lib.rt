@@ -8,7 +8,7 @@
 
 mod commands;
 mod generator;
-mod laws;
+pub mod laws;
 mod line;
 mod opening;
 mod sealing;

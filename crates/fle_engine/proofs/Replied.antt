@@ -43,11 +43,6 @@ within bytes fits =
     let is : nat_lt reply_limit (length bytes) ≡ false = grind (arith, nat_tests) in
     ap (λ (b : Bool). cond b too_long (makes (plain_plan bytes))) is
 
-pub reply_too_long : (bytes : List ℕ) (c : Items) (e : EntropySeen) → reply_limit < length bytes
-    → AnswerIs (sized bytes) c e e answers.TooLong
-reply_too_long bytes c e above =
-    subst (λ (v : Ruling). AnswerIs v c e e answers.TooLong) (sym (over bytes above)) (draws_none e)
-
 pub reply_made : (bytes : List ℕ) (c : Items) (output : Vec ℕ Global) (e : EntropySeen) → output.items ≡ bytes
     → length bytes ≤ reply_limit → AnswerIs (sized bytes) c e e (answers.Made output)
 reply_made bytes c output e same fits =

@@ -12,7 +12,6 @@ use Rattle.command_marker.proofs.Unmarked.{passing_roles}
 use Rattle.context_machine.specs.Ready.{StopsWaiting, readied, sealed_size, values_of}
 use Rattle.context_machine.specs.Rings.{AreOpened, Finder, first_keyless, found_in, need_at, needs_of}
 use Rattle.context_machine.specs.States.{Asks, Readied, Waits}
-use Rattle.context_machine.specs.Waiting.{IsRefusal}
 use Rattle.context_machine.specs.declared.opened_keys.KeysStop.{KeysStop}
 use Rattle.context_machine.specs.declared.opened_keys.KeysStop.TheVariants as stops
 use Rattle.context_machine.proofs.Keyed.{opened_none}
@@ -22,7 +21,7 @@ use Rattle.doc_rewrite.specs.Sealed.{sealed}
 use Rattle.doc_rewrite.specs.Sealing.{FellShort, IsSealedWhole}
 use Rattle.doc_rewrite.specs.Sites.{Site, draws_of, grown, sites_of}
 use Rattle.encrypt_schema.specs.Commands.Targets.{rows_in, rows_of}
-use Rattle.encrypt_schema.specs.Commands.Visits.{Refusal, content_verdict, roles}
+use Rattle.encrypt_schema.specs.Commands.Visits.{Refusal, roles}
 use Rattle.encrypt_schema.specs.Language.Collection.{Collection}
 use Rattle.encrypt_schema.specs.Language.Row.{Row}
 use Rattle.encrypt_schema.specs.declared.command.marks.Mark.{Mark}
@@ -93,25 +92,6 @@ passed_over keys rows c e passing many =
     subst (λ (v : Ruling). AnswerIs v c e e answers.TooLong) (sym is) (draws_none e)
 
 -- ---- its contents
-
-contents_at : (rows : List Row) (command : At) → command.start ≡ 0
-    → content_verdict rows 0 command.tree ≡ content_verdict rows command.start command.tree
-contents_at rows command whole = ap (λ (n : ℕ). content_verdict rows n command.tree) (sym whole)
-
-pub contents_accepted : (keys : Finder) (rows : List Row) (command : At) → command.start ≡ 0
-    → content_verdict rows command.start command.tree ≡ None
-    → seal_contents keys rows command.tree ≡ seal_under keys rows command.tree
-contents_accepted keys rows command whole none =
-    ap (λ (r : Option Refusal). by_refusal r (seal_under keys rows command.tree))
-    (contents_at rows command whole ∙ none)
-
-pub contents_refused : (keys : Finder) (rows : List Row) (command : At) (fault : MarkFault) → command.start ≡ 0
-    → IsRefusal (content_verdict rows command.start command.tree) fault
-    → Tells fault (seal_contents keys rows command.tree)
-contents_refused keys rows command (faults.Refused reason at) whole is =
-    ap (λ (r : Option Refusal). by_refusal r (seal_under keys rows command.tree))
-    (contents_at rows command whole ∙ is)
-contents_refused keys rows command faults.Memory whole is = tt
 
 -- ---- its keys
 

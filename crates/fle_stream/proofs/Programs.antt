@@ -1,17 +1,16 @@
 -- What a verb did where it stopped before the input.
-use Rattle.std.proofs.Common.{◌+◌, ◌≡◌, ℕ, Option, Some, Err, List, [], refl, sym, subst, arith}
+use Rattle.std.proofs.Common.{◌+◌, ◌≡◌, ℕ, Option, Some, List, [], refl, sym, subst, arith}
 use Rattle.fle_outside.specs.Seen.{EntropySeen, SinkSeen}
 use Rattle.fle_outside.proofs.Drawings.{draws_none}
 use Rattle.fle_stream.specs.Acted.{EndsAs}
 use Rattle.fle_stream.specs.Did.{Did}
-use Rattle.fle_stream.specs.Files.{LoadIs}
 use Rattle.bson_tree.specs.Tree.{Items}
 use Rattle.fle_stream.specs.Pairs.{Pairing}
 use Rattle.fle_stream.specs.Plan.{Verdict}
 use Rattle.fle_stream.specs.Turn.{IsOfStream}
 use Rattle.fle_stream.specs.Outcome.{Outcome, finished}
 use Rattle.fle_stream.specs.Run.{EndsIn, Ran}
-use Rattle.fle_stream.specs.Task.{Task, each, pairs, fails, outcome_of, spans_of, start_of, with_file}
+use Rattle.fle_stream.specs.Task.{Task, each, pairs, fails, outcome_of, spans_of, start_of}
 use Rattle.fle_stream.specs.declared.why.Finish.{Finish}
 use Rattle.fle_stream.specs.declared.why.Cut.TheVariants as cuts
 use Rattle.fle_stream.specs.declared.why.Why.{Why}
@@ -74,30 +73,6 @@ did_memory t told after entropy out is = record {
       (memory_none (outcome_of t told).outputs, (0, omega arith, is));
   unread = λ _. refl;
 }
-
--- a file wasn't loaded
-pub did_load : (number limit : ℕ) (file : Option (List ℕ)) (why : Why) (next : List ℕ
-    → Task) (told : List ℕ) (after : Option (List ℕ)) (entropy : EntropySeen) (out : SinkSeen)
-    → LoadIs number limit file (Err why) → after ≡ Some told
-    → Did (with_file number limit file next) told after entropy entropy out out 0 why
-did_load number limit file (whys.Finished finish) next told after entropy out is left =
-    did_task (is next) (did_fail finish told after entropy out left)
-did_load number limit file (whys.Cut cuts.Folder) next told after entropy out is left =
-    did_folder (with_file number limit file next) told after entropy out left
-did_load number limit file (whys.Cut cuts.Memory) next told after entropy out is left =
-    did_memory (with_file number limit file next) told after entropy out left
-did_load number limit file (whys.Cut cuts.Input) next told after entropy out is left = absurd is
-did_load number limit file (whys.Cut cuts.Output) next told after entropy out is left = absurd is
-did_load number limit file (whys.Cut cuts.Entropy) next told after entropy out is left = absurd is
-
-pub ends_load : (number limit : ℕ) (file : Option (List ℕ)) (why : Why) (next : List ℕ → Task)
-    → LoadIs number limit file (Err why) → EndsAs (with_file number limit file next) why
-ends_load number limit file (whys.Finished finish) next is = ends_task (whys.Finished finish) (is next) refl
-ends_load number limit file (whys.Cut cuts.Folder) next is = tt
-ends_load number limit file (whys.Cut cuts.Memory) next is = tt
-ends_load number limit file (whys.Cut cuts.Input) next is = absurd is
-ends_load number limit file (whys.Cut cuts.Output) next is = absurd is
-ends_load number limit file (whys.Cut cuts.Entropy) next is = absurd is
 
 -- a stream was judged
 pub ends_each : (v : Items → Verdict) (why : Why) → IsOfStream why → EndsAs (each v) why

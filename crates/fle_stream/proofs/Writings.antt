@@ -209,18 +209,6 @@ stops_as too_long (whys.Finished (finishes.Limit bounds.Output)) entropy entropy
     finished_stops too_long (finishes.Limit bounds.Output) entropy entropy_after out out_after tt says
 stops_as v why entropy entropy_after out out_after says = absurd says
 
--- what an output that was written left of the counts
-pub record WritesAs (v : Verdict) (entropy entropy_after : EntropySeen) (out out_after : SinkSeen) : Type 0 where
-  pub out_later : out.faults ≤ out_after.faults
-  pub entropy_later : entropy.faults ≤ entropy_after.faults
-
-pub writes_as : (v : Verdict) (entropy entropy_after : EntropySeen) (out out_after : SinkSeen) (done : Unit {0})
-    → WriteIs v entropy entropy_after out out_after (Ok done) → WritesAs v entropy entropy_after out out_after
-writes_as (writes plan) entropy entropy_after out out_after done says =
-    record { out_later = says.wrote.later; entropy_later = says.draws.later }
-writes_as (refused reason place) entropy entropy_after out out_after done says = absurd says
-writes_as too_long entropy entropy_after out out_after done says = absurd says
-
 -- ---- the writer of a judge
 
 -- its output was written, or a part of it

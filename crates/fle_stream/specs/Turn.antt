@@ -67,16 +67,6 @@ Progresses pace taken (turns.Wrote n d) =
     (taken + 1 ≤ 2 ^ 40) × (1 ≤ d) × (d ≤ pace.documents) × (5 * d ≤ n) × (n ≤ pace.bytes * d) × (n ≤ 2 ^ 40)
 Progresses pace taken (turns.Ended at why) = Unit {0}
 
--- a turn that wrote took so many documents and bytes
-abbrev pub WroteOf : ℕ → ℕ → Turn → Type 0
-WroteOf documents size (turns.Wrote n d) = (n ≡ size) × (d ≡ documents)
-WroteOf documents size (turns.Ended at why) = Unit {0}
-
--- a turn that ended the run names the document of this number
-abbrev pub EndsAt : ℕ → Turn → Type 0
-EndsAt number (turns.Wrote n d) = Unit {0}
-EndsAt number (turns.Ended at why) = at ≡ number
-
 -- what the second half of a turn over pairs took, behind a first document of so many bytes and this number
 abbrev pub TookBehind : ℕ → ℕ → ℕ → ℕ → Turn → Type 0
 TookBehind size number before after (turns.Wrote n d) = (size ≤ n) × RoseBy before after (n - size)

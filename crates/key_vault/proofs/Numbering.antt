@@ -2,7 +2,6 @@
 use Rattle.std.proofs.Math.Seq.{drop-cons}
 use Rattle.std.proofs.Common.{◌≡◌, ◌∙◌, ◌+◌, ◌<◌, suc, arith, drop, get_or, length, ℕ, Bool, true, false, cond, not}
 use Rattle.std.proofs.Common.{◌&&◌, ◌||◌, List, [], ◌∷◌, Option, Some, bytes_eq, refl, sym, ap}
-use Rattle.std.proofs.lemmas.Bool.{false≢true}
 use Rattle.std.specs.Cmp.Lexicographic.{nat_list_eq_equiv}
 use Rattle.std.specs.Prelude.{is_some}
 use Rattle.data_key.specs.declared.key_doc.KeyDoc.{KeyDoc}
@@ -18,16 +17,6 @@ pub record Numbering (all : List KeyDoc) (old now : Numbers) (number : ℕ) (lef
       ≡ cond (is_among other before) (Some number) (number_of all old other)
   pub read : are_new (has_number all old) before left ≡ are_new (has_number all old) [] whole
   pub among : (other : List ℕ) → (is_among other before || is_among other left) ≡ is_among other whole
-
--- at the start none has it
-pub none_numbered : (all : List KeyDoc) (old : Numbers) (number : ℕ) (whole : List (List ℕ))
-    → Numbering all old old number whole whole
-none_numbered all old number whole = record {
-  before = [];
-  numbered = λ other. refl;
-  read = refl;
-  among = λ other. refl;
-}
 
 either : (a b : Bool) (number : ℕ) (o : Option ℕ)
     → cond a (Some number) (cond b (Some number) o) ≡ cond (a || b) (Some number) o
@@ -72,37 +61,9 @@ next_numbered {all = all} {old = old} {now = now} {number = number} {left = left
           ∙ (sym (ap (λ xs. is_among other n.before || is_among other xs) step) ∙ n.among other);
     }
 
-not_and : (a b : Bool) → false ≡ a → false ≡ (a && b)
-not_and true b e = absurd (false≢true e)
-not_and false b e = refl
-
--- a name that has a number is not new
-pub stops_known : {all : List KeyDoc} {old now : Numbers} {number : ℕ} {left whole : List (List ℕ)} (name : List ℕ)
-    (rest : List (List ℕ)) → Numbering all old now number left whole → left ≡ name ∷ rest
-    → false ≡ not (has_number all now name) → false ≡ are_new (has_number all old) [] whole
-stops_known {all = all} {old = old} name rest n step there =
-    not_and (not (is_among name n.before || has_number all old name))
-    (are_new (has_number all old) (name ∷ n.before) rest)
-    (there ∙ ap not (known n name))
-    ∙ (sym (ap (are_new (has_number all old) n.before) step) ∙ n.read)
-
 or_false : (a : Bool) → a ≡ (a || false)
 or_false true = refl
 or_false false = refl
-
--- where none is left all were new
-pub all_new : {all : List KeyDoc} {old now : Numbers} {number : ℕ} {left whole : List (List ℕ)}
-    → Numbering all old now number left whole → left ≡ [] → true ≡ are_new (has_number all old) [] whole
-all_new {all = all} {old = old} n none = sym (ap (are_new (has_number all old) n.before) none) ∙ n.read
-
--- and have the number
-pub all_numbered : {all : List KeyDoc} {old now : Numbers} {number : ℕ} {left whole : List (List ℕ)}
-    → Numbering all old now number left whole → left ≡ [] → (other : List ℕ)
-    → number_of all now other ≡ cond (is_among other whole) (Some number) (number_of all old other)
-all_numbered {all = all} {old = old} {number = number} n none other =
-    n.numbered other ∙ ap (λ b. cond b (Some number) (number_of all old other))
-    (or_false (is_among other n.before)
-    ∙ (sym (ap (λ xs. is_among other n.before || is_among other xs) none) ∙ n.among other))
 
 -- what is left begins with the item at hand
 pub next_of : (names : List (List ℕ)) (i : ℕ) (d : List ℕ) → i < length names

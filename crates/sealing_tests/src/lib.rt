@@ -1,8 +1,11 @@
 //! Tests of ciphers, payloads and keys: of the public calls of `hmac_sha512`, `aes_block`, `crypto_hooks`, `cbc_mode`,
 //! `fle_aead`, `payload6`, `local_kms`, `key_vault` and `rewrap_keys` (RFC 4231; FIPS 197; SP 800-38A; RFC 7518).
 //!
-//! They stand in a crate of their own since a crate with tests is proved once more for them.
+//! They stand in a crate of their own since a crate with tests is proved once more for them. `laws` has what the
+//! standards print, which the checker computes.
 #![tactic(auto)]
+
+pub mod laws;
 
 #[cfg(test)]
 mod aead_tests;

@@ -1,5 +1,5 @@
-use Rattle.aes_block.proofs.Published.{opened_c3, sealed_c3}
-use Rattle.aes_block.proofs.laws.published_block.Goals as goal
+use Rattle.sealing_tests.proofs.PublishedBlocks.{opened_c3, sealed_c3}
+use Rattle.sealing_tests.proofs.laws.published_block.Goals as goal
 
 pub returns-clause-sealed : goal.returns-clause-sealed
 returns-clause-sealed c = sealed_c3

@@ -1,0 +1,2 @@
+mod PublishedBlocks
+mod PublishedMessages
