@@ -58,3 +58,6 @@ impl Kept {
         }
     }
 }
+
+// What is owned at the address is an engine and its block of the heap, and any thread may own these.
+unsafe impl Send for Kept {}

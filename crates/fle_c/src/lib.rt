@@ -25,6 +25,7 @@ ghost use Rattle.fle_stream.specs.Plan.{Plan};
 mod blocks;
 mod calls;
 mod kept;
+mod laws;
 mod need;
 mod opening;
 mod parts;
