@@ -85,7 +85,7 @@ class Opened:
 
 
 class Engine:
-    """Engines of one database and one set of files: one in each thread that calls, since a slot stays on its thread."""
+    """Engines of one database and one set of files: one in each thread that calls; a slot takes a call at a time."""
 
     def __init__(self, calls: ctypes.CDLL, db: str, files: Sequence[str], contents: Sequence[bytes]) -> None:
         self._calls, self._files, self._own = calls, list(files), threading.local()
