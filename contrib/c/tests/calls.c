@@ -1,10 +1,15 @@
-/* calls: reads calls from standard input, makes them, and writes what each answered and what then stands at `out`.
+/* calls [SLOTS]: reads calls from standard input, makes them, and writes what each answered and what stands at `out`.
  *
  * A call is a letter and its arguments; an argument of bytes is a length of eight bytes, the lowest first, and so many
  * bytes; room is a length alone.
  *   o db keys infos master    s command blocks room    u document room    c    n size
- * Behind each but c: five numbers of eight bytes (for n two), and as many bytes as there was room, which were A5 before.
+ * Behind each but c: five numbers of eight bytes (for n two), and as many bytes as there was room, A5 before the call.
+ *
+ * With a number of slots each call is made on so many at once, on each by a thread of its own, which ends before the
+ * next call: so a slot is opened by one thread, sealed under by another, and closed by a third. All have to answer
+ * alike, and what is written is what one of them answered.
  */
+#include <pthread.h>
 #include <stdio.h>
 #include <stdlib.h>
 #include <string.h>
@@ -15,6 +20,15 @@ typedef struct {
     uint8_t *at;
     size_t size;
 } bytes;
+
+/* A call on a slot: its letter, its arguments, which all slots share, and room and answer of this slot alone. */
+typedef struct {
+    fle_slot slot;
+    int letter;
+    const bytes *in;
+    bytes out;
+    fle_answer answer;
+} turn;
 
 static size_t number(void) {
     uint8_t in[8];
@@ -32,9 +46,8 @@ static bytes argument(void) {
     return read;
 }
 
-static bytes room(void) {
-    bytes out = {NULL, number()};
-    out.at = malloc(out.size ? out.size : 1);
+static bytes room(size_t size) {
+    bytes out = {malloc(size ? size : 1), size};
     if (!out.at) exit(3);
     memset(out.at, 0xA5, out.size);
     return out;
@@ -51,29 +64,79 @@ static void tell(fle_answer answer, bytes out) {
     if (out.size) fwrite(out.at, 1, out.size, stdout);
 }
 
-int main(void) {
-    fle_slot slot = FLE_SLOT;
-    const bytes none = {NULL, 0};
-    for (int call; (call = getchar()) != EOF;) {
-        if (call == 'o') {
-            bytes db = argument(), keys = argument(), infos = argument(), master = argument();
-            tell(fle_open(&slot, db.at, db.size, keys.at, keys.size, infos.at, infos.size, master.at, master.size), none);
-            free(db.at), free(keys.at), free(infos.at), free(master.at);
-        } else if (call == 's') {
-            bytes command = argument(), blocks = argument(), out = room();
-            tell(fle_seal(&slot, command.at, command.size, blocks.at, blocks.size, out.at, out.size), out);
-            free(command.at), free(blocks.at), free(out.at);
-        } else if (call == 'u') {
-            bytes document = argument(), out = room();
-            tell(fle_unseal(&slot, document.at, document.size, out.at, out.size), out);
-            free(document.at), free(out.at);
-        } else if (call == 'n') {
+/* Makes a call, on whichever thread. */
+static void *make(void *of) {
+    turn *t = of;
+    const bytes *in = t->in, out = t->out;
+    if (t->letter == 'o') {
+        t->answer =
+            fle_open(&t->slot, in[0].at, in[0].size, in[1].at, in[1].size, in[2].at, in[2].size, in[3].at, in[3].size);
+    } else if (t->letter == 's') {
+        t->answer = fle_seal(&t->slot, in[0].at, in[0].size, in[1].at, in[1].size, out.at, out.size);
+    } else if (t->letter == 'u') {
+        t->answer = fle_unseal(&t->slot, in[0].at, in[0].size, out.at, out.size);
+    } else {
+        fle_close(&t->slot);
+    }
+    return NULL;
+}
+
+/* Makes a call on each slot, all at once, each by a thread that was started for it and has ended behind it. */
+static void make_at_once(turn *turns, size_t slots) {
+    pthread_t *threads = malloc(slots * sizeof *threads);
+    if (!threads) exit(3);
+    for (size_t i = 0; i < slots; i++) {
+        if (pthread_create(&threads[i], NULL, make, &turns[i])) exit(3);
+    }
+    for (size_t i = 0; i < slots; i++) {
+        if (pthread_join(threads[i], NULL)) exit(3);
+    }
+    free(threads);
+}
+
+static bool alike(const turn *a, const turn *b) {
+    const fle_answer *x = &a->answer, *y = &b->answer;
+    return x->status == y->status && x->reason == y->reason && x->file == y->file && x->place == y->place &&
+           x->length == y->length && memcmp(a->out.at, b->out.at, a->out.size) == 0;
+}
+
+/* Reads a call's arguments, makes it on each slot, and tells the first one's answer, which is that of all. */
+static void run(turn *turns, size_t slots, bool threads, int letter) {
+    const int arguments = letter == 'o' ? 4 : letter == 's' ? 2 : letter == 'u' ? 1 : 0;
+    bytes in[4];
+    for (int i = 0; i < arguments; i++) in[i] = argument();
+    const size_t size = letter == 's' || letter == 'u' ? number() : 0;
+    for (size_t i = 0; i < slots; i++) {
+        turns[i].letter = letter, turns[i].in = in, turns[i].out = room(size);
+        memset(&turns[i].answer, 0, sizeof turns[i].answer);
+    }
+    if (threads) {
+        make_at_once(turns, slots);
+    } else {
+        make(turns);
+    }
+    for (size_t i = 1; i < slots; i++) {
+        if (!alike(&turns[0], &turns[i])) exit(4);
+    }
+    if (arguments) tell(turns[0].answer, turns[0].out);
+    for (size_t i = 0; i < slots; i++) free(turns[i].out.at);
+    for (int i = 0; i < arguments; i++) free(in[i].at);
+}
+
+int main(int count, char **words) {
+    const bool threads = count > 1;
+    const size_t slots = threads ? strtoul(words[1], NULL, 10) : 1;
+    turn *turns = slots ? calloc(slots, sizeof *turns) : NULL; /* zeros are empty slots */
+    if (!turns) return 2;
+    for (int letter; (letter = getchar()) != EOF;) {
+        if (letter == 'n') {
             fle_need need = fle_needed(number());
             put(need.room), put(need.random);
         } else {
-            fle_close(&slot);
+            run(turns, slots, threads, letter);
         }
     }
-    fle_close(&slot);
+    run(turns, slots, threads, 'c');
+    free(turns);
     return 0;
 }
