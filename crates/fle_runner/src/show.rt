@@ -7,9 +7,8 @@ ghost use Rattle.fle_stream.specs.Acted.{Acted, AreAny, objects};
 ghost use Rattle.fle_stream.specs.Task.{one_document};
 ghost use Rattle.fle_stream.specs.Turn.{IsOfStream};
 
-use bson_codec::RawDoc;
+use bson_codec::{RawDoc, place_at};
 use ext_json::{NOT_TEXT, Piece, Shown, show_whole};
-use fle_engine::place_at;
 use fle_outside::{Entropy, Memory, Sink, Source};
 use fle_stream::{Cut, DocumentWriter, End, Finish, Number, Why, write_without_blocks};
 use std::alloc::Global;
