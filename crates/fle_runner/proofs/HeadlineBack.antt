@@ -2,8 +2,7 @@
 use Rattle.std.proofs.Common.{◌≡◌, ℕ, ◌<◌, ◌^◌, Option, Some, None, Result, Ok, Err, List, [], ◌∷◌, length, refl, ap}
 use Rattle.std.proofs.Common.{arith, Bool, true, false, cond, nat_lt, ◌+◌}
 use Rattle.std.specs.List.{All}
-use Rattle.bson_codec.specs.Reading.{IsReadBack}
-use Rattle.bson_codec.proofs.Grammar.{read_back}
+use Rattle.bson_codec.specs.Layout.{IsDoc}
 use Rattle.bson_tree.specs.Spelling.{doc_bytes}
 use Rattle.bson_tree.specs.Tree.{Items}
 use Rattle.encrypt_schema.specs.Commands.Targets.{rows_of}
@@ -43,10 +42,9 @@ come_back x (c ∷ cs) blocks (d ∷ ds) had sealed readable =
     stations_of keys rows c d sealed.3.command in
     let small = readable.3 in
     let long : length (doc_bytes d) < 2 ^ 31 = omega (arith, small) in
-    let laid = ((read_back c).0 readable.0).0 in
-    let back = opens_again keys rows x.opens (at_front c) (at_front d) laid readable.1 readable.2 had stations
+    let back = opens_again keys rows x.opens (at_front c) (at_front d) readable.0 readable.1 readable.2 had stations
     in (
-      spelled_again keys rows c d laid stations long,
+      spelled_again keys rows c d readable.0 stations long,
       small,
       opens_to x.opens c d back,
       come_back x cs sealed.1 ds had sealed.4 readable.4,
@@ -54,15 +52,15 @@ come_back x (c ∷ cs) blocks (d ∷ ds) had sealed readable =
 
 -- ---- the commands of a run
 
-one_readable : (x : Setup) (b : Bool) (w : Verdict) (c : Items) (cs ds : List Items) → verdict_of x c ≡ w → IsReadBack c
+one_readable : (x : Setup) (b : Bool) (w : Verdict) (c : Items) (cs ds : List Items) → verdict_of x c ≡ w → IsDoc c
     → ((es : List Items) → AreOpenable x cs es → AreReadable x cs es)
     → AreOpenable x (cond b (if_accepted w c cs) []) ds → AreReadable x (cond b (if_accepted w c cs) []) ds
-one_readable x false w c cs ds e back others openable = tt
-one_readable x true (refused reason place) c cs ds e back others openable = tt
-one_readable x true too_long c cs ds e back others openable = tt
-one_readable x true (writes plan) c cs [] e back others openable = tt
+one_readable x false w c cs ds e laid others openable = tt
+one_readable x true (refused reason place) c cs ds e laid others openable = tt
+one_readable x true too_long c cs ds e laid others openable = tt
+one_readable x true (writes plan) c cs [] e laid others openable = tt
 one_readable x true (writes plan) c cs (d ∷ ds) e laid others openable =
-    (back, contents_free x c (is_accepted x c plan e).none, openable.0, openable.1, others ds openable.2)
+    (laid, contents_free x c (is_accepted x c plan e).none, openable.0, openable.1, others ds openable.2)
 
 readable : (x : Setup) (taken : ℕ) (docs : Docs) (ds : List Items) → AreRead docs
     → AreOpenable x (accepted (verdict_of x) taken docs) ds → AreReadable x (accepted (verdict_of x) taken docs) ds
@@ -70,7 +68,7 @@ unfolding accepted
 readable x taken (ends rest) ds read openable = tt
 readable x taken (doc n c docs) ds read openable =
     one_readable x (nat_lt taken (2 ^ 40)) (verdict_of x c) c (accepted (verdict_of x) (taken + n) docs) ds refl
-    read.0.back (λ es rest. readable x (taken + n) docs es read.1 rest) openable
+    read.0.laid (λ es rest. readable x (taken + n) docs es read.1 rest) openable
 
 -- a run of `decrypt` over what a run of `encrypt` wrote
 pub run_back : (x : Setup) (told : List ℕ) (blocks : List Block) (ds : List Items) → OpensAgain x

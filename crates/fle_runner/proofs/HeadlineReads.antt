@@ -8,7 +8,8 @@ use Rattle.std.proofs.lemmas.List.Elements.{All-drop, All-get_or, All-take}
 use Rattle.bson_tree.specs.Spelling.{doc_bytes, items_bytes}
 use Rattle.bson_tree.specs.Tree.{Items}
 use Rattle.bson_codec.specs.Bytes.{AreBytes}
-use Rattle.bson_codec.specs.Reading.{IsReadBack, document}
+use Rattle.bson_codec.specs.Layout.{IsDoc}
+use Rattle.bson_codec.specs.Reading.{document}
 use Rattle.bson_codec.specs.declared.fault.BsonFault.{BsonFault}
 use Rattle.bson_codec.proofs.Documents.{document_takes}
 use Rattle.fle_stream.specs.Pairs.{answer_limit}
@@ -16,9 +17,9 @@ use Rattle.fle_stream.specs.Streams.{Docs, Standing, doc, document_limit, docume
 use Rattle.fle_stream.specs.Streams.{rounds, spelled, standing, stated, stops, whole}
 use Rattle.fle_stream.proofs.Streams.{standing_whole}
 
--- a document of n bytes: it is read from its bytes, as many
+-- a document of n bytes: it has a spelling, of as many bytes
 pub record IsRead (n : ℕ) (c : Items) : Type 0 where
-  pub back : IsReadBack c
+  pub laid : IsDoc c
   pub bytes : All (λ b. b < 256) (items_bytes c)
   pub size : n ≡ length (doc_bytes c)
 
@@ -46,8 +47,7 @@ spelled_read behind m bytes (Ok c) read within all others =
     let front = All-take (λ b. b < 256) m bytes all in
     let is = document_takes (take m bytes) c (are_bytes (take m bytes) front) read in (
       record {
-        back = subst (λ (bs : List ℕ). AreBytes bs × (document bs ≡ Ok c)) is.parts
-            (are_bytes (take m bytes) front, read);
+        laid = is.doc;
         bytes = inside_bytes c (subst (λ (bs : List ℕ). All (λ b. b < 256) bs) is.parts front);
         size = sym (length-take-le m bytes within) ∙ ap length is.parts;
       },

@@ -4,7 +4,7 @@ use Rattle.std.specs.Prelude.{◌≡◌, ℕ, ◌+◌, ◌^◌, ◌≤◌, ◌&&
 use Rattle.std.specs.Prelude.{length, flat_map, if◌then◌else◌}
 use Rattle.bson_tree.specs.Spelling.{doc_bytes}
 use Rattle.bson_tree.specs.Tree.{Items}
-use Rattle.bson_codec.specs.Reading.{IsReadBack}
+use Rattle.bson_codec.specs.Layout.{IsDoc}
 use Rattle.encrypt_schema.specs.Commands.Targets.{rows_of, verdict}
 use Rattle.encrypt_schema.specs.Commands.Visits.{content_verdict, roles}
 use Rattle.encrypt_schema.specs.Language.Collection.{Collection}
@@ -141,13 +141,13 @@ pub record OpensFirst (commands : List Items) (out out_after : SinkSeen) : Type 
   pub part : List ℕ
   pub gains : Gains out.told out_after.told (stream whole ++ part)
 
--- commands that their sealed forms open to: each is read from its bytes, is accepted by its contents, and has no
--- payload outside its protected values; the sealed one isn't too long for the input
+-- commands that their sealed forms open to: each has a spelling, is accepted by its contents, and has no payload
+-- outside its protected values; the sealed one isn't too long for the input
 abbrev pub AreReadable : Setup → List Items → List Items → Type 0
 AreReadable x [] ds = Unit {0}
 AreReadable x (c ∷ cs) [] = Unit {0}
 AreReadable x (c ∷ cs) (d ∷ ds) =
-    IsReadBack c
+    IsDoc c
     × (content_verdict (rows_of x.infos c) 0 c ≡ None)
     × IsPayloadFree (rows_of x.infos c) c
     × (length (doc_bytes d) ≤ 2 ^ 24)

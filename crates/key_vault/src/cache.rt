@@ -115,7 +115,7 @@ impl KeyCache {
         }
     }
 
-    /// The same, not shared. It takes no memory but to keep the key.
+    /// The same, not shared. It allocates only to keep the key.
     pub fn data_key<B: Block256>(&mut self, hooks: &B, key: &KeyDoc) -> Result<DataKey, UnwrapFault>
         requires hooks { B.answers hooks.now }
         ensures master { self.new.master ≡ self.old.master }

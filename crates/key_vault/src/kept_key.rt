@@ -45,7 +45,7 @@ impl KeptKey {
         }
     }
 
-    /// The bytes of this key, kept. It takes no memory.
+    /// The bytes of this key, kept. It allocates nothing.
     pub(crate) fn alone(key: &DataKey) -> KeptKey
         ensures key { result ≡ key.now }
     {

@@ -83,7 +83,10 @@ fn asks(rt: &impl Abort, alloc: Global, words: &[&str], line: &str) {
         ..marking(b"")
     };
     let names = asked(rt, alloc, &words_of(rt, alloc, words), run);
-    assert!(rt; line_of(rt, alloc, &names).as_slice() == line.as_bytes(), "names");
+    assert!(rt;
+        line_of(rt, alloc, &names).as_slice() == line.as_bytes(),
+        "names"
+    );
 }
 
 #[test]

@@ -5,8 +5,6 @@
 //! standards print, which the checker computes.
 #![tactic(auto)]
 
-pub mod laws;
-
 #[cfg(test)]
 mod aead_tests;
 #[cfg(test)]
@@ -19,6 +17,7 @@ mod cbc_tests;
 mod fault_tests;
 #[cfg(test)]
 mod hooks_tests;
+pub mod laws;
 #[cfg(test)]
 mod mac_tests;
 #[cfg(test)]
