@@ -1,5 +1,6 @@
 """The two sides of a comparison: fle, and libmongocrypt behind driver.c. `compare/run` puts the paths of the programs
 into FLE, DRIVER and JUDGE. A comparison prints one line: `passed: ..`, `FAILED: ..` or `skipped: ..`."""
+import glob
 import os
 import signal
 import struct
@@ -93,6 +94,13 @@ def compare(name, well, what=""):
     else:
         failed(name, what)
     return well
+
+
+def known_rows(script):
+    """The newest file of a script in compare/results, and its lines, among which the rows of its tables are."""
+    newest = max(glob.glob(f"compare/results/*-{script}.md"))
+    with open(newest, encoding="utf-8") as page:
+        return newest, set(page.read().splitlines())
 
 
 def frames(documents):
