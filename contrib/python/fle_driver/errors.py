@@ -24,13 +24,19 @@ class Closed(FleError):
     """A call after `close`."""
 
 
+class TimedOut(FleError):
+    """A process gave no answer in time: it was stopped, or has too much to do. It is ended; the next call begins
+    another one."""
+
+
 class Unsupported(FleError):
     """A client that has no place for an encrypter, or has one already; or a command that would write into the database
     past the rules, from another one."""
 
 
 class Ended(FleError):
-    """The process ended in place of an answer; the next call begins another one.
+    """The process ended in place of an answer, and so did the one that was asked behind it; the next call begins
+    another one.
 
     Raised itself where the document isn't at fault: a device failed or memory ran out (status 5 to 8), the words aren't
     right (2), a signal ended the process (the negative of its number), or the program isn't `fle`.

@@ -6,6 +6,7 @@ import shutil
 from types import TracebackType
 from typing import Optional, Type, Union
 
+from .deadline import MOST
 from .errors import NotStarted
 from .files import read_all
 from .kept import Kept
@@ -24,10 +25,14 @@ class Fle:
 
     The files are read here, once, and a fault of one is raised here: both processes begin here. One that ended, by a
     refusal or otherwise, begins anew at the next call, over what was read here: make another `Fle` where a file has
-    changed.
+    changed. A call of a process raises `TimedOut` after so many seconds, those in which it waits for other threads too;
+    with None it waits as long as it takes.
     """
 
-    def __init__(self, db: str, keys: File, schemas: File, master: File, program: Optional[File] = None) -> None:
+    def __init__(self, db: str, keys: File, schemas: File, master: File, program: Optional[File] = None,
+                 timeout: Optional[float] = 60) -> None:
+        if timeout is not None and not 0 < timeout <= MOST:
+            raise ValueError(f"a timeout of {timeout} seconds: it is above 0 and at most {MOST:,}")
         self.db = db
         calls = loaded() if program is None else None
         fle = found(program or "fle") if calls is None else ""
@@ -39,8 +44,8 @@ class Fle:
             self._opening: Union[Kept, Part] = Part(engine, False)
             return
         files = list(zip(paths, contents))
-        self._sealing = Kept([fle, "encrypt", db], files)
-        self._opening = Kept([fle, "decrypt"], [files[0], files[2]])
+        self._sealing = Kept([fle, "encrypt", db], files, timeout)
+        self._opening = Kept([fle, "decrypt"], [files[0], files[2]], timeout)
         try:
             self._sealing.ask(PING)
             self._opening.ask(EMPTY)

@@ -6,7 +6,8 @@ import threading
 import weakref
 from typing import Optional, Sequence, Tuple
 
-from .errors import Closed, ended
+from .deadline import Deadline
+from .errors import Closed, Ended, ended
 from .process import Bytes, Process
 
 STREAM = 1 << 40  # bytes that one process takes; behind them another is begun
@@ -23,11 +24,13 @@ class Kept:
     after it ended, over the same contents.
 
     A call leaves nothing in the pipes: one that doesn't come to an answer ends its process. Safe for threads, which
-    wait for one another, and for forks: a child begins a process of its own.
+    wait for one another, and for forks: a child begins a process of its own. A call may take so many seconds, those in
+    which it waits for another one too; None is no bound.
     """
 
-    def __init__(self, words: Sequence[str], files: Sequence[Tuple[str, bytes]]) -> None:
-        self._words = words
+    def __init__(self, words: Sequence[str], files: Sequence[Tuple[str, bytes]],
+                 timeout: Optional[float] = None) -> None:
+        self._words, self._timeout = words, timeout
         self._paths, self._contents = [path for path, _ in files], [content for _, content in files]
         self._lock, self._closed = threading.Lock(), False
         self._process: Optional[Process] = None
@@ -35,22 +38,42 @@ class Kept:
         ALL.add(self)
 
     def ask(self, document: Bytes) -> bytes:
-        """The answer to one document of BSON."""
+        """The answer to one document of BSON. Where a process ends with no word against the document, another one is
+        asked, once: sealing and opening change nothing."""
         want_whole(document)
-        with self._lock:
-            if self._closed:
-                raise Closed("fle was closed")
-            process = self._running()
-            try:
-                answer = process.answer(document)
-                if answer is None:
-                    raise ended(*process.end(), bytes(document), self._answered, self._paths)
-                self._answered += 1
-                self._taken += len(document)
-            except BaseException:  # KeyboardInterrupt too: no later call may read the answer to this document
-                self._stop()
+        deadline = Deadline(self._timeout)
+        lock, left = self._lock, deadline.left()
+        if not lock.acquire(timeout=-1 if left is None else left):
+            raise deadline.passed()
+        try:
+            return self._asked(document, deadline)
+        finally:
+            lock.release()
+
+    def _asked(self, document: Bytes, deadline: Deadline) -> bytes:
+        """The answer of one process, or of the next."""
+        try:
+            return self._answer(document, deadline)
+        except Ended as end:
+            if type(end) is not Ended:  # a refusal, or a file at fault
                 raise
-            return answer
+        return self._answer(document, deadline)
+
+    def _answer(self, document: Bytes, deadline: Deadline) -> bytes:
+        """The answer of the process that is kept."""
+        if self._closed:
+            raise Closed("fle was closed")
+        process = self._running()
+        try:
+            answer = process.answer(document, deadline)
+            if answer is None:
+                raise ended(*process.end(deadline), bytes(document), self._answered, self._paths)
+            self._answered += 1
+            self._taken += len(document)
+        except BaseException:  # KeyboardInterrupt too: no later call may read the answer to this document
+            self._stop()
+            raise
+        return answer
 
     def close(self) -> None:
         """Ends the process, once a call that is at work has ended."""

@@ -143,20 +143,6 @@ class Interrupted(WithFle):
                 self.fle.encrypt(OTHER)
         self.assertEqual(self.fle.encrypt(COMMAND), sealed(COMMAND))
 
-    def test_a_process_that_is_killed_within_a_call(self):
-        child, read = child_of(self.fle._sealing), os.read
-
-        def killing(end, count):
-            child.kill()
-            child.wait()
-            return b"" if end == child.stdout.fileno() else read(end, count)
-
-        with mock.patch("fle_driver.process.os.read", side_effect=killing):
-            with self.assertRaises(Ended) as ended:
-                self.fle.encrypt(OTHER)
-        self.assertEqual(ended.exception.status, -signal.SIGKILL)
-        self.assertEqual(self.fle.encrypt(COMMAND), sealed(COMMAND))
-
     def test_a_process_that_is_killed_between_calls(self):
         for kept in (self.fle._sealing, self.fle._opening):
             child_of(kept).kill()
