@@ -84,11 +84,23 @@ def ended(status: int, said: str, document: bytes, answered: int, files: Sequenc
         return FaultyFile(f"{file}: {type(reason).__name__} {name}{where}", status, 0, reason, place, file=file)
     number = max(number - answered, 0)
     if status == Status.Refused:
-        fields = field_names(document, place)
-        where = f"{fields} (place {line[4]})" if place else "the document itself"
-        return Refused(f"{name} at {where}", status, number, reason, place, fields)
+        return refused_at(name, number, reason, place, field_names(document, place))
     if status == Status.Malformed:
         return Refused(f"no BSON: {name} at offset {line[4]}", status, number, reason, place)
     if status == Status.Limit:
         return Refused(f"a limit is passed: {name}", status, number, reason, place)
     return Ended(f"fle ended with status {int(status)}, {status.name}", status, number, reason, place)
+
+
+def refused_at(name: str, number: int, reason: Optional[Fault], place: Tuple[int, ...], fields: str) -> Refused:
+    """A document that is refused, by this name of the reason, for what stands at a place of it."""
+    where = f"{fields} (place {'.'.join(map(str, place))})" if place else "the document itself"
+    return Refused(f"{name} at {where}", Status.Refused, number, reason, place, fields)
+
+
+def told_at(refused: Refused, place: Tuple[int, ...], *fields: str) -> Refused:
+    """The same refusal at another place, that of what was refused within a whole; as it is where it tells no place."""
+    if refused.status != Status.Refused:
+        return refused
+    name = str(refused).split(" at ")[0]
+    return refused_at(name, refused.document, refused.reason, place, ".".join(filter(None, fields)))

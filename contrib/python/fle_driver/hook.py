@@ -9,6 +9,7 @@ import pymongo
 from .errors import Unsupported
 from .fle import Fle
 from .reach import REACHING, name_of, reaches
+from .replies import opened
 from .sent import Sent
 
 TRIED = "pymongo 3.11"
@@ -45,7 +46,7 @@ class Hook:
 
     def decrypt(self, response: bytes) -> bytes:
         """A reply with what was sealed opened."""
-        return self._fle.decrypt(response)
+        return opened(bytes(response), self._fle.decrypt)
 
     def close(self) -> None:
         """What the client's own `close` calls."""
