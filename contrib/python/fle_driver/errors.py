@@ -30,8 +30,8 @@ class TimedOut(FleError):
 
 
 class Unsupported(FleError):
-    """A client that has no place for an encrypter, or has one already; or a command that would write into the database
-    past the rules, from another one."""
+    """A client that has no place for an encrypter, or has one already, or whose pymongo wasn't tried; or a command that
+    isn't sent: of a database or a collection that isn't named, or one that would write past the rules."""
 
 
 class Ended(FleError):

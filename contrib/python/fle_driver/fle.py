@@ -4,13 +4,14 @@ from __future__ import annotations
 import os
 import shutil
 from types import TracebackType
-from typing import Optional, Type, Union
+from typing import FrozenSet, Optional, Type, Union
 
 from .deadline import MOST
-from .errors import NotStarted
+from .errors import Closed, NotStarted
 from .files import read_all
 from .kept import Kept
 from .library import Engine, Part, loaded
+from .listed import collections_of
 from .process import Bytes
 
 File = Union[str, "os.PathLike[str]"]
@@ -38,6 +39,7 @@ class Fle:
         fle = found(program or "fle") if calls is None else ""
         paths = [os.path.abspath(path) for path in (keys, schemas, master)]
         contents = read_all(paths)
+        self._schemas: Optional[bytes] = contents[1]
         if calls is not None:
             engine = Engine(calls, db, paths, contents)
             self._sealing: Union[Kept, Part] = Part(engine, True)
@@ -61,8 +63,16 @@ class Fle:
         """A document, as a reply of the server, with each sealed value opened, and nothing else changed."""
         return self._opening.ask(document)
 
+    def collections(self) -> FrozenSet[bytes]:
+        """The names of the collections and views that SCHEMAS lists."""
+        schemas = self._schemas
+        if schemas is None:
+            raise Closed("fle was closed")
+        return collections_of(schemas)
+
     def close(self) -> None:
         """Ends both processes, once calls that are at work have ended; a later call raises `Closed`."""
+        self._schemas = None
         self._sealing.close()
         self._opening.close()
 

@@ -1,7 +1,8 @@
 """A whole pymongo client, by the hook of pymongo's own automatic encryption."""
 from __future__ import annotations
 
-from typing import Any, Mapping, NoReturn
+import re
+from typing import Any, Iterable, Mapping, NoReturn
 
 import bson
 import pymongo
@@ -10,9 +11,11 @@ from .errors import Unsupported
 from .fle import Fle
 from .reach import REACHING, name_of, reaches
 from .replies import opened
+from .scope import Scope
 from .sent import Sent
 
 TRIED = "pymongo 3.11"
+IS_TRIED = re.compile(r"3\.11(\..*)?")  # of pymongo.version
 TIME = "$clusterTime"  # the server's own; as in pymongo's own encryption it isn't judged: a check of names refuses it
 
 
@@ -21,8 +24,8 @@ class Hook:
 
     _bypass_auto_encryption = False
 
-    def __init__(self, fle: Fle) -> None:
-        self._fle = fle
+    def __init__(self, fle: Fle, others: Iterable[str] = (), plain: Iterable[str] = ()) -> None:
+        self._fle, self._scope = fle, Scope(fle, others, plain)
 
     def encrypt(self, database: str, command: Mapping[str, Any], *options: Any) -> Mapping[str, Any]:
         """The command as it is sent. pymongo 3 hands in whether names are checked, and then, as pymongo 4 does, the
@@ -34,11 +37,14 @@ class Hook:
         plain = bson.encode(judged, *options[:-1], codec_options=options[-1])
         if database == self._fle.db:
             plain = self._fle.encrypt(plain)
-        elif name_of(plain) not in REACHING:
-            return command
-        elif reaches(self._fle.db, plain):
-            raise Unsupported(f"{name_of(plain)} of another database would write into {self._fle.db} past its rules: "
-                              "write by the calls of its collections")
+            self._scope.want_collection(plain)
+        else:
+            self._scope.want_database(database, name_of(plain))
+            if name_of(plain) not in REACHING:
+                return command
+            if reaches(self._fle.db, plain):
+                raise Unsupported(f"{name_of(plain)} of another database would write into {self._fle.db} past its "
+                                  "rules: write by the calls of its collections")
         sent = Sent(plain, options[-1])
         if TIME in command:
             sent[TIME] = command[TIME]
@@ -53,18 +59,24 @@ class Hook:
         self._fle.close()
 
 
-def enable(client: pymongo.MongoClient, fle: Fle) -> None:
+def enable(client: pymongo.MongoClient, fle: Fle, others: Iterable[str] = (), plain: Iterable[str] = (), *,
+           untried: bool = False) -> None:
     """From here on the client seals what it sends to the database of `fle`, and opens each reply that it receives.
 
-    Commands that `fle` doesn't know, such as aggregate, raise `Refused` for that database. Commands of other databases
-    are sent as they are; those of them that would write into that database raise `Unsupported`. Closing the client
-    closes `fle`.
+    `others` names other databases, and `plain` collections of this one that SCHEMAS doesn't list: their values are sent
+    as they are. A command of any other, and one of another database that would write into this one, raises
+    `Unsupported`; one that `fle` doesn't know, such as aggregate, `Refused`. Closing the client closes `fle`.
+
+    A version of pymongo that wasn't tried is taken only with `untried`.
     """
     if not isinstance(client, pymongo.MongoClient) or "_encrypter" not in vars(client):
         raise Unsupported(f"no MongoClient with a place for an encrypter, in pymongo {pymongo.version}; tried: {TRIED}")
+    if not untried and not IS_TRIED.fullmatch(pymongo.version):
+        raise Unsupported(f"pymongo {pymongo.version} wasn't tried, {TRIED} was: with another one a call might pass by "
+                          "the rules. To take it all the same: enable(.., untried=True)")
     if client._encrypter is not None:
         raise Unsupported("the client has an encrypter already")
-    client._encrypter = Hook(fle)
+    client._encrypter = Hook(fle, others, plain)
     if hasattr(pymongo.MongoClient, "bulk_write"):  # pymongo 4.9 sends what it writes past the encrypter
         client.bulk_write = refuse
 

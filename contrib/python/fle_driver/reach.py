@@ -3,7 +3,7 @@ from __future__ import annotations
 
 from typing import Callable, Dict, Iterator
 
-from .walk import ARRAY, DOCUMENT, STRING, Element, elements
+from .walk import ARRAY, DOCUMENT, STRING, Element, elements, text_of
 
 
 def name_of(command: bytes) -> str:
@@ -29,7 +29,7 @@ def by_collections(db: str, element: Element) -> bool:
 
 def is_within(db: str, collection: Element) -> bool:
     """Whether a collection of bulkWrite is in this database, or has no name that can be read."""
-    return collection.tag != DOCUMENT or any(it.tag != STRING or text(it).startswith(db.encode() + b".")
+    return collection.tag != DOCUMENT or any(it.tag != STRING or text_of(it).startswith(db.encode() + b".")
                                              for it in inner(collection) if it.name == "ns")
 
 
@@ -54,18 +54,13 @@ def names(db: str, target: Element) -> bool:
     target as `into`."""
     if target.tag != DOCUMENT:
         return target.tag != STRING
-    return any(it.tag != STRING or text(it) == db.encode() if it.name == "db" else it.name == "into" and names(db, it)
-               for it in inner(target))
+    return any((it.tag != STRING or text_of(it) == db.encode()) if it.name == "db" else
+               it.name == "into" and names(db, it) for it in inner(target))
 
 
 def by_command(db: str, element: Element) -> bool:
     """explain, by the command in it."""
     return element.name == "explain" and (element.tag != DOCUMENT or reaches(db, element.value))
-
-
-def text(element: Element) -> bytes:
-    """The bytes of a text."""
-    return element.value[4:-1]
 
 
 def inner(element: Element) -> Iterator[Element]:

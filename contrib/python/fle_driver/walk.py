@@ -21,6 +21,11 @@ class Element(NamedTuple):
         return bytes([self.tag]) + self.name.encode() + b"\0" + self.value
 
 
+def text_of(string: Element) -> bytes:
+    """The bytes of a string, without the length before it and the 00 behind."""
+    return string.value[4:-1]
+
+
 def spelled(parts: Iterable[bytes]) -> bytes:
     """A document of elements that are spelled."""
     body = b"".join(parts)

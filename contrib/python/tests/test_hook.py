@@ -50,7 +50,7 @@ class OnTheWire(unittest.TestCase):
         self.wire.forget()
         self.client = pymongo.MongoClient(self.wire.uri)
         self.addCleanup(self.client.close)
-        enable(self.client, Fle(*FILES))
+        enable(self.client, Fle(*FILES), others=["other"])
         self.people = self.client.hr.people
         self.raw = self.people.with_options(codec_options=DEFAULT_RAW_BSON_OPTIONS)
 
@@ -199,6 +199,21 @@ class Clients(unittest.TestCase):
             with self.assertRaises(Unsupported):
                 self.client.bulk_write([])
         past.assert_not_called()
+
+    def test_versions(self):
+        for version, is_tried in (("3.11", True), ("3.11.4", True), ("3.110", False), ("3.10.1", False),
+                                  ("3.12.0", False), ("4.10.1", False)):
+            for untried in (False, True):
+                client = pymongo.MongoClient(connect=False)
+                self.addCleanup(client.close)
+                with self.subTest(version, untried=untried), mock.patch("pymongo.version", version):
+                    if is_tried or untried:
+                        enable(client, self.fle, untried=untried)
+                        self.assertIsInstance(client._encrypter, Hook)
+                    else:
+                        with self.assertRaisesRegex(Unsupported, f"pymongo {version} wasn't tried, pymongo 3.11 was"):
+                            enable(client, self.fle)
+                        self.assertIsNone(client._encrypter)
 
     def test_what_has_no_place_for_an_encrypter(self):
         encrypter = vars(self.client).pop("_encrypter")

@@ -107,7 +107,7 @@ class OnTheWire(unittest.TestCase):
         self.wire.forget()
         self.client = pymongo.MongoClient(self.wire.uri)
         self.addCleanup(self.client.close)
-        enable(self.client, Fle(*FILES))
+        enable(self.client, Fle(*FILES), others=["other", "admin"])
 
     def test_from_every_database(self):
         for name, command in {**REACHING, **UNREADABLE}.items():

@@ -80,7 +80,7 @@ class Counting(TypeEncoder):
 @unittest.skipUnless(shutil.which("fle"), "no fle in PATH")
 class Commands(unittest.TestCase):
     def setUp(self):
-        self.hook = Hook(Fle(*FILES))
+        self.hook = Hook(Fle(*FILES), others=["other"])
         self.addCleanup(self.hook.close)
 
     def sent(self, command, database="hr", codec=CodecOptions()):
