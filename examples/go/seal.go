@@ -1,4 +1,5 @@
 // Keeps `fle encrypt` and `fle decrypt` open and sends a command at a time through them: bytes of BSON in, bytes out.
+// Goroutines may call at once: they take turns.
 // Run from the top, with fle in PATH: go run examples/go/seal.go
 package main
 
@@ -9,6 +10,7 @@ import (
 	"io"
 	"os"
 	"os/exec"
+	"sync"
 )
 
 const (
@@ -20,8 +22,9 @@ const (
 // Kept is one process: it answers each document before it takes the next. Its line, where it refuses one, goes to our
 // own standard error.
 type Kept struct {
-	in  io.WriteCloser
-	out io.Reader
+	turn sync.Mutex
+	in   io.WriteCloser
+	out  io.Reader
 }
 
 // begin starts fle with these words.
@@ -36,11 +39,13 @@ func begin(words ...string) (*Kept, error) {
 	if err != nil {
 		return nil, err
 	}
-	return &Kept{in, out}, command.Start()
+	return &Kept{in: in, out: out}, command.Start()
 }
 
 // ask gives the answer to one document; its first four bytes are its length. After an error begin a new process.
 func (kept *Kept) ask(document []byte) ([]byte, error) {
+	kept.turn.Lock()
+	defer kept.turn.Unlock()
 	if _, err := kept.in.Write(document); err != nil {
 		return nil, err
 	}
@@ -54,24 +59,46 @@ func (kept *Kept) ask(document []byte) ([]byte, error) {
 	return answer, err
 }
 
+// askAll asks for all documents at once, each by a goroutine.
+func (kept *Kept) askAll(documents [][]byte) [][]byte {
+	var done sync.WaitGroup
+	answers := make([][]byte, len(documents))
+	for at, document := range documents {
+		done.Add(1)
+		go func(at int, document []byte) {
+			defer done.Done()
+			answer, err := kept.ask(document)
+			check(err)
+			answers[at] = answer
+		}(at, document)
+	}
+	done.Wait()
+	return answers
+}
+
 func main() {
 	seal, err := begin("encrypt", "hr", keys, schemas, master)
 	check(err)
 	unseal, err := begin("decrypt", keys, master)
 	check(err)
-	plain, err := os.ReadFile("examples/insert.bson") // or bson.Marshal(command), of MongoDB's driver
+	var plain [][]byte
+	for _, name := range []string{"insert", "find", "delete"} {
+		command, err := os.ReadFile("examples/" + name + ".bson") // or bson.Marshal(command), of MongoDB's driver
+		check(err)
+		plain = append(plain, command)
+	}
+	sealed := seal.askAll(plain)
+	again, err := seal.ask(plain[0])
 	check(err)
-	sealed, err := seal.ask(plain)
-	check(err)
-	again, err := seal.ask(plain)
-	check(err)
-	opened, err := unseal.ask(sealed)
-	check(err)
-	if !bytes.Equal(opened, plain) || !bytes.Equal(again, sealed) || bytes.Contains(sealed, []byte("123-45-6789")) {
+	holds := bytes.Equal(again, sealed[0]) && !bytes.Contains(bytes.Join(sealed, nil), []byte("123-45-6789"))
+	for at, opened := range unseal.askAll(sealed) {
+		holds = holds && bytes.Equal(opened, plain[at])
+	}
+	if !holds {
 		fmt.Println("NOT THE SAME")
 		os.Exit(1)
 	}
-	fmt.Println("sealed twice alike, and opened to the same bytes")
+	fmt.Println("three at once, one twice alike, and opened to the same bytes")
 }
 
 func check(err error) {
