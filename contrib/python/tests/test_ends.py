@@ -15,7 +15,7 @@ from concurrent.futures import ThreadPoolExecutor
 from pathlib import Path
 from unittest import mock
 
-from fle_driver import Ended, Fle, FleError, Refused, TimedOut
+from fle_driver import Ended, Fle, Refused, TimedOut
 from fle_driver.kept import Kept
 from fle_driver.process import Process
 
@@ -43,6 +43,17 @@ import os, sys
 from fle_driver import Fle
 fle = Fle(*sys.argv[1:], program="fle")
 print(fle._sealing._process._child.pid, fle._opening._process._child.pid)
+"""
+FORKED = """
+import os, sys
+from fle_driver import Fle
+fle = Fle(*sys.argv[1:], program="fle")
+before = fle._sealing._process
+child = os.fork()
+if child == 0:
+    sys.exit(0)
+os.waitpid(child, 0)
+sys.exit(0 if before.has_ended() is False and fle._sealing._process is before else 1)
 """
 
 
@@ -180,13 +191,5 @@ class Dropped(unittest.TestCase):
         self.assertEqual((len(numbers), [number for number in numbers if is_there(int(number))]), (2, []))
 
     def test_a_fork_that_ends_leaves_them(self):
-        with Fle(*FILES) as fle:
-            numbers = [child.pid for child in children_of(fle)]
-            child = os.fork()
-            if child == 0:
-                with contextlib.suppress(FleError):
-                    fle.close()
-                os._exit(0)
-            os.waitpid(child, 0)
-            self.assertEqual(fle.decrypt(fle.encrypt(COMMAND)), COMMAND)
-            self.assertEqual([child.pid for child in children_of(fle)], numbers)
+        words = [sys.executable, "-c", FORKED, *map(str, FILES)]
+        self.assertEqual(subprocess.run(words, cwd=PACKAGE, timeout=60, check=False).returncode, 0)

@@ -102,6 +102,15 @@ class OnTheWire(unittest.TestCase):
         item = [("q", FILTER), ("limit", 1)]
         self.assertEqual(delete["deletes"][0].raw, *written(updates("delete", "deletes", item), "deletes"))
 
+    def test_a_refusal_within_a_bulk_write_is_numbered_within_its_command(self):
+        people = [{"_id": number, "filling": "x" * 900_000} for number in range(5)]
+        people[4]["ssn"] = None
+        self.wire.replies = [{"ok": 1, "n": 2}] * 2
+        with self.assertRaises(Refused) as refused:
+            self.people.insert_many(people)
+        self.assertEqual(refused.exception.fields, "documents.0.ssn")
+        self.assertEqual([len(command["documents"]) for command in self.wire.came], [2, 2])
+
     def test_a_duplicate_key(self):
         self.wire.replies = [E11000, E11000]
         with self.assertRaises(DuplicateKeyError):
