@@ -4,7 +4,7 @@ from __future__ import annotations
 from typing import Callable, Iterator
 
 from .errors import Refused, told_at
-from .walk import ARRAY, DOCUMENT, Element, elements, spelled
+from .walk import ARRAY, DOCUMENT, Element, elements, shown, spelled
 
 MOST = 16_777_216  # bytes of a document that `fle` takes
 HEADS = b"\6\1", b"\6\2"  # how each payload begins: the subtype, and which algorithm sealed it
@@ -33,7 +33,7 @@ def parts_of(document: bytes, open_one: Open) -> Iterator[bytes]:
         try:
             yield opened_element(element, open_one)
         except Refused as refused:
-            raise told_at(refused, (number, *refused.place), element.name, refused.fields or "") from None
+            raise told_at(refused, (number, *refused.place), shown(element.name), refused.fields or "") from None
 
 
 def opened_element(element: Element, open_one: Open) -> bytes:

@@ -18,7 +18,7 @@ class Element(NamedTuple):
 
     def spelled(self) -> bytes:
         """Its bytes in a document."""
-        return bytes([self.tag]) + self.name.encode() + b"\0" + self.value
+        return bytes([self.tag]) + self.name.encode("utf-8", "surrogateescape") + b"\0" + self.value
 
 
 def text_of(string: Element) -> bytes:
@@ -33,12 +33,12 @@ def spelled(parts: Iterable[bytes]) -> bytes:
 
 
 def elements(document: bytes) -> Iterator[Element]:
-    """The elements of a document or an array, in their order."""
+    """The elements of a document or an array, in their order; a byte of a name that is no text is kept in it."""
     at = 4
     while document[at]:
         behind_name = document.index(0, at + 1) + 1
         behind = behind_name + width(document[at], document, behind_name)
-        name = document[at + 1:behind_name - 1].decode("utf-8", "replace")
+        name = document[at + 1:behind_name - 1].decode("utf-8", "surrogateescape")
         yield Element(document[at], name, document[behind_name:behind])
         at = behind
 
@@ -57,9 +57,14 @@ def field_names(document: bytes, place: Sequence[int]) -> str:
     names = []
     for number in place:
         child = list(elements(document))[number]
-        names.append(child.name)
+        names.append(shown(child.name))
         document = child.value
     return ".".join(names)
+
+
+def shown(name: str) -> str:
+    """A name of an element, as a text that can be written anywhere."""
+    return name.encode("utf-8", "surrogateescape").decode("utf-8", "replace")
 
 
 def place_at(document: bytes, offset: int) -> Tuple[int, ...]:

@@ -84,6 +84,8 @@ class Answers(WithFle):
         self.assertEqual(self.fle.encrypt(OTHER), sealed(OTHER))
 
     def test_large_documents(self):
+        for kept in (self.fle._sealing, self.fle._opening):
+            kept._timeout = None
         for field in (binary("unprotected", 0, bytes(LARGE)), string("salary", "x" * LARGE)):
             command = insert(spelled(field))
             answer = self.fle.encrypt(command)

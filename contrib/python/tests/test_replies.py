@@ -72,7 +72,8 @@ class Parts(unittest.TestCase):
 
     def test_one_that_is_too_long(self):
         first, plain, last = spelled(string("a", "\6\1 first")), spelled(string("b", "plain")), string("c", "\6\2 last")
-        document = spelled(element(3, "cursor", spelled(array("nextBatch", first, plain, first))), last, ODD[0])
+        document = spelled(element(3, "cursor", spelled(array("nextBatch", first, plain, first))), last, ODD[0],
+                           b"\x0a\xff\0")
         self.assertEqual(self.opened(document, 40), document.replace(b" ", b"_"))
         self.assertEqual(self.asked, [first, first, spelled(last)])
 

@@ -22,6 +22,13 @@ class Walk(unittest.TestCase):
                          [(tag, f"t{tag}", value) for tag, value in VALUES.items()])
         self.assertEqual(found[len(VALUES)].value, b"\3\0\0\0\0\0\1\2")
 
+    def test_names_that_are_no_texts(self):
+        for name in (b"\xff", b"a\xed\xa0\x80b", b"\xc3"):
+            document = spelled(b"\3" + name + b"\0" + spelled(b"\x0a" + name + b"\0"))
+            self.assertEqual(spelled(*(part.spelled() for part in elements(document))), document)
+            told = name.decode("utf-8", "replace")
+            self.assertEqual(field_names(document, (0, 0)), f"{told}.{told}")
+
     def test_names(self):
         last = len(VALUES) + 1
         self.assertEqual(field_names(WHOLE, (last, 1)), "last.señal")
