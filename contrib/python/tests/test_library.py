@@ -153,6 +153,9 @@ class Stopped:
         return self
 
 
+PING = spelled(integer("ping", 1))  # a command that passes, under whatever rules
+
+
 class ClosedBesideACall(unittest.TestCase):
     def first_call(self, fle, number):
         """A thread's first call, with `close` called by another thread at a line of it; whether it came so far, and
@@ -162,7 +165,7 @@ class ClosedBesideACall(unittest.TestCase):
         def call():
             sys.settrace(stopped)
             try:
-                fle.encrypt(spelled())
+                fle.encrypt(PING)
             except BaseException as error:
                 raised.append(error)
             finally:
