@@ -1,9 +1,8 @@
 -- The S-box by shuffles, against its definition, at each byte.
 use Rattle.std.proofs.Common.{◌≡◌, ℕ, ◌<◌, true, refl}
-use Rattle.std.specs.Prelude.{◌==◌, nat_lt, bit_xor}
+use Rattle.std.specs.Prelude.{◌==◌, bit_xor}
 use Rattle.aes_block.specs.Field.{times_x, product_by, product, product_of_squares, inverse}
 use Rattle.aes_block.specs.Substitution.{affine, sub_byte}
-use Rattle.aes_block.proofs.Linear.{below_from_test}
 use Rattle.aes_block.specs.declared.tables.TheConstants.{INVERSE, RATIO, INTO_LOW, INTO_HIGH, ONE_U, ONE_V, TWO_U}
 use Rattle.aes_block.specs.declared.tables.TheConstants.{TWO_V, LAST_U, LAST_V}
 use Rattle.aes_block.specs.Nibbles.{by_nibbles}
@@ -55,10 +54,3 @@ into-xor a b la lb = equal_from_test _ _
     (passes_at 256 (λ b. into (bit_xor a b) == bit_xor (into a) (into b))
     (passes_at 256 (λ a. passes_below 256 (λ b. into (bit_xor a b) == bit_xor (into a) (into b))) linear_pairs a la) b
     lb)
-
-into_fitting : passes_below 256 (λ b. nat_lt (into b) 256) ≡ true
-unfolding into
-into_fitting = refl
-
-pub into_fits : (b : ℕ) → b < 256 → into b < 256
-into_fits b l = below_from_test _ _ (passes_at 256 (λ b. nat_lt (into b) 256) into_fitting b l)

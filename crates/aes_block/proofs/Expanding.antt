@@ -1,14 +1,11 @@
 -- The key expansion's parts (FIPS 197, 5.2), as the code computes them.
-use Rattle.std.proofs.Common.{◌≡◌, ◌≢◌, ℕ, suc, ◌+◌, ◌-◌, ◌*◌, ◌/◌, ◌%◌, ◌^◌, ◌<◌, ◌≤◌, List, [], ◌∷◌, ◌++◌, length}
-use Rattle.std.proofs.Common.{take, get_or, true, arith, refl, sym, ◌∙◌}
+use Rattle.std.proofs.Common.{◌≡◌, ◌≢◌, ℕ, suc, ◌+◌, ◌-◌, ◌*◌, ◌/◌, ◌%◌, ◌^◌, ◌<◌, ◌≤◌, List, ◌++◌, length}
+use Rattle.std.proofs.Common.{take, true, arith, refl, sym, ◌∙◌}
 use Rattle.std.specs.Prelude.{◌==◌, bit_xor, slice_index, slice_set}
-use Rattle.std.specs.Int.{w32, from_be_bytes}
 use Rattle.std.proofs.lemmas.List.{get_or-take, take_more_set, take_all}
 use Rattle.std.proofs.Math.Seq.{take-append_seam}
 use Rattle.std.proofs.lemmas.Bool.Decides.{nat_tests}
 use Rattle.aes_block.specs.Field.{times_x}
-use Rattle.aes_block.specs.Substitution.{sub_byte}
-use Rattle.aes_block.specs.Block.{word_bytes}
 use Rattle.aes_block.specs.Expansion.{sub_word, rot_word, power_of_x, round_constant, added_word, word_at, words_to}
 use Rattle.aes_block.specs.Expansion.{key_words, expanded}
 use Rattle.aes_block.proofs.Computed.{passes_below, same_below}
@@ -23,13 +20,6 @@ round_constant-shifted n low high =
     let e : n - 1 + 1 ≡ n = omega arith in
     rw e at (same_below 7 (λ m. 1 * 2 ^ (m + 1 + 23) % 2 ^ 32) (λ m. round_constant (m + 1)) shifted_constants (n - 1)
     (omega arith))
-
-pub sub_word-bytes : (w : ℕ) {p : List ℕ} {a b c d : ℕ} → p ≡ word_bytes w
-    → a ≡ sub_byte (get_or p 0 0) → b ≡ sub_byte (get_or p 1 0) → c ≡ sub_byte (get_or p 2 0)
-    → d ≡ sub_byte (get_or p 3 0)
-    → from_be_bytes w32 (a ∷ b ∷ c ∷ d ∷ []) ≡ sub_word w
-unfolding sub_word
-sub_word-bytes w e ea eb ec ed = rw (ea, eb, ec, ed, e) refl
 
 pub added_word-turned : (i t : ℕ) → i % 8 ≡ 0
     → added_word i t ≡ bit_xor (sub_word (rot_word t)) (round_constant (i / 8))

@@ -1,7 +1,7 @@
 -- Look-ups lane by lane.
 use Rattle.std.proofs.Common.{◌≡◌, ℕ, suc, ◌+◌, ◌*◌, ◌/◌, ◌≤◌, Bool, true, false, cond, T, List, [], ◌∷◌, map, length}
 use Rattle.std.proofs.Common.{get_or, ltb, leb, refl, ap, ◌∙◌, arith, w8, Fits}
-use Rattle.std.specs.Prelude.{◌&&◌, ◌||◌, nat_lt, bit_xor}
+use Rattle.std.specs.Prelude.{◌||◌, nat_lt, bit_xor}
 use Rattle.std.proofs.lemmas.Bool.Decides.{nat_tests}
 use Rattle.std.proofs.lemmas.Simd.{swz_l, SwzOk, SwzOk-from_Each1, map-map, zip2_of_maps}
 use lib.Lanes.{zip2, Each1}

@@ -1,5 +1,5 @@
 -- One round more, and the last, of Cipher and InvCipher (FIPS 197, 5.1 and 5.3).
-use Rattle.std.proofs.Common.{◌≡◌, ℕ, suc, ◌-◌, List, refl, ◌∙◌}
+use Rattle.std.proofs.Common.{◌≡◌, ℕ, suc, ◌-◌, List, refl}
 use Rattle.aes_block.specs.Steps.{sub_bytes, inv_sub_bytes, shift_rows, inv_shift_rows, mix_columns, inv_mix_columns}
 use Rattle.aes_block.specs.Steps.{round_key, add_round_key}
 use Rattle.aes_block.specs.Cipher.{rounds, inv_rounds, cipher, inv_cipher}
@@ -23,13 +23,3 @@ pub inv_cipher-last : (w b s : List ℕ) (n : ℕ) → n ≡ 13 → s ≡ inv_ro
     → add_round_key (inv_sub_bytes (inv_shift_rows s)) (round_key w 0) ≡ inv_cipher w b
 unfolding inv_cipher
 inv_cipher-last w b s n en e = rw (e, en) refl
-
--- the same by words: a state t that a round makes of s
-pub rounds-run : (w b : List ℕ) (n : ℕ) {s t : List ℕ}
-    → t ≡ add_round_key (mix_columns (shift_rows (sub_bytes s))) (round_key w (suc n)) → s ≡ rounds w b n
-    → t ≡ rounds w b (suc n)
-rounds-run w b n e h = e ∙ rounds-next w b _ n (suc n) (suc n) refl refl h
-
-pub rounds-begin : (w b : List ℕ) {s t : List ℕ} → t ≡ add_round_key s (round_key w 0) → s ≡ b → t ≡ rounds w b 0
-unfolding rounds
-rounds-begin w b e h = rw h at e

@@ -1,7 +1,7 @@
 -- Look-ups in two blocks that stand side by side.
 use Rattle.std.proofs.Common.{◌≡◌, ℕ, suc, ◌+◌, ◌*◌, ◌/◌, ◌≤◌, ◌<◌, Bool, true, false, cond, List, [], ◌∷◌, ◌++◌, map}
 use Rattle.std.proofs.Common.{length, get_or, leb, refl, ap, ◌∙◌, arith, w8, inl, inr}
-use Rattle.std.specs.Prelude.{◌&&◌, nat_lt, bit_xor}
+use Rattle.std.specs.Prelude.{nat_lt, bit_xor}
 use Rattle.std.proofs.lemmas.Bool.{cases_lt}
 use Rattle.std.proofs.lemmas.Bool.Decides.{nat_tests}
 use Rattle.std.proofs.lemmas.List.{get_or-append_right}

@@ -1,8 +1,8 @@
 -- Places, and what takes them.
-use Rattle.std.proofs.Common.{◌≡◌, ◌∙◌, ℕ, List, [], ◌∷◌, ◌++◌, replicate, refl, sym, subst, arith}
+use Rattle.std.proofs.Common.{◌≡◌, ℕ, List, [], ◌∷◌, ◌++◌, replicate, refl, sym, subst, arith}
 use Rattle.std.proofs.lemmas.List.{length-replicate}
 use Rattle.bson_tree.specs.Tree.{leaf}
-use Rattle.bson_splice.specs.Spans.{Span, Fits, AreFits, Runs, IsNextAt}
+use Rattle.bson_splice.specs.Spans.{Span, Fits, AreFits, Runs}
 use Rattle.bson_splice.specs.Splices.{Put}
 
 -- what takes places and is as long as may be
@@ -32,16 +32,8 @@ pub record First (ss : List Span) (ps : List Put) (at : ℕ) : Type 0 where
   pub are : ps ≡ it ∷ rest
   pub starts : it.start ≡ at
 
-pub first_fits : (ss : List Span) (ps : List Put) (at : ℕ) → AreFits ss ps → IsNextAt ss at → First ss ps at
-first_fits [] ps at f next = absurd next
-first_fits (s ∷ ss) [] at f next = absurd f
-first_fits (s ∷ ss) (p ∷ ps) at f next = record { it = p; rest = ps; are = refl; starts = f.0.start ∙ next }
-
 module _ {S : Type 0} (step : S → S → Put → Type 0) where
   -- some are put in, and then others
   pub runs_then : (a b c : S) (ps qs : List Put) → Runs step a b ps → Runs step b c qs → Runs step a c (ps ++ qs)
   runs_then a b c [] qs first second = subst (λ (s : S). Runs step s c qs) (sym first) second
   runs_then a b c (p ∷ ps) qs first second = (first.0, first.1, runs_then first.0 b c ps qs first.2 second)
-
-pub none_left : (ss : List Span) (ps : List Put) → ss ≡ [] → AreFits ss ps → ps ≡ []
-none_left ss ps none f = none_fit ps (subst (λ (rs : List Span). AreFits rs ps) none f)

@@ -1,11 +1,11 @@
 -- What becomes of an element, by the next place that is taken.
-use Rattle.std.proofs.Common.{◌≡◌, ◌∙◌, ℕ, ◌+◌, ◌<◌, ◌≤◌, Bool, true, false, List, [], ◌∷◌, length, Option, Some, None}
+use Rattle.std.proofs.Common.{◌≡◌, ◌∙◌, ℕ, ◌+◌, true, false, List, [], ◌∷◌, length, Option, Some, None}
 use Rattle.std.proofs.Common.{MatchOption, option_map, unwrap_or, refl, sym, ap, subst}
 use Rattle.std.proofs.lemmas.Bool.{eq-eqb, ne_eqb, lt-ltb, le-ltb}
-use Rattle.std.specs.Prelude.{◌==◌, nat_lt}
+use Rattle.std.specs.Prelude.{◌==◌}
 use Rattle.bson_codec.specs.Borrowed.{At, Elem}
 use Rattle.bson_tree.specs.Tree.{Tree, leaf, node, Items, tag_of}
-use Rattle.bson_tree.specs.Spelling.{framed, value_bytes, items_bytes}
+use Rattle.bson_tree.specs.Spelling.{framed, items_bytes}
 use Rattle.bson_splice.specs.declared.step.Step.{Step}
 use Rattle.bson_splice.specs.declared.step.Step.TheVariants as steps
 use Rattle.bson_splice.specs.Spans.{Span, AreFits, IsNextAt}

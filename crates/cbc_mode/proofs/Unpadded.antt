@@ -3,7 +3,6 @@ use Rattle.std.proofs.Common.{◌≡◌, ℕ, ◌+◌, ◌-◌, ◌<◌, true, f
 use Rattle.std.proofs.Common.{◌∙◌, refl, rules, Some, None}
 use Rattle.std.specs.Prelude.{slice_index, bytes_eq}
 use Rattle.std.proofs.lemmas.List.{get_or-append-add, get_or-replicate, length-append, length-replicate, take_at}
-use Rattle.std.proofs.lemmas.Option.{cond_some}
 use Rattle.std.proofs.lemmas.Slice.Eq.{bytes_eq-Decides}
 use Rattle.cbc_mode.specs.Padding.{pad, padding_len, unpad}
 
@@ -51,9 +50,3 @@ unpad-none bs never =
     let n = length bs - slice_index bs (length bs - 1) in
     let off : bytes_eq (pad (take n bs)) bs ≡ false = eq_no (pad (take n bs)) bs (λ e. never (take n bs) (sym e)) in
     rw off refl
-
--- and what comes of bytes is the message whose padded form they are
-pub unpad-some : (bs p : List ℕ) → unpad bs ≡ Some p → bs ≡ pad p
-unfolding unpad
-unpad-some bs p is =
-    let both = cond_some _ _ _ is in sym (eq_from _ _ both.0) ∙ ap pad both.1

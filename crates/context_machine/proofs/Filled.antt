@@ -35,11 +35,6 @@ pub put_name : (name : List ℕ) (m n : BTreeMap (Bor (List ℕ)) (Option ℕ)) 
     → (other : List ℕ) → name_slot n other ≡ cond (bytes_eq name other) w (name_slot m other)
 put_name name m n w updates other = btree_map_updates_str name m n w updates other
 
--- a free slot is there
-pub is_there : (o : Option (Option ℕ)) → is_free o ≡ true → is_some o ≡ true
-is_there None e = absurd cc
-is_there (Some o) e = refl
-
 -- a number is put into a slot that is free
 pub fill_one_id : (id : List ℕ) (m n : BTreeMap (List ℕ) (Option ℕ)) (w : Option (Option ℕ))
     → is_free (id_slot m id) ≡ true → UpdatesBy (slice_cmp nat_cmp) (slice_cmp nat_cmp id) m n w
@@ -52,21 +47,6 @@ pub fill_one_name : (name : List ℕ) (m n : BTreeMap (Bor (List ℕ)) (Option �
     → (other : List ℕ)
     → name_slot n other ≡ cond (is_free (name_slot m name) && bytes_eq name other) w (name_slot m other)
 fill_one_name name m n w free updates other = rw free (put_name name m n w updates other)
-
--- the slot of an id, or of a name, is put, and those of other needs stay
-pub put_by_id : (old new : Slots) (id : List ℕ) (w : Option (Option ℕ)) → new.names ≡ old.names
-    → ((other : List ℕ) → id_slot new.ids other ≡ cond (bytes_eq id other) w (id_slot old.ids other))
-    → (need : Need) → slot_of new need ≡ cond (is_same (Id id) need) w (slot_of old need)
-put_by_id old new id w same put (Id other) = put other
-put_by_id old new id w same put (Name other) =
-    ap (λ (names : BTreeMap (Bor (List ℕ)) (Option ℕ)). name_slot names other) same
-
-pub put_by_name : (old new : Slots) (name : List ℕ) (w : Option (Option ℕ)) → new.ids ≡ old.ids
-    → ((other : List ℕ) → name_slot new.names other ≡ cond (bytes_eq name other) w (name_slot old.names other))
-    → (need : Need) → slot_of new need ≡ cond (is_same (Name name) need) w (slot_of old need)
-put_by_name old new name w same put (Id other) =
-    ap (λ (ids : BTreeMap (List ℕ) (Option ℕ)). id_slot ids other) same
-put_by_name old new name w same put (Name other) = put other
 
 -- ---- one slot more
 
@@ -248,9 +228,6 @@ nothing_met : (o w : Option (Option ℕ)) → cond (is_free o && false) w o ≡ 
 nothing_met None w = refl
 nothing_met (Some None) w = refl
 nothing_met (Some (Some n)) w = refl
-
-swap : (a b : Bool) (w o : Option (Option ℕ)) → a ≡ b → cond a w o ≡ cond b w o
-swap a b w o e = ap (λ (x : Bool). cond x w o) e
 
 same_id_by : (ids : BTreeMap (List ℕ) (Option ℕ)) (id other : List ℕ) (w : Option (Option ℕ)) (b : Bool)
     → bytes_eq id other ≡ b

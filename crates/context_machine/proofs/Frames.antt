@@ -8,12 +8,6 @@ use Rattle.bson_tree.specs.Spelling.{framed, doc_bytes, items_bytes}
 abbrev four_zeros : List ℕ
 four_zeros = 0 ∷ (0 ∷ (0 ∷ (0 ∷ [])))
 
--- what stands before a value
-pub named : (old a : List ℕ) (tag : ℕ) (name : List ℕ) → a ≡ old ++ (tag ∷ (name ++ 0 ∷ []))
-    → length a ≡ length old + length name + 2
-named old a tag name p =
-    omega (arith, ap length p, length-append old (tag ∷ (name ++ 0 ∷ [])), length-append name (0 ∷ []))
-
 -- what stands before the elements of a document under a name
 pub grown : (old a b : List ℕ) (tag : ℕ) (name : List ℕ) → a ≡ old ++ (tag ∷ (name ++ 0 ∷ [])) → b ≡ a ++ four_zeros
     → length b ≡ length old + length name + 6

@@ -1,6 +1,6 @@
 -- The keys that are kept answer each need as all keys do.
 use Rattle.std.proofs.Common.{◌≡◌, ◌∙◌, ◌+◌, ◌≤◌, ℕ, Bool, true, false, not, ◌&&◌, ◌||◌, cond, List, [], ◌∷◌, ◌++◌}
-use Rattle.std.proofs.Common.{length, zero, suc, take, Option, Some, None, refl, sym, ap, subst, arith}
+use Rattle.std.proofs.Common.{length, Option, Some, None, refl, sym, ap, subst, arith}
 use Rattle.std.specs.Prelude.{is_some, if◌then◌else◌}
 use Rattle.std.specs.Cmp.Lexicographic.{bytes_decides}
 use Rattle.std.proofs.lemmas.Bool.{false≢true}
@@ -281,21 +281,6 @@ ids_agree vault needs ids need other k h i e met = agreed need other (by_id need
         let same : need ≡ Id id = id_meets need id k is (found_meets need vault k e) met in
         sym (ap (key_by vault) same) ∙ e
     agreed need (Name name) is none e met = absurd none
-
--- what is among the first of these needs is among these
-needed_front : (need : Need) (k : ℕ) (ns : List NeedAt) → is_needed need (take k ns) ≡ true → is_needed need ns ≡ true
-needed_front need zero ns h = absurd (false≢true h)
-needed_front need (suc k) [] h = absurd (false≢true h)
-needed_front need (suc k) (n ∷ ns) h =
-    or_either (is_same n.need need) (is_needed need (take k ns)) h
-    (λ same. or_left (is_same n.need need) (is_needed need ns) same)
-    (λ later. or_right (is_same n.need need) (is_needed need ns) (needed_front need k ns later))
-
--- where all agree the first of them do
-pub agreed_front : (vault : List KeyDoc) (needs : List NeedAt) (k : ℕ) → AreAgreed vault needs
-    → AreAgreed vault (take k needs)
-agreed_front vault needs k agreed need other key h i found met =
-    agreed need other key (needed_front need k needs h) (needed_front other k needs i) found met
 
 module _ (vault : List KeyDoc) (needs asked : List NeedAt) (kept : List KeyDoc) (n : NeedAt)
     (agreed : AreAgreed vault (asked ++ n ∷ [])) (are : AreFedFrom vault asked kept) where

@@ -1,6 +1,6 @@
 -- The members before this one are documents, and what is left gives what all give.
-use Rattle.std.proofs.Common.{◌≡◌, ℕ, ◌+◌, ◌<◌, ◌≤◌, nat_le, Bool, true, false, cond, List, [], ◌∷◌, ◌++◌, length}
-use Rattle.std.proofs.Common.{Option, Some, None, Result, Ok, Err, IsUtf8, refl, sym, ap, ◌∙◌, arith, length-append}
+use Rattle.std.proofs.Common.{◌≡◌, ℕ, ◌+◌, ◌≤◌, nat_le, Bool, true, false, cond, List, [], ◌∷◌, ◌++◌, length}
+use Rattle.std.proofs.Common.{Option, Some, None, Result, Err, IsUtf8, refl, sym, ap, ◌∙◌, arith, length-append}
 use Rattle.std.proofs.lemmas.Bool.{false≢true, le-leb, leb-true}
 use Rattle.std.proofs.lemmas.Str.{IsUtf8-from_is_utf8, is_utf8-from_IsUtf8}
 use Rattle.std.specs.Str.{is_utf8}
@@ -12,7 +12,7 @@ use Rattle.bson_codec.specs.Layout.{IsWellFormed, level_limit, longest}
 use Rattle.ext_json.specs.declared.fault.JsonFault.{JsonFault}
 use Rattle.ext_json.specs.declared.fault.JsonFault.TheVariants as faults
 use Rattle.ext_json.specs.Bounds.{is_named, levels_in}
-use Rattle.ext_json.specs.Infos.{document_of, is_fit, member_of, member_then, members_of, infos_in, json_infos}
+use Rattle.ext_json.specs.Infos.{document_of, is_fit, member_of, members_of, infos_in, json_infos}
 use Rattle.ext_json.specs.PutMember.{IsPut}
 use Rattle.ext_json.proofs.Spelled.{well_formed_is, both, and_true}
 
@@ -55,19 +55,6 @@ member_unformed size d is stands never =
     }))) in
     rw stands (dropped (is_fit size is) is unfit)
 
-pub member_long : (size : ℕ) (d : Data) (is : Items) → document_of d ≡ Some is → longest < size + length (doc_bytes is)
-    → member_of size d ≡ None
-member_long size d is stands long =
-    let unfit : is_fit size is ≡ false = untrue (is_fit size is) (λ fit.
-    let named = both (is_named is) _ fit in
-    let rest = both (nat_le (levels_in is) level_limit) _ named.1 in
-    let room : size + length (doc_bytes is) ≤ longest = leb-true (size + length (doc_bytes is)) longest rest.1 in
-    omega (arith, room, long)) in
-    rw stands (dropped (is_fit size is) is unfit)
-
-pub member_missing : (size : ℕ) (d : Data) → document_of d ≡ None → member_of size d ≡ None
-member_missing size d none = rw none refl
-
 pub put_fits : (before after bytes : List ℕ) (d : Data) (is : Items) → document_of d ≡ Some is → IsWellFormed is
     → bytes ≡ doc_bytes is → length before + length bytes ≤ longest → after ≡ before ++ bytes → IsPut before after d
 put_fits before after bytes d is stands formed spelled fits grown =
@@ -87,17 +74,6 @@ pub goes_on : (all left rest : Values) (k : ℕ) (bytes next : List ℕ) (d : Da
 goes_on all left rest k bytes next d cut put so_far =
     let here : members_of k bytes (value_then d rest) ≡ members_of 1 [] all = rw cut at so_far in
     rw put.spelled ((rw put.stands at here))
-
-pub stops_here : (all left rest : Values) (k : ℕ) (bytes : List ℕ) (d : Data) → left ≡ value_then d rest
-    → member_of (length bytes) d ≡ None → members_of k bytes left ≡ members_of 1 [] all
-    → members_of 1 [] all ≡ Err (faults.Form k)
-stops_here all left rest k bytes d cut none so_far =
-    let here : members_of k bytes (value_then d rest) ≡ members_of 1 [] all = rw cut at so_far in
-    sym here ∙ ap (member_then (faults.Form k) (λ is. members_of (k + 1) (bytes ++ doc_bytes is) rest)) none
-
-pub ends : (all left : Values) (k : ℕ) (bytes : List ℕ) → left ≡ no_values
-    → members_of k bytes left ≡ members_of 1 [] all → members_of 1 [] all ≡ Ok bytes
-ends all left k bytes end so_far = sym (rw end at so_far)
 
 pub put_size : (bytes next : List ℕ) (d : Data) → IsPut bytes next d → length bytes + 5 ≤ length next
 put_size bytes next d put = omega (

@@ -7,10 +7,6 @@ pub repeated-next : (turn : List ℕ → List ℕ) (x out : List ℕ) (n : ℕ) 
 unfolding repeated
 repeated-next turn x out n e = rw add-one e
 
-pub repeated-none : (turn : List ℕ → List ℕ) (x : List ℕ) → x ≡ repeated turn x 0
-unfolding repeated
-repeated-none turn x = refl
-
 -- what feeds the first turn is its own end
 pub first-fed : (turn : List ℕ → List ℕ) (x : List ℕ) (k : ℕ) → length x ≡ k → x ≡ last k (repeated turn x 0)
 unfolding repeated

@@ -148,10 +148,6 @@ equal-payloads id key type p bytes bytes' s t =
 
 -- ---- opening
 
--- a message is shorter than what it is sealed to
-pub shorter : (key a iv p c : List ℕ) → IsSealed key a iv p c → length p < length c
-shorter key a iv p c s = omega (arith, sealed-length key a iv p c s)
-
 -- a length that isn't right is no payload's
 pub blocks-of : (n : ℕ) → 48 < n → n % 16 ≡ 0 → IsSealedLength n
 blocks-of n some whole = (n / 16 - 3, omega arith, omega arith)

@@ -5,8 +5,7 @@ use Rattle.std.proofs.Common.{sym, ap}
 use Rattle.bson_codec.specs.Borrowed.{At, Elem}
 use Rattle.bson_codec.specs.Elements.{TakesElement}
 use Rattle.bson_tree.specs.Spelling.{value_bytes}
-use Rattle.encrypt_schema.specs.Language.Names.{named}
-use Rattle.reply_check.specs.Wrong.{field, first_misshapen, is_misshapen}
+use Rattle.reply_check.specs.Wrong.{first_misshapen, is_misshapen}
 
 -- the next element is misshapen, or one behind it
 pub next_misshapen : (elder : List (List ℕ)) (here rest : At) (e : Elem) → TakesElement here (Some e) rest
@@ -21,14 +20,3 @@ next_misshapen elder here rest e taken =
     (first_misshapen (elder ++ e.name ∷ []) (n + length (value_bytes e.tree)) rest.tree)) p
     ∙ ap (λ (n : ℕ). cond (is_misshapen elder e.name e.tree) (Some e.start)
     (first_misshapen (elder ++ e.name ∷ []) n rest.tree)) q
-
--- the next element has the name, or one behind it
-pub next_field : (word : List ℕ) (here rest : At) (e : Elem) → TakesElement here (Some e) rest
-    → field word here.start here.tree ≡ cond (named e.name word) (Some e) (field word rest.start rest.tree)
-next_field word here rest e taken =
-    let p : here.start + (2 + length e.name) ≡ e.start = sym taken.1 in
-    let q : e.start + length (value_bytes e.tree) ≡ rest.start = sym taken.2 in
-    ap (field word here.start) taken.0
-    ∙ ap (λ (n : ℕ). cond (named e.name word) (Some (record { name = e.name; tree = e.tree; start = n }))
-    (field word (n + length (value_bytes e.tree)) rest.tree)) p
-    ∙ ap (λ (n : ℕ). cond (named e.name word) (Some e) (field word n rest.tree)) q

@@ -1,14 +1,12 @@
 -- The bytes of a document with new material.
 use Rattle.std.proofs.Common.{◌≡◌, ◌∙◌, ℕ, ◌+◌, ◌≤◌, Bool, true, cond, List, [], ◌∷◌, ◌++◌, length, take, drop}
-use Rattle.std.proofs.Common.{sym, ap, arith, append_assoc, length-append, length-take-le, Some}
+use Rattle.std.proofs.Common.{sym, ap, arith, append_assoc, length-take-le}
 use Rattle.std.specs.Prelude.{bytes_eq, codes}
 use Rattle.std.specs.Int.{w32, to_le_bytes}
 use Rattle.std.proofs.lemmas.List.{append-nil}
 use Rattle.std.proofs.Math.Seq.{take-add}
 use Rattle.bson_tree.specs.Tree.{Tree, Items, no_items, item, tag_of}
 use Rattle.bson_tree.specs.Spelling.{items_bytes, value_bytes, framed}
-use Rattle.bson_codec.specs.Borrowed.{At, Elem}
-use Rattle.bson_codec.specs.Elements.{TakesElement}
 use Rattle.data_key.specs.Written.{binary}
 use Rattle.rewrap_keys.specs.Fields.{dated, new_value, with_material}
 
@@ -32,47 +30,12 @@ material_put m name front mid out now t is before behind =
     element_put name front mid out (binary 0 m) before behind
     ∙ ap (λ (b : Bool). front ++ items_bytes (item name (cond b (binary 0 m) (dated now name t)) no_items)) (sym is)
 
--- one element, and those behind it
-pub one_item : (name : List ℕ) (t : Tree) (is : Items)
-    → items_bytes (item name t is) ≡ items_bytes (item name t no_items) ++ items_bytes is
-one_item name t is = simp append_assoc
-
 -- while the fields are written from `at` on: what is written, and what the others will be, are all of them
 pub record Filling (m : List ℕ) (now at end : ℕ) (old out : List ℕ) (all left : Items) : Type 0 where
   pub size : length out ≡ length old
   pub ends : end + length (items_bytes (with_material m now left)) ≡ at + length (items_bytes (with_material m now all))
   pub written : take end out ++ items_bytes (with_material m now left)
       ≡ take at old ++ items_bytes (with_material m now all)
-
-pub fills_next : (m : List ℕ) (now at end behind : ℕ) (old out next : List ℕ) (all : Items) (here rest : At) (e : Elem)
-    → TakesElement here (Some e) rest → Filling m now at end old out all here.tree
-    → length next ≡ length out
-    → behind ≡ end + length (items_bytes (item e.name (new_value m now e.name e.tree) no_items))
-    → take behind next ≡ take end out ++ items_bytes (item e.name (new_value m now e.name e.tree) no_items)
-    → Filling m now at behind old next all rest.tree
-fills_next m now at end behind old out next all here rest e taken f size is put =
-    let step : with_material m now here.tree
-    ≡ item e.name (new_value m now e.name e.tree) (with_material m now rest.tree)
-    = ap (with_material m now) taken.0 in
-    let parts : items_bytes (with_material m now here.tree)
-    ≡ items_bytes (item e.name (new_value m now e.name e.tree) no_items) ++ items_bytes (with_material m now rest.tree)
-    = ap items_bytes step ∙ one_item e.name (new_value m now e.name e.tree) (with_material m now rest.tree) in
-    record {
-      size = size ∙ f.size;
-      ends = omega (
-        arith,
-        f.ends,
-        is,
-        ap length parts,
-        length-append (items_bytes (item e.name (new_value m now e.name e.tree) no_items))
-            (items_bytes (with_material m now rest.tree)),
-      );
-      written =
-          ap (λ (x : List ℕ). x ++ items_bytes (with_material m now rest.tree)) put
-          ∙ append_assoc (take end out) (items_bytes (item e.name (new_value m now e.name e.tree) no_items))
-          (items_bytes (with_material m now rest.tree))
-          ∙ ap (λ (x : List ℕ). take end out ++ x) (sym parts) ∙ f.written;
-    }
 
 -- a document whose fields were written behind four bytes, and whose length was put in last
 pub closed_document : (at end behind : ℕ) (old out new elements : List ℕ) → at + 4 ≤ length old

@@ -75,10 +75,6 @@ wrote_local c d k before after old new m at end local made written ends =
       ends = ends;
     }
 
-pub fell_local : (k : KeyDoc) (before after : EntropySeen) → k.provider ≡ providers.Local → FellShort before after 1
-    → FellShort before after (draws_by k.provider)
-fell_local k before after local fell = subst (FellShort before after) (sym (ap draws_by local)) fell
-
 -- another key's document stays
 pub wrote_other : (c : Change) (d : Items) (k : KeyDoc) (e : EntropySeen) (old new : List ℕ) (at end : ℕ)
     → k.provider ≡ providers.Other → take end new ≡ take at old ++ doc_bytes d → end ≡ at + length (doc_bytes d)
