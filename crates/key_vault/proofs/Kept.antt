@@ -2,7 +2,7 @@
 use Rattle.std.proofs.Common.{◌≡◌, ◌∙◌, ℕ, zero, suc, ◌-◌, ◌==◌, length, Bool, true, false, cond, List, [], ◌∷◌, map}
 use Rattle.std.proofs.Common.{take, Option, Some, None, Result, Ok, Err, OnOk, OnErr, refl, sym, ap, subst}
 use Rattle.std.proofs.Common.{inl, inr}
-use Rattle.std.specs.Prelude.{bytes_eq, slice_get, is_some, IsSome, IsOk, option_map, unwrap_or}
+use Rattle.std.specs.Prelude.{bytes_eq, slice_get, is_some, IfSome, IfOk, IsSome, IsOk, option_map, unwrap_or}
 use Rattle.std.specs.Prelude.{if◌then◌else◌}
 use Rattle.std.specs.Option.{option_map_or}
 use Rattle.std.specs.Cmp.Lexicographic.{bytes_decides}
@@ -14,7 +14,7 @@ use Rattle.lru.proofs.CallerLemmas.{Contains-lookup, Contains-promoted, Contains
 use Rattle.data_key.specs.declared.key_doc.KeyDoc.{KeyDoc}
 use Rattle.local_kms.specs.Wrapped.{Unwraps, unwrapped, key_of_plain}
 use Rattle.key_vault.specs.declared.cache.Opened.{Opened}
-use Rattle.key_vault.specs.Cached.{AreOpened, Entry, entry_in, entry_of, found_first, is_first, is_kept}
+use Rattle.key_vault.specs.Cached.{AreOpened, Entry, entry_in, entry_of, found_first, is_kept}
 use Rattle.key_vault.specs.Cached.{kept_first, kept_key, key_from, used_first, without, KeepsOpened}
 
 -- a look-up gives what was kept
@@ -138,12 +138,12 @@ pub kept_none : (key : KeyDoc) (es : List (List ℕ × Opened)) → None ≡ loo
     → None ≡ kept_key key (map entry_of es)
 kept_none key es is = ap (key_of_opened key.material) is ∙ sym (key_by key.id key.material es)
 
-pub kept_some : (key : KeyDoc) (es : List (List ℕ × Opened)) (v : Opened) (shown : List ℕ) (b : Bool)
-    → Some v ≡ lookup (bytes_eq key.id) es → shown ≡ key.material → b ≡ bytes_eq v.material shown
-    → cond b (Some v.key) None ≡ kept_key key (map entry_of es)
-kept_some key es v shown b is same test =
-    ap (λ (t : Bool). cond t (Some v.key) None) (test ∙ ap (bytes_eq v.material) same)
-    ∙ ap (key_of_opened key.material) is ∙ sym (key_by key.id key.material es)
+pub kept_some : {E : Type 0} (key : KeyDoc) (es : List (List ℕ × Opened)) (v : Opened)
+    (r : Result (Option (List ℕ)) E) → Some v ≡ lookup (bytes_eq key.id) es
+    → IfOk r (λ k. k ≡ key_of_opened key.material (Some v)) → IfOk r (λ k. k ≡ kept_key key (map entry_of es))
+kept_some key es v r is found =
+    subst (λ (o : Option (List ℕ)). IfOk r (λ k. k ≡ o))
+    (ap (key_of_opened key.material) is ∙ sym (key_by key.id key.material es)) found
 
 -- the value whose data key was found
 abbrev HasKey : List ℕ → List ℕ → Option Opened → Type 0
@@ -164,14 +164,21 @@ kept_value : (key : KeyDoc) (k : List ℕ) (es : List (List ℕ × Opened)) → 
 kept_value key k es e =
     has_key key.material k (lookup (bytes_eq key.id) es) (sym (key_by key.id key.material es) ∙ e)
 
--- a key that is kept was opened
-pub kept_opened : (master : List ℕ) (key : KeyDoc) (k : List ℕ) (es : List (List ℕ × Opened)) → AreOpened master es
+kept_opened : (master : List ℕ) (key : KeyDoc) (k : List ℕ) (es : List (List ℕ × Opened)) → AreOpened master es
     → kept_key key (map entry_of es) ≡ Some k → Unwraps master key.material (Ok k)
 kept_opened master key k es are e =
     let v = kept_value key k es e in
     subst (λ (m : List ℕ). Unwraps master m (Ok k)) v.2
     (subst (λ (x : List ℕ). Unwraps master v.0.material (Ok x)) v.3
     (looked_up master (bytes_eq key.id) es v.0 are v.1))
+
+-- a key that is kept was opened
+pub shared_opened : {E : Type 0} (master : List ℕ) (key : KeyDoc) (r : Result (Option (List ℕ)) E)
+    (es : List (List ℕ × Opened)) → AreOpened master es → IfOk r (λ k. k ≡ kept_key key (map entry_of es))
+    → IfOk r (λ k. IfSome k (λ x. Unwraps master key.material (Ok x)))
+shared_opened master key (Ok (Some k)) es are is = kept_opened master key k es are (sym is)
+shared_opened master key (Ok None) es are is = tt
+shared_opened master key (Err x) es are is = tt
 
 -- what is promoted is the entry that is used
 pub promoted_used : (id : List ℕ) (es : List (List ℕ × Opened))
@@ -193,61 +200,9 @@ promoted_used id es = by_entry (lookup_entry (bytes_eq id) es) refl
         ∙ sym (ap (λ (x : Option Entry). found_first x (map entry_of es))
         (entry_by id es ∙ ap (option_map entry_of) is))
 
--- an entry that was found has the id
-abbrev HasId : List ℕ → Option Entry → Type 0
-HasId id None = Unit {0}
-HasId id (Some e) = id ≡ e.id
-
-has_id_if : (id : List ℕ) (b : Bool) (e : Entry) (x : Option Entry) → bytes_eq id e.id ≡ b → HasId id x
-    → HasId id (cond b (Some e) x)
-has_id_if id true e x same rest = (bytes_decides id e.id).0 same
-has_id_if id false e x same rest = rest
-
-has_id : (id : List ℕ) (es : List Entry) → HasId id (entry_in id es)
-has_id id [] = tt
-has_id id (e ∷ es) = has_id_if id (bytes_eq id e.id) e _ refl (has_id id es)
-
--- an entry is kept where one is found
-kept_in : (id : List ℕ) (es : List Entry) → is_kept id es ≡ is_some (entry_in id es)
-kept_in id [] = refl
-kept_in id (e ∷ es) =
-    ap (λ (b : Bool). cond (bytes_eq id e.id) true b) (kept_in id es)
-    ∙ some_in (bytes_eq id e.id) e (entry_in id es)
-  where
-    some_in : (b : Bool) (e : Entry) (o : Option Entry) → cond b true (is_some o) ≡ is_some (cond b (Some e) o)
-    some_in true e o = refl
-    some_in false e o = refl
-
-used_by : (capacity : ℕ) (key : KeyDoc) (k : List ℕ) (es : List Entry) (o : Option Entry) → entry_in key.id es ≡ o
-    → HasId key.id o → key_from key.material o ≡ Some k
-    → found_first o es ≡ kept_first capacity (record { id = key.id; material = key.material; key = k }) es
-used_by capacity key k es None is has e = absurd (false≢true (ap is_some e))
-used_by capacity key k es (Some f) is has e = by_test (bytes_eq f.material key.material) refl e
-  where
-    by_test : (b : Bool) → bytes_eq f.material key.material ≡ b → cond b (Some f.key) None ≡ Some k
-        → f ∷ without f.id es
-        ≡ kept_first capacity (record { id = key.id; material = key.material; key = k }) es
-    by_test true same e =
-        ap (λ (i : List ℕ). (record { id = i; material = f.material; key = f.key }) ∷ without i es) (sym has)
-        ∙ ap (λ (m : List ℕ). (record { id = key.id; material = m; key = f.key }) ∷ without key.id es)
-        ((bytes_decides f.material key.material).0 same)
-        ∙ ap (λ (x : Option (List ℕ)). (record {
-          id = key.id;
-          material = key.material;
-          key = unwrap_or x k;
-        }) ∷ without key.id es) e
-        ∙ ap (λ (b : Bool). (record { id = key.id; material = key.material; key = k })
-        ∷ cond b (without key.id es) (take (capacity - 1) es)) (sym (kept_in key.id es ∙ ap is_some is))
-    by_test false same e = absurd (false≢true (ap is_some e))
-
--- a key that is used goes first as one that was opened
-pub used_kept : (capacity : ℕ) (key : KeyDoc) (k : List ℕ) (es : List Entry) → kept_key key es ≡ Some k
-    → used_first key.id es ≡ kept_first capacity (record { id = key.id; material = key.material; key = k }) es
-used_kept capacity key k es e = used_by capacity key k es (entry_in key.id es) refl (has_id key.id es) e
-
 -- ---- the most recently used
 
--- a look-up finds it where it has the id
+-- a look-up finds it where it has the id, and it stays where it is
 pub first_looked_up : (id : List ℕ) (es : List (List ℕ × Opened)) (e : List ℕ × Opened) → Some e ≡ slice_get es 0
     → bytes_eq id e.0 ≡ true → Some e.1 ≡ lookup (bytes_eq id) es
 first_looked_up id [] e is same = absurd cc
@@ -257,29 +212,24 @@ first_looked_up id (f ∷ es) e is same =
     ∙ sym (ap (λ (b : Bool). cond b (Some f.1) (lookup (bytes_eq id) es))
     (subst (λ (x : List ℕ × Opened). bytes_eq id x.0 ≡ true) one same))
 
+pub first_promoted : (id : List ℕ) (es : List (List ℕ × Opened)) (e : List ℕ × Opened) → Some e ≡ slice_get es 0
+    → bytes_eq id e.0 ≡ true → es ≡ promoted (bytes_eq id) es
+first_promoted id [] e is same = absurd cc
+first_promoted id (f ∷ es) e is same =
+    let one : e ≡ f = ap (λ (o : Option (List ℕ × Opened)). unwrap_or o e) is in
+    sym (ap (λ (b : Bool). option_map_or (λ x. x ∷ cond b es (f ∷ remove_entry (bytes_eq id) es))
+    (cond b (Some f) (lookup_entry (bytes_eq id) es)) (f ∷ es))
+    (subst (λ (x : List ℕ × Opened). bytes_eq id x.0 ≡ true) one same))
+
 pub none_looked_up : (id : List ℕ) (es : List (List ℕ × Opened)) → None ≡ slice_get es 0
     → None ≡ lookup (bytes_eq id) es
 none_looked_up id [] is = refl
 none_looked_up id (f ∷ es) is = absurd cc
 
-pub first_by : (id : List ℕ) (es : List (List ℕ × Opened)) (e : List ℕ × Opened) → Some e ≡ slice_get es 0
-    → bytes_eq id e.0 ≡ is_first id (map entry_of es)
-first_by id [] e is = absurd cc
-first_by id (f ∷ es) e is =
-    ap (λ (x : List ℕ × Opened). bytes_eq id x.0) (ap (λ (o : Option (List ℕ × Opened)). unwrap_or o e) is)
-
-pub none_first : (id : List ℕ) (es : List (List ℕ × Opened)) → None ≡ slice_get es 0
-    → false ≡ is_first id (map entry_of es)
-none_first id [] is = refl
-none_first id (f ∷ es) is = absurd cc
-
--- used once more, it stays first
-pub used_again : (id : List ℕ) (es : List Entry) → is_first id es ≡ true → es ≡ used_first id es
-used_again id [] same = refl
-used_again id (e ∷ es) same =
-    let self : bytes_eq e.id e.id ≡ true = (bytes_decides e.id e.id).1 refl in
-    sym (ap (λ (b : Bool). found_first (cond b (Some e) (entry_in id es)) (e ∷ es)) same
-    ∙ ap (λ (b : Bool). e ∷ cond b es (e ∷ without e.id es)) self)
+pub none_promoted : (id : List ℕ) (es : List (List ℕ × Opened)) → None ≡ slice_get es 0
+    → es ≡ promoted (bytes_eq id) es
+none_promoted id [] is = refl
+none_promoted id (f ∷ es) is = absurd cc
 
 -- ---- put
 map_take : (n : ℕ) (es : List (List ℕ × Opened)) → map entry_of (take n es) ≡ take n (map entry_of es)

@@ -1,4 +1,5 @@
 pub mod Kept
+pub mod Used
 pub mod Maps
 pub mod Numbering
 pub mod Numbered

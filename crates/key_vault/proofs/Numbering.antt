@@ -61,10 +61,6 @@ next_numbered {all = all} {old = old} {now = now} {number = number} {left = left
           ∙ (sym (ap (λ xs. is_among other n.before || is_among other xs) step) ∙ n.among other);
     }
 
-or_false : (a : Bool) → a ≡ (a || false)
-or_false true = refl
-or_false false = refl
-
 -- what is left begins with the item at hand
 pub next_of : (names : List (List ℕ)) (i : ℕ) (d : List ℕ) → i < length names
     → drop i names ≡ get_or names i d ∷ drop (i + 1) names

@@ -85,15 +85,10 @@ KeepsOpened capacity key opened before now =
     (now ≡ kept_first capacity (record { id = key.id; material = key.material; key = opened }) before)
     ⊎ ((is_kept key.id before ≡ false) × (now ≡ before))
 
--- the most recently used entry has this id
-abbrev pub is_first : List ℕ → List Entry → Bool
-is_first id [] = false
-is_first id (e ∷ es) = bytes_eq id e.id
-
--- after a refusal, or for want of memory, the list is as before
+-- where no key is answered, what is kept under its id was used all the same
 abbrev pub Keeps : {E : Type 0} → ℕ → KeyDoc → List Entry → List Entry → Result (List ℕ) E → Type 0
 Keeps capacity key before now (Ok opened) = KeepsOpened capacity key opened before now
-Keeps capacity key before now (Err _) = now ≡ before
+Keeps capacity key before now (Err _) = now ≡ used_first key.id before
 
 -- what a cache answers for a key's material: its data key, or its fault; want of memory may come at any time
 abbrev pub Opens : List ℕ → List ℕ → Result (List ℕ) OpenStop → Type 0

@@ -1,5 +1,5 @@
 -- The numbers of texts, each the id or a name of a key: the first text of a hash by the hash, the others by themselves
-use Rattle.std.specs.Prelude.{◌<◌, ℕ, Bool, false, List, length, Option, Some, None, Vec, bytes_eq, is_some}
+use Rattle.std.specs.Prelude.{◌<◌, ℕ, Bool, false, List, length, Option, Some, None, bytes_eq, is_some}
 use Rattle.std.specs.Prelude.{if◌then◌else◌, slice_get, IfSome}
 use Rattle.std.specs.BTreeMap.{BTreeMap, get_by}
 use Rattle.std.specs.Ordering.{nat_cmp}

@@ -1,10 +1,10 @@
 //! A bounded cache of opened keys.
 
-ghost use Rattle.std.specs.Prelude.{◌≡◌, [], map, length, bytes_eq, option_copied, option_map, Ok, IfOk, IfSome};
-ghost use Rattle.std.specs.Map.{lookup};
+ghost use Rattle.std.specs.Prelude.{◌≡◌, [], map, length, bytes_eq, Some, Ok, IfOk, IfSome, OnErr};
 ghost use Rattle.std.specs.NonZero.{non_zero_usize_get};
+ghost use Rattle.lru.specs.LruCache.{lru_cache, promoted};
 ghost use Rattle.local_kms.specs.Wrapped.{Unwraps};
-ghost use Rattle.key_vault.specs.Cached.{AreOpened, entry_of, is_first, Keeps, KeepsOpened, kept_key, Opens};
+ghost use Rattle.key_vault.specs.Cached.{AreOpened, entry_of, Keeps, KeepsOpened, kept_key, key_from, Opens};
 ghost use Rattle.key_vault.specs.Cached.{used_first};
 
 use crate::kept_key::KeptKey;
@@ -94,8 +94,9 @@ impl KeyCache {
     }
 
     /// The data key of a key under the cache's master key, shared: found where it is kept with this material, else
-    /// opened and kept. A key that isn't opened isn't kept. Where there is no memory to keep one, it is answered all
-    /// the same; where there is none to share it, nothing changes.
+    /// opened and kept. What is kept under the key's id counts as used, also where it has other material or the key
+    /// isn't answered. A key that isn't opened isn't kept. Where there is no memory to keep one, it is answered all
+    /// the same.
     pub fn open<B: Block256>(&mut self, hooks: &B, key: &KeyDoc) -> Result<SharedKey, OpenStop>
         requires hooks { B.answers hooks.now }
         ensures master { self.new.master ≡ self.old.master }
@@ -104,14 +105,9 @@ impl KeyCache {
         ensures kept { Keeps self.old.capacity key.now self.old.entries self.new.entries result }
     {
         match self.kept_key(key) {
-            Some(kept) => match kept.share(self.alloc) {
-                Ok(shared) => {
-                    self.promote(&key.id);
-                    Ok(shared)
-                }
-                Err(Memory) => Err(OpenStop::Memory),
-            },
-            None => self.open_new(hooks, key),
+            Ok(Some(shared)) => Ok(shared),
+            Ok(None) => self.open_new(hooks, key),
+            Err(Memory) => Err(OpenStop::Memory),
         }
     }
 
@@ -136,7 +132,8 @@ impl KeyCache {
         ensures master { self.new.master ≡ self.old.master }
         ensures capacity { self.new.capacity ≡ self.old.capacity }
         ensures answer { Opens self.old.master key.now.material result }
-        ensures kept { Keeps self.old.capacity key.now self.old.entries self.new.entries result }
+        ensures kept { IfOk result (λ k. KeepsOpened self.old.capacity key.now k self.old.entries self.new.entries) }
+        ensures refused { OnErr result (self.new.entries ≡ self.old.entries) }
     {
         match unwrap_key(hooks, &self.master, key.material.as_slice()) {
             Ok(opened) => match SharedKey::new(self.alloc, opened) {
@@ -156,7 +153,8 @@ impl KeyCache {
         ensures master { self.new.master ≡ self.old.master }
         ensures capacity { self.new.capacity ≡ self.old.capacity }
         ensures answer { Unwraps self.old.master key.now.material result }
-        ensures kept { Keeps self.old.capacity key.now self.old.entries self.new.entries result }
+        ensures kept { IfOk result (λ k. KeepsOpened self.old.capacity key.now k self.old.entries self.new.entries) }
+        ensures refused { OnErr result (self.new.entries ≡ self.old.entries) }
     {
         match unwrap_key(hooks, &self.master, key.material.as_slice()) {
             Ok(opened) => {
@@ -167,26 +165,16 @@ impl KeyCache {
         }
     }
 
-    /// The data key, where it is kept under the key's id with its material; `None` exactly where it isn't.
-    fn kept_key(&self, key: &KeyDoc) -> Option<&KeptKey>
-        ensures kept { option_copied result ≡ kept_key key.now self.now.entries }
-        ensures opened { IfSome result (λ k. Unwraps self.now.master key.now.material (Ok k.now)) }
-    {
-        match found(&self.kept, key) {
-            Some(opened) => Some(&opened.key),
-            None => None,
-        }
-    }
-
-    /// Makes the key of this id the most recently used, where one is kept.
-    fn promote(&mut self, id: &[u8; 16])
+    /// The data key, shared, where it is kept under the key's id with its material; `None` exactly where it isn't.
+    /// What is kept under the id is the most recently used from then on. `Memory` where there is none to share it.
+    fn kept_key(&mut self, key: &KeyDoc) -> Result<Option<SharedKey>, Memory>
         ensures master { self.new.master ≡ self.old.master }
         ensures capacity { self.new.capacity ≡ self.old.capacity }
-        ensures first { self.new.entries ≡ used_first id.now self.old.entries }
+        ensures found { IfOk result (λ k. k ≡ kept_key key.now self.old.entries) }
+        ensures opened { IfOk result (λ k. IfSome k (λ x. Unwraps self.old.master key.now.material (Ok x))) }
+        ensures used { self.new.entries ≡ used_first key.now.id self.old.entries }
     {
-        if !is_first(&self.kept, id) {
-            self.kept.promote(id);
-        }
+        found(&mut self.kept, self.alloc, key)
     }
 }
 
@@ -200,45 +188,54 @@ fn again(key: &DataKey) -> DataKey
     }
 }
 
-/// What is kept under a key's id, where it is of the key's material.
-fn found<'k>(kept: &'k LruCache<[u8; 16], Opened>, key: &KeyDoc) -> Option<&'k Opened>
-    ensures found { option_map (λ o. o.key) (option_copied result) ≡ kept_key key.now (map entry_of kept.now.entries) }
-{
-    match looked_up(kept, &key.id) {
-        Some(opened) => {
-            if is_material(&opened.material, key.material.as_slice()) {
-                Some(opened)
-            } else {
-                None
-            }
-        }
-        None => None,
-    }
-}
-
-/// What is kept under an id. The most recently used is looked at first, for which the id isn't hashed.
-fn looked_up<'k>(kept: &'k LruCache<[u8; 16], Opened>, id: &[u8; 16]) -> Option<&'k Opened>
-    ensures value { option_copied result ≡ lookup (bytes_eq id.now) kept.now.entries }
+/// The data key, shared, where it is kept under the key's id with its material. What is kept under the id goes before
+/// the others. The most recently used is looked at first, for which the id isn't hashed.
+fn found(
+    kept: &mut LruCache<[u8; 16], Opened>,
+    alloc: Global,
+    key: &KeyDoc,
+) -> Result<Option<SharedKey>, Memory>
+    ensures found { IfOk result (λ k. k ≡ kept_key key.now (map entry_of kept.old.entries)) }
+    ensures used { kept.new ≡ lru_cache (promoted (bytes_eq key.now.id) kept.old.entries) kept.old.cap }
 {
     match kept.peek_mru() {
         Some((first, opened)) => {
-            if *id == *first {
-                Some(opened)
+            if key.id == *first {
+                share_of(opened, alloc, key)
             } else {
-                kept.peek(id)
+                looked_up(kept, alloc, key)
             }
         }
-        None => None,
+        None => Ok(None),
     }
 }
 
-/// Whether the most recently used key has this id.
-fn is_first(kept: &LruCache<[u8; 16], Opened>, id: &[u8; 16]) -> bool
-    ensures first { result ≡ is_first id.now (map entry_of kept.now.entries) }
+/// The same by the id's hash.
+fn looked_up(
+    kept: &mut LruCache<[u8; 16], Opened>,
+    alloc: Global,
+    key: &KeyDoc,
+) -> Result<Option<SharedKey>, Memory>
+    ensures found { IfOk result (λ k. k ≡ kept_key key.now (map entry_of kept.old.entries)) }
+    ensures used { kept.new ≡ lru_cache (promoted (bytes_eq key.now.id) kept.old.entries) kept.old.cap }
 {
-    match kept.peek_mru() {
-        Some((first, _)) => *id == *first,
-        None => false,
+    match kept.get(&key.id) {
+        Some(opened) => share_of(opened, alloc, key),
+        None => Ok(None),
+    }
+}
+
+/// The data key that is kept, shared, where it is of the key's material.
+fn share_of(opened: &Opened, alloc: Global, key: &KeyDoc) -> Result<Option<SharedKey>, Memory>
+    ensures found { IfOk result (λ k. k ≡ key_from key.now.material (Some (entry_of (key.now.id, opened.now)))) }
+{
+    if is_material(&opened.material, key.material.as_slice()) {
+        match opened.key.share(alloc) {
+            Ok(shared) => Ok(Some(shared)),
+            Err(Memory) => Err(Memory),
+        }
+    } else {
+        Ok(None)
     }
 }
 

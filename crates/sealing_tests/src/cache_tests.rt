@@ -134,8 +134,8 @@ fn is_right(answer: Option<[u8; 96]>, byte: u8, damaged: bool) -> bool {
     }
 }
 
-/// Asks for the key of this byte, and puts it in front of the list. Whether the answer is right, and no block was
-/// decrypted where the list had the byte.
+/// Asks for the key of this byte, and puts it in front of the list where it opens or the list has it. Whether the
+/// answer is right, and no block was decrypted where the list had the byte.
 fn agree(
     rt: &impl Abort,
     alloc: Global,
@@ -145,18 +145,18 @@ fn agree(
     shared: bool,
 ) -> bool {
     let key = key_of(rt, alloc, byte, damaged);
-    let undecrypted = damaged || beside.list.contains(&byte);
+    let listed = beside.list.contains(&byte);
     let before = beside.hooks.opened.get();
     let answered = is_right(
         answer(rt, &mut beside.cache, &beside.hooks, &key, shared),
         byte,
         damaged,
     );
-    if !damaged {
+    if !damaged || listed {
         beside.list = fronted(rt, alloc, byte, &beside.list, beside.most);
     }
     answered
-        && undecrypted == (beside.hooks.opened.get() == before)
+        && (damaged || listed) == (beside.hooks.opened.get() == before)
         && beside.cache.len() == beside.list.len()
 }
 
