@@ -55,10 +55,3 @@ one_more words count word t here left whole f step new room =
           ∙ ap (λ (b : Bool). named name word.now || b) (f.known name);
       read = sym (told f.before word.now t here left false step (sym (f.known word.now) ∙ new)) ∙ f.read;
     }
-
--- a name that stands there already stands twice
-pub twice : (words : List (Bor (List ℕ))) (count : ℕ) (name : List ℕ) (t : Tree) (here left whole : Items)
-    → Few words count here whole → here ≡ item name t left → is_among name (names (take count words)) ≡ true
-    → false ≡ are_distinct whole
-twice words count name t here left whole f step there =
-    sym (told f.before name t here left true step (sym (f.known name) ∙ there)) ∙ f.read

@@ -1,6 +1,6 @@
 -- Paths compared name by name: equal ones, prefixes, and paths with one name more.
 use Rattle.std.proofs.Common.{◌≡◌, ℕ, ◌+◌, Bool, true, false, cond, ◌&&◌, ◌||◌, List, [], ◌∷◌, ◌++◌, Option, Some}
-use Rattle.std.proofs.Common.{◌≤◌, length, arith}
+use Rattle.std.proofs.Common.{suc, length}
 use Rattle.std.proofs.Common.{is_some, refl, sym, ap, ap₂, ◌∙◌, bytes_eq, ⊎_elim}
 use mathlib.Core.Bool.{false≢true}
 use Rattle.std.specs.Cmp.Lexicographic.{bytes_decides, nat_list_eq_equiv}
@@ -51,13 +51,14 @@ path_prefix (x ∷ p) [] e = e
 path_prefix (x ∷ p) (y ∷ q) e = let h = and_parts (named x y) (is_same_path p q) e in and_from (named x y)
     (is_prefix p q) h.0 (path_prefix p q h.1)
 
+and_nothing : (a : Bool) → (a && false) ≡ false
+and_nothing true = refl
+and_nothing false = refl
+
 -- a path isn't the same with a name more
 pub path_longer : (p : List (List ℕ)) (n : List ℕ) → is_same_path (p ++ n ∷ []) p ≡ false
 path_longer [] n = refl
-path_longer (x ∷ p) n = ap (λ (b : Bool). named x x && b) (path_longer p n) ∙ and_nothing (named x x) where
-  and_nothing : (a : Bool) → (a && false) ≡ false
-  and_nothing true = refl
-  and_nothing false = refl
+path_longer (x ∷ p) n = ap (λ (b : Bool). named x x && b) (path_longer p n) ∙ and_nothing (named x x)
 
 prefix_front : (p : List (List ℕ)) (n : List ℕ) (r : List (List ℕ)) → is_prefix (p ++ n ∷ []) r ≡ true
     → is_prefix p r ≡ true
@@ -92,8 +93,11 @@ leads_front p n (r ∷ rs) e =
     (λ (h : leads (p ++ n ∷ []) rs ≡ true). or_right (is_prefix p r) (leads p rs) (leads_front p n rs h))
     (or_cases (is_prefix (p ++ n ∷ []) r) (leads (p ++ n ∷ []) rs) e)
 
--- a path of a name or more isn't the empty one
-pub not_nil : (p q : List (List ℕ)) → 1 ≤ length p → q ≡ [] → is_same_path p q ≡ false
-not_nil [] q h e = absurd (omega (arith, h))
-not_nil (x ∷ p) [] h e = refl
-not_nil (x ∷ p) (y ∷ q) h e = absurd cc
+-- paths of other lengths are others
+pub other_length : (p q : List (List ℕ)) → (length p ≡ length q → ⊥) → is_same_path p q ≡ false
+other_length [] [] h = absurd (h refl)
+other_length [] (y ∷ q) h = refl
+other_length (x ∷ p) [] h = refl
+other_length (x ∷ p) (y ∷ q) h =
+    ap (λ (b : Bool). named x y && b) (other_length p q (λ e. h (ap suc e)))
+    ∙ and_nothing (named x y)

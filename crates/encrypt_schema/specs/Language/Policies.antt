@@ -1,12 +1,13 @@
 -- MongoDB Client Side Encryption: the policies of rules, and what they allow
-use Rattle.std.specs.Prelude.{ℕ, zero, suc, ◌==◌, Bool, true, false, ◌&&◌, List, [], ◌∷◌, bytes_eq}
-use Rattle.std.specs.List.{list_all, list_any}
+use Rattle.std.specs.Prelude.{ℕ, zero, suc, Bool, true, false, ◌&&◌, List, [], ◌∷◌, bytes_eq}
+use Rattle.std.specs.List.{list_all}
 use Rattle.encrypt_schema.specs.declared.schema.policy.Algorithm.{Algorithm}
 use Rattle.encrypt_schema.specs.declared.schema.policy.Algorithm.TheVariants.{Deterministic, Random}
 use Rattle.encrypt_schema.specs.declared.schema.policy.KeyRef.{KeyRef}
 use Rattle.encrypt_schema.specs.declared.schema.policy.KeyRef.TheVariants.{Id, Pointer}
 use Rattle.encrypt_schema.specs.declared.schema.policy.Policy.{Policy}
 use Rattle.encrypt_schema.specs.Language.Row.{Row}
+pub use Rattle.encrypt_schema.specs.Language.TypeNames.{has_type}
 use Rattle.encrypt_schema.specs.Paths.Classes.{is_same_path}
 
 -- a policy that allows no type
@@ -23,10 +24,6 @@ policy_at (suc i) (row ∷ rows) = policy_at i rows
 abbrev pub is_random : Algorithm → Bool
 is_random Deterministic = false
 is_random Random = true
-
--- a type byte is among these
-abbrev pub has_type : List ℕ → ℕ → Bool
-has_type types tag = list_any (λ t. t == tag) types
 
 -- each type of the first is one of the second
 abbrev pub are_types_of : List ℕ → List ℕ → Bool

@@ -1,7 +1,7 @@
 //! What a rule says of a field: the algorithm, the key and the types, as the MongoDB Client Side
 //! Encryption specification names them.
 
-ghost use Rattle.std.specs.Prelude.{◌≡◌, ◌==◌};
+ghost use Rattle.std.specs.Prelude.{◌≡◌, ◌≤◌, ◌==◌, length};
 ghost use Rattle.std.specs.List.{list_any};
 ghost use Rattle.encrypt_schema.specs.Language.Policies.{are_types_of, is_same_key, is_same_policy};
 ghost use Rattle.encrypt_schema.specs.Paths.Classes.{is_same_path};
@@ -45,38 +45,41 @@ impl KeyRef {
 }
 
 /// Whether two lists have the same names in the same order.
-#[tactic(auto, using(crate::proofs::Paths::Paths::not_nil))]
+#[tactic(auto, using(crate::proofs::Paths::Paths::other_length))]
 fn are_same(names: &[Bytes], others: &[Bytes]) -> bool
     ensures same { result ≡ is_same_path names.now others.now }
 {
-    match names {
-        [] => others.is_empty(),
-        [name, names @ ..] => match others {
-            [] => false,
-            [other, others @ ..] => {
-                is_named(name.as_slice(), other.as_slice()) && are_same(names, others)
-            }
-        },
+    if names.len() != others.len() {
+        return false;
     }
+    for i in 0..names.len() {
+        if !is_named(names[i].as_slice(), others[i].as_slice()) {
+            return false;
+        }
+    }
+    true
 }
 
-/// The BSON types that a rule protects, seen as their type bytes.
+/// The BSON types that a rule protects, seen as their type bytes; at most 17, as many as can be protected.
 #[derive(Drop)]
 pub struct TypeSet {
     types: Bytes,
 }
 
 impl Model for TypeSet {
-    ghost use Rattle.std.specs.Prelude.{ℕ, List};
+    ghost use Rattle.std.specs.Prelude.{ℕ, List, ◌≤◌, length};
 
     ghost Value = { List ℕ };
 
     ghost view = { λ s. s.types };
+
+    ghost invariant = { λ s. length s.types ≤ 17 };
 }
 
 impl TypeSet {
     /// The set of these type bytes.
     pub(crate) fn new(types: Bytes) -> TypeSet
+        requires few { length types ≤ 17 }
         ensures same { result ≡ types }
     {
         TypeSet { types }
