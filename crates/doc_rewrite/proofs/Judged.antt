@@ -52,10 +52,6 @@ pub record Left (all here : At) (ss now : List Site) : Type 0 where
   pub taken : (left : List Put) → Takes here.start here.tree (empties now) left
       → Takes (all.start + 4) all.tree (empties ss) left
 
-pub begun : (all here : At) (ss : List Site) → here ≡ record { tree = all.tree; start = all.start + 4 }
-    → Left all here ss ss
-begun all here ss is = record { taken = λ left t. subst (λ (a : At). Takes a.start a.tree (empties ss) left) is t }
-
 pub goes_on : (all here rest : At) (e : Elem) (ss now later : List Site) → TakesElement here (Some e) rest
     → Left all here ss now
     → ElementTakes e now later → Left all rest ss later

@@ -15,9 +15,12 @@ use Rattle.doc_rewrite.specs.Keys.{GivesLongIds, IsLong, Lookup}
 use Rattle.doc_rewrite.specs.Sealed.{sealed}
 use Rattle.doc_rewrite.specs.Sites.{Site, sites_of, spans_of}
 
--- the values that are to be sealed, and how many bytes the sealed document has
+-- the values that are to be sealed, the marks and the rules that they were read from, and how many bytes the sealed
+-- document has
 pub record Planned : Type 0 where
   pub sites : List Site
+  pub marks : List Mark
+  pub rows : List Row
   pub size : ℕ
 
 -- the most bytes of a sealed document
@@ -69,9 +72,11 @@ IsSealedSize ss d size =
     (keys : Lookup) (blocks : List Block)
     → GivesLongIds keys → AreBlocks blocks → length (doc_bytes (sealed keys ss blocks d)) ≡ size
 
--- a plan that stands for a document: its sites are values of the document, and its size is that of the sealed one
+-- a plan that stands for a document: its sites are values of the document, and what names their keys is what its marks
+-- lead to in this document, whichever it was made of; its size is that of the sealed document
 pub record StandsFor (plan : Planned) (d : At) : Type 0 where
   pub places : StandsAt (spans_of plan.sites) d
+  pub own : plan.sites ≡ sites_of plan.rows d plan.marks
   pub size : IsSealedSize plan.sites d plan.size
 
 -- sealed at these sites, the document is above the limit

@@ -19,16 +19,23 @@ const LONGEST: u32 = 48_000_000;
 #[derive(Drop)]
 pub struct Plan<'a> {
     sites: Sites<'a>,
+    /// The marks and the rules of the sites; `None` where no value is sealed.
+    ruled: Option<(&'a Marks, &'a Rows)>,
     size: u32,
 }
 
 impl<'a> Model for Plan<'a> {
-    ghost use Rattle.std.specs.Prelude.{◌≤◌};
+    ghost use Rattle.std.specs.Prelude.{◌≤◌, [], option_map, unwrap_or};
     ghost use Rattle.doc_rewrite.specs.Plans.{AreLong, Planned, longest_sealed};
 
     ghost Value = { Planned };
 
-    ghost view = { λ p. record { sites = p.sites; size = p.size } };
+    ghost view = { λ p. record {
+      sites = p.sites;
+      marks = unwrap_or (option_map (λ r. r.0.now) p.ruled) [];
+      rows = unwrap_or (option_map (λ r. r.1.now) p.ruled) [];
+      size = p.size;
+    } };
 
     ghost invariant = { λ p. AreLong p.sites × (p.size ≤ longest_sealed) };
 }
@@ -77,6 +84,7 @@ pub fn plan_seal<'a>(
     }
     Ok(Plan {
         sites,
+        ruled: Some((marks, rows)),
         size: size as u32,
     })
 }
@@ -96,6 +104,7 @@ pub fn plan_clear<'a>(document: &RawDoc<'_>) -> Result<Plan<'a>, TooLong>
     }
     Ok(Plan {
         sites: Sites::none(),
+        ruled: None,
         size: size as u32,
     })
 }

@@ -24,6 +24,7 @@ returns-clause-stands c =
     let long : AreLong ss = subst (λ (xs : List Site). AreLong xs) is c.grown.ensures.long in
     record {
       places = subst (λ (xs : List Site). StandsAt (spans_of xs) c.args.document.now) (sym is) c.requires.stands.places;
+      own = is;
       size =
           subst (λ (xs : List Site). IsSealedSize xs c.args.document.now (length c.bytes.result.now + c.grown.result))
           (sym is)
