@@ -38,10 +38,6 @@ passed_told db infos c h = passed_with replies db infos c h ∙ ap sized (passin
 
 -- the fields of a command
 
-first_none : (r s : Option Refusal) → or_else r s ≡ None → r ≡ None
-first_none None s e = refl
-first_none (Some x) s e = cc
-
 -- without a refusal of the target pass the verdict is that of the view or of the contents
 abbrev verdict_after : List Collection → Items → Option Refusal → Option Refusal
 verdict_after infos c r =

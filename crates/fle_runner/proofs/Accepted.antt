@@ -11,11 +11,17 @@ use Rattle.encrypt_schema.specs.Commands.Visits.{Refusal}
 use Rattle.fle_engine.specs.Rulings.{at_front, by_refusal, makes, too_long}
 use Rattle.fle_engine.specs.Sealing.{seal_ruling, sealed_plan}
 use Rattle.fle_outside.specs.Limits.{output_limit}
-use Rattle.fle_stream.specs.Plan.{Plan}
+use Rattle.fle_stream.specs.Plan.{Plan, Verdict}
 use Rattle.fle_stream.specs.Streams.{Docs, doc, ends}
 use Rattle.fle_runner.specs.Encrypt.{encrypt_verdict}
-use Rattle.fle_runner.specs.Headline.{Setup, accepted, accepted_in, accepts, if_accepted, sites_in, verdict_of}
+use Rattle.fle_runner.specs.Headline.{Setup, accepted_in, accepts, if_accepted, sites_in, verdict_of}
 use Rattle.fle_runner.specs.Verdicts.{as_verdict}
+
+-- the commands of a stream before the first whose verdict writes no output, and before 2^40 bytes were taken
+unfoldable pub accepted : (Items → Verdict) → ℕ → Docs → List Items
+accepted v taken (ends rest) = []
+accepted v taken (doc n c docs) =
+    cond (nat_lt taken (2 ^ 40)) (if_accepted (v c) c (accepted v (taken + n) docs)) []
 
 -- one command, by what is refused of it, its first value without a key, and whether its sealed form is too long
 by_parts : (a b : Option Refusal) (over : Bool) (plan : Plan) (c : Items) (cs : List Items)

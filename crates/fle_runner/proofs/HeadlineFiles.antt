@@ -14,8 +14,10 @@ use Rattle.doc_rewrite.specs.Opened.{HasAll, Keyring}
 use Rattle.fle_outside.specs.Blocks.{Block}
 use Rattle.fle_outside.specs.Files.{Files, file_of}
 use Rattle.fle_outside.specs.Seen.{EntropySeen, Gains, SinkSeen}
+use Rattle.fle_stream.specs.Codes.{status_of}
 use Rattle.fle_stream.specs.Did.{Did}
 use Rattle.fle_stream.specs.Ended.{Whole}
+use Rattle.fle_stream.specs.declared.status.Status.{Status}
 use Rattle.fle_stream.specs.declared.why.Why.{Why}
 use Rattle.fle_stream.proofs.Programs.{did_task}
 use Rattle.fle_stream.specs.Outcome.{Outcome}
@@ -39,9 +41,8 @@ use Rattle.fle_words.specs.Words.{Form, decrypt, encrypt, form_of}
 use Rattle.fle_words.proofs.Forms.{decrypt_form_is, encrypt_form_is}
 use Rattle.fle_files.proofs.InfosRead.{infos_are}
 use Rattle.fle_runner.proofs.Backs.{reads_back, writes_back}
-use Rattle.fle_runner.proofs.Headline.{seals_stream}
 use Rattle.fle_runner.proofs.HeadlineBack.{come_back}
-use Rattle.fle_runner.proofs.HeadlineFronts.{seals_first}
+use Rattle.fle_runner.proofs.HeadlineFronts.{seals_first, seals_stream}
 use Rattle.fle_runner.proofs.HeadlineKeys.{vault_uuids}
 
 -- a file that is there and within its limit leads on
@@ -129,11 +130,11 @@ encrypts now words all told x entropy entropy_after out out_after h bytes w =
 -- and of one that something cut short
 pub encrypts_first : (now : ℕ) (words : List (List ℕ)) (all : Files) (told : List ℕ) (x : Setup)
     {after : Option (List ℕ)} {entropy entropy_after : EntropySeen} {out out_after : SinkSeen} {number : ℕ} {why : Why}
-    → IsEncrypt words all x → All (λ b. b < 256) told
+    {status : Status} → IsEncrypt words all x → All (λ b. b < 256) told → status ≡ status_of why
     → Did (task now words all) told after entropy entropy_after out out_after number why
-    → SealsFirst x told entropy entropy_after out out_after
-encrypts_first now words all told x h bytes did =
-    seals_first x told (held_uuids all h.keys h.schemas h.master x h.files) bytes
+    → SealsFirst x told status entropy entropy_after out out_after
+encrypts_first now words all told x h bytes is did =
+    seals_first x told (held_uuids all h.keys h.schemas h.master x h.files) bytes is
     (did_task (sym (task_is now words all x h)) did).ran
 
 -- words and files ask that each document be opened

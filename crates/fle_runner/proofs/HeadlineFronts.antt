@@ -1,157 +1,90 @@
--- What a run of `encrypt` or `decrypt` wrote that something cut short: the first of its outputs.
-use Rattle.std.proofs.Common.{◌≡◌, ℕ, ◌+◌, ◌^◌, ◌<◌, ◌∙◌, Bool, true, false, cond, nat_lt, Option, List, [], ◌∷◌}
-use Rattle.std.proofs.Common.{◌++◌, length, take, drop, refl, sym, ap, ap₂, subst, arith}
+-- What a run of `encrypt` or `decrypt` wrote: the outputs of its stream, all of them or, where something cut it short,
+-- the first.
+use Rattle.std.proofs.Common.{◌≡◌, ℕ, ◌+◌, ◌^◌, ◌<◌, ◌∙◌, true, false, cond, nat_lt, Option, List, [], ◌∷◌, ◌++◌}
+use Rattle.std.proofs.Common.{length, refl, sym, ap, subst, arith}
 use Rattle.std.specs.List.{All}
-use Rattle.std.specs.Prelude.{flat_map}
-use Rattle.std.proofs.lemmas.List.{length-drop, length-take-le, nil_from_length, take-append-drop}
-use Rattle.std.proofs.lemmas.List.Elements.{All-drop, All-take}
-use Rattle.std.proofs.Math.Seq.{take-append_seam}
-use Rattle.bson_tree.specs.Spelling.{doc_bytes, items_bytes}
+use Rattle.bson_tree.specs.Spelling.{doc_bytes}
 use Rattle.bson_tree.specs.Tree.{Items}
-use Rattle.context_machine.specs.Rings.{found_in}
-use Rattle.doc_rewrite.specs.Sealed.{sealed}
-use Rattle.fle_outside.specs.Blocks.{AreBlocks, Block, IsBlock}
+use Rattle.fle_outside.specs.Blocks.{Block}
 use Rattle.fle_outside.specs.Seen.{EntropySeen, Gains, SinkSeen}
-use Rattle.fle_stream.specs.Outcome.{Outcome, finished, judged, outcome, rest_finish}
-use Rattle.fle_stream.specs.Plan.{Output, Plan, Verdict, writes, refused, too_long, draws_of, written}
-use Rattle.fle_stream.specs.Run.{Ran}
+use Rattle.fle_stream.specs.Codes.{status_of, status_of_cut, status_of_finish}
+use Rattle.fle_stream.specs.Ended.{Whole}
+use Rattle.fle_stream.specs.Outcome.{Outcome, finished, outcome, rest_finish}
+use Rattle.fle_stream.specs.Plan.{Output, written}
+use Rattle.fle_stream.specs.Run.{CutsIn, EndsIn, Ran}
 use Rattle.fle_stream.specs.Streams.{Docs, doc, documents, ends, rest_size}
 use Rattle.fle_stream.specs.Task.{each, outcome_of}
+use Rattle.fle_stream.specs.declared.status.Status.{Status}
 use Rattle.fle_stream.specs.declared.why.Bound.TheVariants as bounds
+use Rattle.fle_stream.specs.declared.why.Cut.{Cut}
+use Rattle.fle_stream.specs.declared.why.Cut.TheVariants as cuts
+use Rattle.fle_stream.specs.declared.why.Finish.{Finish}
 use Rattle.fle_stream.specs.declared.why.Finish.TheVariants as finishes
 use Rattle.fle_stream.specs.declared.why.Why.{Why}
-use Rattle.fle_runner.specs.Encrypt.{at_front}
-use Rattle.fle_runner.specs.Headline.{AreByUuid, AreSealedUnder, OpensFirst, SealsFirst, Setup, accepted, if_accepted}
-use Rattle.fle_runner.specs.Headline.{sites_in, verdict_of}
+use Rattle.fle_stream.specs.declared.why.Why.TheVariants as whys
+use Rattle.fle_runner.specs.Headline.{AreByUuid, OpensFirst, OpensNext, SealsFirst, SealsStream, Setup}
+use Rattle.fle_runner.specs.Headline.{accepted_in, verdict_of}
 use Rattle.fle_runner.specs.ReadBack.{outputs_back, read_whole, stream}
 use Rattle.fle_runner.specs.Verdicts.{plain_plan}
-use Rattle.fle_runner.proofs.Accepted.{accepted_is}
-use Rattle.fle_runner.proofs.Headline.{is_accepted, sealed_under}
+use Rattle.fle_runner.proofs.Accepted.{accepted, accepted_is}
+use Rattle.fle_runner.proofs.HeadlineOutputs.{AreOutputs, made_judged, made_within, seals_all_of, seals_first_of}
 use Rattle.fle_runner.proofs.HeadlineReads.{AreRead, documents_read}
 
--- what is written of these outputs with these blocks is the sealed form of the first of these commands
-pub record Fronting (x : Setup) (cs : List Items) (outputs : List Output) (blocks : List Block) : Type 0 where
-  pub whole : List Items
-  pub others : List Items
-  pub split : cs ≡ whole ++ others
-  pub sealed : List Items
-  pub each : AreSealedUnder x whole blocks sealed
-  pub bytes : flat_map doc_bytes sealed ≡ written outputs blocks
+-- ---- of `encrypt`
 
-module _ (x : Setup) (uuids : AreByUuid x.keys) where
-  none : (cs : List Items) (blocks : List Block) → length blocks ≡ 0 → Fronting x cs [] blocks
-  none cs blocks few =
-      record { whole = []; others = cs; split = refl; sealed = []; each = nil_from_length blocks few; bytes = refl }
+-- the commands of a stream that are accepted are those of the outputs
+docs_made : (x : Setup) (number taken : ℕ) (docs : Docs) → AreRead docs
+    → AreOutputs x (accepted (verdict_of x) taken docs) (outcome (verdict_of x) number taken docs).outputs
+unfolding outcome accepted
+docs_made x number taken (ends rest) read =
+    elim (nat_lt taken (2 ^ 40))
+    as (λ b. AreOutputs x [] (cond b (finished (rest_finish rest) number (rest_size rest))
+    (finished (finishes.Limit bounds.Stream) number 0)).outputs)
+    [ true ↦ tt | false ↦ tt ]
+docs_made x number taken (doc n c docs) read =
+    made_within x taken number 0 _ _ (made_judged x (verdict_of x c) number 1 n c _ _ (omega arith) read.0.bytes refl
+    (docs_made x (number + 1) (taken + n) docs read.1))
 
-  nothing : (done rest : List Output) (cs : List Items) (blocks : List Block) → [] ≡ done ++ rest
-      → length blocks ≡ draws_of done → Fronting x cs done blocks
-  nothing [] rest cs blocks e count = none cs blocks count
-  nothing (o ∷ os) rest cs blocks e count = absurd cc
+stream_made : (x : Setup) (told : List ℕ) → All (λ b. b < 256) told
+    → AreOutputs x (accepted_in x 0 (documents told)) (outcome_of (each (verdict_of x)) told).outputs
+stream_made x told all =
+    subst (λ (cs : List Items). AreOutputs x cs (outcome_of (each (verdict_of x)) told).outputs)
+    (accepted_is x 0 (documents told)) (docs_made x 1 0 (documents told) (documents_read told all))
 
-  next : (plan : Plan) (n : ℕ) (c : Items) (cs : List Items) (ps : List Output) (blocks : List Block)
-      → All (λ b. b < 256) (items_bytes c) → verdict_of x c ≡ writes plan → AreBlocks blocks
-      → length blocks ≡ plan.draws + draws_of ps
-      → ((rest : List Block) → AreBlocks rest → length rest ≡ draws_of ps → Fronting x cs ps rest)
-      → Fronting x (c ∷ cs) (record { read = n; documents = 1; plan = plan } ∷ ps) blocks
-  next plan n c cs ps blocks bytes e are count others =
-      let own = take plan.draws blocks in
-      let rest = drop plan.draws blocks in
-      let a = is_accepted x c plan e in
-      let own_long : length own ≡ plan.draws = length-take-le plan.draws blocks (omega (arith, count)) in
-      let rest_long : length rest ≡ draws_of ps = omega (arith, count, length-drop plan.draws blocks) in
-      let s = others rest (All-drop IsBlock plan.draws blocks are) rest_long in
-      let first = sealed_under x uuids c plan own bytes a (All-take IsBlock plan.draws blocks are) own_long in
-      record {
-        whole = c ∷ s.whole;
-        others = s.others;
-        split = ap (λ (ds : List Items). c ∷ ds) s.split;
-        sealed = sealed (found_in x.keys) (sites_in x c) own (at_front c) ∷ s.sealed;
-        each = (own, rest, sym (take-append-drop plan.draws blocks), first, s.each);
-        bytes = ap₂ (λ (xs ys : List ℕ). xs ++ ys) (ap (λ (p : Plan). p.bytes own) (sym a.is)) s.bytes;
-      }
+-- all outputs were written whole
+pub seals_stream : (x : Setup) (told : List ℕ) (entropy entropy_after : EntropySeen) (out out_after : SinkSeen)
+    → AreByUuid x.keys → All (λ b. b < 256) told
+    → Whole (outcome_of (each (verdict_of x)) told) entropy entropy_after out out_after
+    → SealsStream x told entropy entropy_after out out_after
+seals_stream x told entropy entropy_after out out_after uuids all w =
+    seals_all_of x (accepted_in x 0 (documents told)) (outcome_of (each (verdict_of x)) told) entropy entropy_after out
+    out_after uuids (stream_made x told all) w
 
-  one : (b : Bool) (w : Verdict) (number n : ℕ) (c : Items) (cs : List Items) (o last : Outcome)
-      (done rest : List Output) (blocks : List Block)
-      → All (λ b. b < 256) (items_bytes c) → verdict_of x c ≡ w → last.outputs ≡ []
-      → ((os others : List Output) (bs : List Block) → AreBlocks bs → o.outputs ≡ os ++ others
-      → length bs ≡ draws_of os → Fronting x cs os bs)
-      → AreBlocks blocks → (cond b (judged w number 1 n o) last).outputs ≡ done ++ rest
-      → length blocks ≡ draws_of done → Fronting x (cond b (if_accepted w c cs) []) done blocks
-  one false w number n c cs o last done rest blocks bytes e none_left others are is count =
-      nothing done rest [] blocks (sym none_left ∙ is) count
-  one true (refused reason place) number n c cs o last done rest blocks bytes e none_left others are is count =
-      nothing done rest [] blocks is count
-  one true too_long number n c cs o last done rest blocks bytes e none_left others are is count =
-      nothing done rest [] blocks is count
-  one true (writes plan) number n c cs o last [] rest blocks bytes e none_left others are is count =
-      none (c ∷ cs) blocks count
-  one true (writes plan) number n c cs o last (p ∷ ps) rest blocks bytes e none_left others are is count =
-      let first : Output = record { read = n; documents = 1; plan = plan } in
-      let head : first ≡ p = cc in
-      let tail : o.outputs ≡ ps ++ rest = cc in
-      let enough : length blocks ≡ plan.draws + draws_of ps =
-      count ∙ ap (λ (q : Output). q.plan.draws + draws_of ps) (sym head) in
-      subst (λ (q : Output). Fronting x (c ∷ cs) (q ∷ ps) blocks) head
-      (next plan n c cs ps blocks bytes e are enough (λ bs blocks_are long. others ps rest bs blocks_are tail long))
-
-  ended : (b : Bool) (p q : Outcome) (done rest : List Output) (blocks : List Block) → p.outputs ≡ []
-      → q.outputs ≡ [] → (cond b p q).outputs ≡ done ++ rest → length blocks ≡ draws_of done
-      → Fronting x [] done blocks
-  ended true p q done rest blocks e f is count = nothing done rest [] blocks (sym e ∙ is) count
-  ended false p q done rest blocks e f is count = nothing done rest [] blocks (sym f ∙ is) count
-
-  fronts : (number taken : ℕ) (docs : Docs) (done rest : List Output) (blocks : List Block) → AreRead docs
-      → AreBlocks blocks → (outcome (verdict_of x) number taken docs).outputs ≡ done ++ rest
-      → length blocks ≡ draws_of done → Fronting x (accepted (verdict_of x) taken docs) done blocks
-  unfolding outcome accepted
-  fronts number taken (ends r) done rest blocks read are is count =
-      ended (nat_lt taken (2 ^ 40)) (finished (rest_finish r) number (rest_size r))
-      (finished (finishes.Limit bounds.Stream) number 0) done rest blocks refl refl is count
-  fronts number taken (doc n c docs) done rest blocks read are is count =
-      let v = verdict_of x in
-      one (nat_lt taken (2 ^ 40)) (v c) number n c (accepted v (taken + n) docs)
-      (outcome v (number + 1) (taken + n) docs) (finished (finishes.Limit bounds.Stream) number 0) done rest blocks
-      read.0.bytes refl refl
-      (λ os others bs bs_are same long. fronts (number + 1) (taken + n) docs os others bs read.1 bs_are same long) are
-      is count
-
-pub front_blocks : (first more : List Block) → AreBlocks (first ++ more) → AreBlocks first
-front_blocks first more are =
-    subst AreBlocks (take-append_seam first more) (All-take IsBlock (length first) (first ++ more) are)
-
--- of a run of `encrypt`, whatever cut it short
+-- whatever cut it short
 pub seals_first : (x : Setup) (told : List ℕ) {after : Option (List ℕ)} {spans : List ℕ
     → List ℕ} {entropy entropy_after : EntropySeen} {out out_after : SinkSeen} {number : ℕ} {why : Why}
-    → AreByUuid x.keys → All (λ b. b < 256) told
+    {status : Status} → AreByUuid x.keys → All (λ b. b < 256) told → status ≡ status_of why
     → Ran (outcome_of (each (verdict_of x)) told) 1 told after spans entropy entropy_after out out_after number why
-    → SealsFirst x told entropy entropy_after out out_after
-seals_first x told {out = out} {out_after = out_after} uuids all ran =
-    let s = fronts x uuids 1 0 (documents told) ran.done ran.rest ran.first (documents_read told all)
-    (front_blocks ran.first ran.more ran.draws.blocks) ran.split ran.enough in
-    record {
-      whole = s.whole;
-      others = s.others;
-      split = sym (accepted_is x 0 (documents told)) ∙ s.split;
-      sealed = s.sealed;
-      blocks = ran.first;
-      more = ran.more;
-      each = s.each;
-      draws = ran.draws;
-      part = ran.part;
-      gains = subst (λ (bytes : List ℕ). Gains out.told out_after.told (bytes ++ ran.part)) (sym s.bytes) ran.gains;
-    }
+    → SealsFirst x told status entropy entropy_after out out_after
+seals_first x told uuids all is ran =
+    seals_first_of x (accepted_in x 0 (documents told)) (outcome_of (each (verdict_of x)) told) uuids
+    (stream_made x told all) is ran
 
 -- ---- and of `decrypt`
 
-pub record Backing (cs : List Items) (outputs : List Output) (blocks : List Block) : Type 0 where
+-- what is written of the first outputs are the first of the commands; the others have the outputs that are left
+pub record Backing (cs : List Items) (outputs rest : List Output) (blocks : List Block) : Type 0 where
   pub whole : List Items
   pub others : List Items
+  pub behind : List Items
   pub split : cs ≡ whole ++ others
   pub bytes : written outputs blocks ≡ stream whole
+  pub left : outputs_back others behind ≡ rest
 
 backs : (cs ds : List Items) (done rest : List Output) (blocks : List Block) → outputs_back cs ds ≡ done ++ rest
-    → Backing cs done blocks
-backs cs ds [] rest blocks is = record { whole = []; others = cs; split = refl; bytes = refl }
+    → Backing cs done rest blocks
+backs cs ds [] rest blocks is =
+    record { whole = []; others = cs; behind = ds; split = refl; bytes = refl; left = is }
 backs [] ds (o ∷ os) rest blocks is = absurd cc
 backs (c ∷ cs) [] (o ∷ os) rest blocks is = absurd cc
 backs (c ∷ cs) (d ∷ ds) (o ∷ os) rest blocks is =
@@ -159,25 +92,63 @@ backs (c ∷ cs) (d ∷ ds) (o ∷ os) rest blocks is =
     let head : first ≡ o = cc in
     let tail : outputs_back cs ds ≡ os ++ rest = cc in
     let s = backs cs ds os rest blocks tail in
-    subst (λ (q : Output). Backing (c ∷ cs) (q ∷ os) blocks) head
+    subst (λ (q : Output). Backing (c ∷ cs) (q ∷ os) rest blocks) head
     (record {
       whole = c ∷ s.whole;
       others = s.others;
+      behind = s.behind;
       split = ap (λ (es : List Items). c ∷ es) s.split;
       bytes = ap (λ (bytes : List ℕ). doc_bytes c ++ bytes) s.bytes;
+      left = s.left;
     })
+
+-- what came of the next command where the run was cut short
+cut_back : (cut : Cut) (cs ds : List Items) (more : List Block) (part : List ℕ)
+    → CutsIn cut (outputs_back cs ds) more part → OpensNext (status_of_cut cut) cs part
+cut_back cuts.Folder cs ds more part end = end.1
+cut_back cuts.Input cs ds more part end = end.1
+cut_back cuts.Output [] ds more part end = absurd end
+cut_back cuts.Output (c ∷ cs) [] more part end = absurd end
+cut_back cuts.Output (c ∷ cs) (d ∷ ds) more part end = end.1
+cut_back cuts.Entropy [] ds more part end = absurd end
+cut_back cuts.Entropy (c ∷ cs) [] more part end = absurd end
+cut_back cuts.Entropy (c ∷ cs) (d ∷ ds) more part end = end.1
+cut_back cuts.Memory [] ds more part end = end.1
+cut_back cuts.Memory (c ∷ cs) [] more part end = end.1
+cut_back cuts.Memory (c ∷ cs) (d ∷ ds) more part end = end.1
+
+nothing_back : (finish : Finish) (cs : List Items) (part : List ℕ) → part ≡ []
+    → OpensNext (status_of_finish finish) cs part
+nothing_back finishes.Done cs part unwritten = unwritten
+nothing_back (finishes.Refused reason place) cs part unwritten = unwritten
+nothing_back (finishes.Malformed fault) cs part unwritten = unwritten
+nothing_back (finishes.Limit bound) cs part unwritten = unwritten
+nothing_back finishes.Words cs part unwritten = unwritten
+nothing_back (finishes.Setup file fault document) cs part unwritten = unwritten
+nothing_back (finishes.Key reason document) cs part unwritten = unwritten
+
+ends_back : (why : Why) (number : ℕ) (o : Outcome) (cs ds : List Items) (rest : List Output) (more : List Block)
+    (part : List ℕ) (first read : ℕ) (spans told : List ℕ) (after : Option (List ℕ)) → outputs_back cs ds ≡ rest
+    → EndsIn why number o rest more part first read spans told after → OpensNext (status_of why) cs part
+ends_back (whys.Finished finish) number o cs ds rest more part first read spans told after left end =
+    nothing_back finish cs part end.unwritten
+ends_back (whys.Cut cut) number o cs ds rest more part first read spans told after left end =
+    cut_back cut cs ds more part (subst (λ (os : List Output). CutsIn cut os more part) (sym left) end.0)
 
 pub opens_first : (commands sealed : List Items) {o : Outcome} {told : List ℕ} {after : Option (List ℕ)} {start : ℕ}
     {spans : List ℕ → List ℕ} {entropy entropy_after : EntropySeen} {out out_after : SinkSeen} {number : ℕ} {why : Why}
-    → o ≡ read_whole commands sealed
+    {status : Status} → o ≡ read_whole commands sealed → status ≡ status_of why
     → Ran o start told after spans entropy entropy_after out out_after number why
-    → OpensFirst commands out out_after
-opens_first commands sealed {out = out} {out_after = out_after} is ran =
+    → OpensFirst commands status out out_after
+opens_first commands sealed {o = o} {told = told} {after = after} {out = out} {out_after = out_after} {number = number}
+    {why = why} is ended ran =
     let s = backs commands sealed ran.done ran.rest ran.first (sym (ap (λ (p : Outcome). p.outputs) is) ∙ ran.split) in
     record {
       whole = s.whole;
       others = s.others;
       split = s.split;
       part = ran.part;
+      next = subst (λ (st : Status). OpensNext st s.others ran.part) (sym ended)
+          (ends_back why number o s.others s.behind ran.rest ran.more ran.part _ _ _ told after s.left ran.end);
       gains = subst (λ (bytes : List ℕ). Gains out.told out_after.told (bytes ++ ran.part)) s.bytes ran.gains;
     }

@@ -19,11 +19,12 @@ use Rattle.fle_files.specs.Infos.{infos_read, is_json}
 use Rattle.fle_files.specs.Limits.{file_limit}
 use Rattle.fle_files.specs.Setup.{infos_or, with_infos, with_master, with_vault}
 use Rattle.fle_files.proofs.InfosRead.{bson_is, json_is}
-use Rattle.fle_stream.specs.Task.{Task, each, fails}
+use Rattle.fle_stream.specs.Task.{Task, each, fails, pairs}
 use Rattle.fle_stream.specs.declared.why.Finish.TheVariants as finishes
 use Rattle.fle_stream.specs.declared.why.SetupFault.TheVariants as setups
 use Rattle.context_machine.specs.Rings.{finder}
 use Rattle.fle_runner.specs.Encrypt.{encrypt_task, encrypt_verdict}
+use Rattle.fle_runner.specs.EncryptWith.{encrypt_pairing, encrypt_with_task}
 use Rattle.fle_runner.specs.Mark.{mark_task, mark_verdict}
 
 -- ---- what the documents of a JSON text begin with
@@ -123,3 +124,10 @@ pub json_seals : (db : List ℕ) (vault master : Option (List ℕ)) (json bson :
 json_seals db vault master json bson fits fits2 is gives =
     λ i. with_vault 1 vault (λ keys. json_leads 2 (λ infos. with_master 3 master
     (λ key. each (encrypt_verdict (finder keys key) infos db))) json bson fits fits2 is gives i)
+
+pub json_pairs : (db : List ℕ) (vault master : Option (List ℕ)) (json bson : List ℕ) → length json ≤ file_limit
+    → length bson ≤ file_limit → is_json json ≡ true → json_infos json ≡ Ok bson
+    → encrypt_with_task db vault (Some json) master ≡ encrypt_with_task db vault (Some bson) master
+json_pairs db vault master json bson fits fits2 is gives =
+    λ i. with_vault 1 vault (λ keys. json_leads 2 (λ infos. with_master 3 master
+    (λ key. pairs (encrypt_pairing (finder keys key) infos db))) json bson fits fits2 is gives i)

@@ -11,6 +11,7 @@ pub mod NewKeys
 pub mod Backs
 pub mod HeadlineReads
 pub mod Headline
+pub mod HeadlineOutputs
 pub mod HeadlineBack
 pub mod HeadlineKeys
 pub mod HeadlineFronts

@@ -1,7 +1,7 @@
 -- MongoDB Client Side Encryption, `encrypt` over a stream of commands: every accepted command was sealed, and nothing
 -- else changed.
-use Rattle.std.specs.Prelude.{◌≡◌, ℕ, ◌+◌, ◌^◌, ◌≤◌, ◌&&◌, Bool, not, nat_lt, Ok, None, is_none, List, [], ◌∷◌, ◌++◌}
-use Rattle.std.specs.Prelude.{length, flat_map, if◌then◌else◌}
+use Rattle.std.specs.Prelude.{◌≡◌, ℕ, ◌+◌, ◌^◌, ◌<◌, ◌≤◌, ◌&&◌, Bool, not, nat_lt, Ok, None, is_none, List, [], ◌∷◌}
+use Rattle.std.specs.Prelude.{◌++◌, length, flat_map, if◌then◌else◌}
 use Rattle.bson_tree.specs.Spelling.{doc_bytes}
 use Rattle.bson_tree.specs.Tree.{Items}
 use Rattle.bson_codec.specs.Layout.{IsDoc}
@@ -18,9 +18,12 @@ use Rattle.doc_rewrite.specs.Sites.{Site, draws_of, grown, sites_of}
 use Rattle.fle_outside.specs.Blocks.{Block}
 use Rattle.fle_outside.specs.Limits.{output_limit}
 use Rattle.fle_outside.specs.Seen.{Draws, EntropySeen, Gains, SinkSeen}
+use Rattle.fle_outside.specs.Writing.{IsProperPrefix}
 use Rattle.payload6.specs.Needs.{Need}
 use Rattle.fle_stream.specs.Plan.{Verdict, writes, refused, too_long}
 use Rattle.fle_stream.specs.Streams.{Docs, doc, documents, ends}
+use Rattle.fle_stream.specs.declared.status.Status.{Status}
+use Rattle.fle_stream.specs.declared.status.Status.TheVariants as statuses
 use Rattle.doc_rewrite.specs.Sites.{at_front}
 use Rattle.fle_runner.specs.Encrypt.{encrypt_verdict}
 
@@ -54,12 +57,6 @@ if_accepted (writes plan) c cs = c ∷ cs
 if_accepted (refused reason place) c cs = []
 if_accepted too_long c cs = []
 
--- the commands of a stream before the first that isn't accepted, and before 2^40 bytes were taken
-unfoldable pub accepted : (Items → Verdict) → ℕ → Docs → List Items
-accepted v taken (ends rest) = []
-accepted v taken (doc n c docs) =
-    if nat_lt taken (2 ^ 40) then if_accepted (v c) c (accepted v (taken + n) docs) else []
-
 -- the values of a command that its rules protect
 abbrev pub sites_in : Setup → Items → List Site
 sites_in x c = sites_of (rows_of x.infos c) (at_front c) (roles (rows_of x.infos c) 0 c)
@@ -72,8 +69,7 @@ accepts x c =
     && is_none (first_keyless x.keys (needs_of (rows_of x.infos c) (at_front c)))
     && not (nat_lt output_limit (length (doc_bytes c) + grown (sites_in x c)))
 
--- the commands of a stream before the first that isn't accepted, and before 2^40 bytes were taken: those that
--- `accepted` has by their verdicts
+-- the commands of a stream before the first that isn't accepted, and before 2^40 bytes were taken
 unfoldable pub accepted_in : Setup → ℕ → Docs → List Items
 accepted_in x taken (ends rest) = []
 accepted_in x taken (doc n c docs) =
@@ -113,9 +109,26 @@ abbrev pub SealsStream : Setup → List ℕ → EntropySeen → EntropySeen → 
 SealsStream x told entropy entropy_after out out_after =
     SealsAllOf x (accepted_in x 0 (documents told)) entropy entropy_after out out_after
 
+-- the output failed: the next command is there and was sealed with the further blocks, and the further bytes are the
+-- first of its sealed form, and not all of them
+abbrev pub SealsPart : Setup → List Items → List Block → List ℕ → Type 0
+SealsPart x [] more part = ⊥
+SealsPart x (c ∷ cs) more part = (d : Items) × IsSealedUnder x c more d × IsProperPrefix part (doc_bytes d)
+
+-- a draw failed: the next command is there and draws more than the further blocks, and no further byte was written
+abbrev pub DrawsPart : Setup → List Items → List Block → List ℕ → Type 0
+DrawsPart x [] more part = ⊥
+DrawsPart x (c ∷ cs) more part = (length more < draws_of (sites_in x c)) × (part ≡ [])
+
+-- what came of the commands that weren't written whole, by the status: with any other than 6 and 7 no block and no byte
+abbrev pub SealsNext : Setup → Status → List Items → List Block → List ℕ → Type 0
+SealsNext x statuses.WriteFault others more part = SealsPart x others more part
+SealsNext x statuses.EntropyFault others more part = DrawsPart x others more part
+SealsNext x status others more part = (more ≡ []) × (part ≡ [])
+
 -- whatever cut the run short, it sealed the first of these commands, with the first blocks that it drew, and wrote
--- their bytes, one after another, and a part of the next output
-pub record SealsFirstOf (x : Setup) (commands : List Items) (entropy entropy_after : EntropySeen)
+-- their bytes, one after another; the further blocks and bytes are what came of the next command
+pub record SealsFirstOf (x : Setup) (commands : List Items) (status : Status) (entropy entropy_after : EntropySeen)
     (out out_after : SinkSeen) : Type 0 where
   pub whole : List Items
   pub others : List Items
@@ -126,19 +139,31 @@ pub record SealsFirstOf (x : Setup) (commands : List Items) (entropy entropy_aft
   pub each : AreSealedUnder x whole blocks sealed
   pub draws : Draws entropy entropy_after (blocks ++ more)
   pub part : List ℕ
+  pub next : SealsNext x status others more part
   pub gains : Gains out.told out_after.told (stream sealed ++ part)
 
 -- the same of the commands that it accepted
-abbrev pub SealsFirst : Setup → List ℕ → EntropySeen → EntropySeen → SinkSeen → SinkSeen → Type 0
-SealsFirst x told entropy entropy_after out out_after =
-    SealsFirstOf x (accepted_in x 0 (documents told)) entropy entropy_after out out_after
+abbrev pub SealsFirst : Setup → List ℕ → Status → EntropySeen → EntropySeen → SinkSeen → SinkSeen → Type 0
+SealsFirst x told status entropy entropy_after out out_after =
+    SealsFirstOf x (accepted_in x 0 (documents told)) status entropy entropy_after out out_after
 
--- and of commands that are opened, it wrote the first, and a part of the next output
-pub record OpensFirst (commands : List Items) (out out_after : SinkSeen) : Type 0 where
+-- the output failed: the next command is there, and the further bytes are the first of its own, and not all of them
+abbrev pub OpensPart : List Items → List ℕ → Type 0
+OpensPart [] part = ⊥
+OpensPart (c ∷ cs) part = IsProperPrefix part (doc_bytes c)
+
+-- with any other status than 6 no further byte was written
+abbrev pub OpensNext : Status → List Items → List ℕ → Type 0
+OpensNext statuses.WriteFault others part = OpensPart others part
+OpensNext status others part = part ≡ []
+
+-- and of commands that are opened, it wrote the first; the further bytes are what came of the next one
+pub record OpensFirst (commands : List Items) (status : Status) (out out_after : SinkSeen) : Type 0 where
   pub whole : List Items
   pub others : List Items
   pub split : commands ≡ whole ++ others
   pub part : List ℕ
+  pub next : OpensNext status others part
   pub gains : Gains out.told out_after.told (stream whole ++ part)
 
 -- commands that their sealed forms open to: each has a spelling, is accepted by its contents, and has no payload

@@ -73,21 +73,22 @@ pub record IsDecrypt (words : List (List ℕ)) (all : Files) (x : Setup) : Type 
   pub others : (0 < length keys) × (0 < length master)
   pub files : HoldKeys all keys master x
 
--- `encrypt`: the first of the accepted commands were sealed and written, whatever cut the run short; and where no
--- object failed and memory lasted, every accepted command was sealed, and nothing else changed
+-- `encrypt`: the first of the accepted commands were sealed and written, whatever cut the run short, and at most a part
+-- of the next one's sealed form; and where no object failed and memory lasted, every accepted command was sealed, and
+-- nothing else changed
 abbrev pub SealsAll : List (List ℕ) → World → World → Status → Type 0
 SealsAll words before after status =
     (all : Files) (told : List ℕ) (x : Setup) → before.files.told ≡ Some all → before.input.told ≡ Some told
     → IsEncrypt words all x → All (λ b. b < 256) told
-    → SealsFirst x told before.entropy after.entropy before.out after.out
+    → SealsFirst x told status before.entropy after.entropy before.out after.out
     × (IsSettled status → SealsStream x told before.entropy after.entropy before.out after.out)
 
--- `decrypt` over sealed commands: the first of the commands were written, byte for byte, whatever cut the run short;
--- and where no object failed and memory lasted, all of them
+-- `decrypt` over sealed commands: the first of the commands were written, byte for byte, whatever cut the run short,
+-- and at most a part of the next one; and where no object failed and memory lasted, all of them
 abbrev pub OpensAll : List (List ℕ) → World → World → Status → Type 0
 OpensAll words before after status =
     (all : Files) (x : Setup) (commands : List Items) (blocks : List Block) (sealed : List Items)
     → before.files.told ≡ Some all → before.input.told ≡ Some (stream sealed) → IsDecrypt words all x
     → AreSealedUnder x commands blocks sealed → AreReadable x commands sealed → length (stream sealed) < 2 ^ 40
-    → OpensFirst commands before.out after.out
+    → OpensFirst commands status before.out after.out
     × (IsSettled status → (status ≡ statuses.Done) × Gains before.out.told after.out.told (stream commands))

@@ -48,13 +48,14 @@ pub record IsEncryptWith (words : List (List ℕ)) (all : Files) (x : Setup) : T
   pub form : form_of words ≡ Some (encrypt_with x.db keys schemas master)
   pub files : HoldSetup all keys schemas master x
 
--- the first of the accepted commands were sealed and written, whatever cut the run short; and where no object failed
--- and memory lasted, every accepted command was sealed, and nothing else changed
+-- the first of the accepted commands were sealed and written, whatever cut the run short, and at most a part of the
+-- next one's sealed form; and where no object failed and memory lasted, every accepted command was sealed, and nothing
+-- else changed
 abbrev pub SealsPairs : List (List ℕ) → World → World → Status → Type 0
 SealsPairs words before after status =
     (all : Files) (told : List ℕ) (x : Setup) → before.files.told ≡ Some all → before.input.told ≡ Some told
     → IsEncryptWith words all x → All (λ b. b < 256) told
-    → SealsFirstOf x (commands_in x told) before.entropy after.entropy before.out after.out
+    → SealsFirstOf x (commands_in x told) status before.entropy after.entropy before.out after.out
     × (IsSettled status → SealsAllOf x (commands_in x told) before.entropy after.entropy before.out after.out)
 
 -- pairs of documents, and commands alone: each command is the first document of its pair and isn't refused by itself,

@@ -1,6 +1,6 @@
 //! Laws over whole runs. They speak of definitions alone, and `main` calls none of them.
 
-ghost use Rattle.std.specs.Prelude.{◌≡◌, ◌<◌, ◌≤◌, ◌^◌, List, ℕ, [], length, true, Option, Some, Ok, Err};
+ghost use Rattle.std.specs.Prelude.{◌≡◌, ◌<◌, ◌≤◌, ◌^◌, ◌++◌, List, ℕ, [], length, true, Option, Some, Ok, Err};
 ghost use Rattle.std.specs.List.{All};
 ghost use Rattle.bson_tree.specs.Tree.{Items};
 ghost use Rattle.context_machine.specs.Rings.{Finder, by_ids, finder, found_in, ring};
@@ -10,11 +10,12 @@ ghost use Rattle.encrypt_schema.specs.Language.Collection.{Collection};
 ghost use Rattle.ext_json.specs.Infos.{json_infos};
 ghost use Rattle.fle_outside.specs.Blocks.{Block};
 ghost use Rattle.fle_outside.specs.Files.{Files};
-ghost use Rattle.fle_outside.specs.Seen.{EntropySeen, SinkSeen};
+ghost use Rattle.fle_outside.specs.Seen.{EntropySeen, Gains, SinkSeen};
 ghost use Rattle.fle_runner.specs.Decrypt.{decrypt_verdict};
 ghost use Rattle.fle_runner.specs.Encrypt.{encrypt_task, encrypt_verdict};
+ghost use Rattle.fle_runner.specs.EncryptWith.{encrypt_with_task};
 ghost use Rattle.fle_runner.specs.Headline.{AreByUuid, AreOpenable, AreReadable, AreSealedUnder, OpensAgain, Setup};
-ghost use Rattle.fle_runner.specs.Headline.{SealsAllOf, SealsStream, accepted, verdict_of};
+ghost use Rattle.fle_runner.specs.Headline.{SealsAllOf, SealsFirst, SealsStream, accepted_in, verdict_of};
 ghost use Rattle.fle_runner.specs.HeadlineFiles.{IsEncrypt, IsMark};
 ghost use Rattle.fle_runner.specs.HeadlinePairs.{AreRightPairs, IsEncryptWith, commands_in, pairing_of};
 ghost use Rattle.fle_files.specs.Infos.{infos_read, is_json};
@@ -29,6 +30,8 @@ ghost use Rattle.fle_stream.specs.Pairs.{HaveOnePlan, answer_limit, docs_size};
 ghost use Rattle.fle_stream.specs.Plan.{Verdict, written};
 ghost use Rattle.fle_stream.specs.Streams.{document_limit, documents, documents_within};
 ghost use Rattle.fle_stream.specs.Task.{each, outcome_of, pairs};
+ghost use Rattle.fle_stream.specs.declared.status.Status.{Status};
+ghost use Rattle.fle_stream.specs.declared.status.Status.TheVariants as statuses;
 ghost use Rattle.key_vault.specs.Loading.{vault};
 
 use fle_files::InfosFault;
@@ -40,13 +43,16 @@ pub fn empty_input_is_done()
         → outcome_of (task now words all) [] ≡ finished Finish.Done 1 0 }
 {}
 
-/// `mark` and `encrypt` over a file in JSON are `mark` and `encrypt` over its documents in BSON.
+/// `mark`, `encrypt` and `encrypt-with` over a file in JSON are the same over its documents in BSON.
 pub fn json_infos_are_their_bson()
     ensures mark { (db json bson : List ℕ) → length json ≤ file_limit → length bson ≤ file_limit → is_json json ≡ true
         → json_infos json ≡ Ok bson → mark_task db (Some json) ≡ mark_task db (Some bson) }
     ensures encrypt { (db : List ℕ) (vault master : Option (List ℕ)) (json bson : List ℕ) → length json ≤ file_limit
         → length bson ≤ file_limit → is_json json ≡ true → json_infos json ≡ Ok bson
         → encrypt_task db vault (Some json) master ≡ encrypt_task db vault (Some bson) master }
+    ensures encrypt_with { (db : List ℕ) (vault master : Option (List ℕ)) (json bson : List ℕ)
+        → length json ≤ file_limit → length bson ≤ file_limit → is_json json ≡ true → json_infos json ≡ Ok bson
+        → encrypt_with_task db vault (Some json) master ≡ encrypt_with_task db vault (Some bson) master }
 {}
 
 /// No file comes to want of memory: that is an answer of reading it alone.
@@ -82,16 +88,36 @@ pub fn sealed_commands_are_read_back()
     ensures bytes { (x : Setup) (cs : List Items) (blocks : List Block) (ds : List Items)
         → OpensAgain x → AreSealedUnder x cs blocks ds → AreReadable x cs ds → written (read_whole cs ds).outputs []
         ≡ stream cs }
+    // The commands that a run of `encrypt` accepted, and the first of them.
+    ensures readable { (x : Setup) (told : List ℕ) (ds : List Items) → All (λ b. b < 256) told
+        → AreOpenable x (accepted_in x 0 (documents told)) ds → AreReadable x (accepted_in x 0 (documents told)) ds }
+    ensures first_readable { (x : Setup) (told : List ℕ) (whole others ds : List Items) → All (λ b. b < 256) told
+        → accepted_in x 0 (documents told) ≡ whole ++ others → AreOpenable x whole ds → AreReadable x whole ds }
     // What a run of `encrypt` wrote that nothing cut short.
     ensures run { (x : Setup) (told : List ℕ) (entropy entropy_after : EntropySeen) (out out_after : SinkSeen)
         → OpensAgain x → All (λ b. b < 256) told → (s : SealsStream x told entropy entropy_after out out_after)
-        → AreOpenable x (accepted (verdict_of x) 0 (documents told)) s.sealed → length (stream s.sealed) < 2 ^ 40
+        → AreOpenable x (accepted_in x 0 (documents told)) s.sealed → length (stream s.sealed) < 2 ^ 40
         → outcome_of (each (decrypt_verdict x.opens)) (stream s.sealed)
-        ≡ read_whole (accepted (verdict_of x) 0 (documents told)) s.sealed }
+        ≡ read_whole (accepted_in x 0 (documents told)) s.sealed }
     // Keys looked up by ids alone, and those of a vault.
     ensures by_ids { (keys : Keyring) → HasAll keys (found_in (by_ids keys)) }
     ensures vault { (bytes master : List ℕ) (keys : List KeyDoc) → vault bytes ≡ Ok keys
         → HasAll (ring keys master) (found_in (finder keys master)) }
+{}
+
+/// What a run of `encrypt` wrote that ended with another status than 6, as for want of memory or since a draw failed,
+/// is the first of its sealed commands, each of them whole, and nothing else; and `decrypt` over it reads it to its end
+/// and writes these commands.
+pub fn first_commands_are_read_back()
+    ensures gains { (x : Setup) (told : List ℕ) (status : Status) (entropy entropy_after : EntropySeen)
+        (out out_after : SinkSeen) → (status ≡ statuses.WriteFault → ⊥)
+        → (s : SealsFirst x told status entropy entropy_after out out_after)
+        → Gains out.told out_after.told (stream s.sealed) }
+    ensures run { (x : Setup) (told : List ℕ) (status : Status) (entropy entropy_after : EntropySeen)
+        (out out_after : SinkSeen) → OpensAgain x → All (λ b. b < 256) told
+        → (s : SealsFirst x told status entropy entropy_after out out_after) → AreOpenable x s.whole s.sealed
+        → length (stream s.sealed) < 2 ^ 40
+        → outcome_of (each (decrypt_verdict x.opens)) (stream s.sealed) ≡ read_whole s.whole s.sealed }
 {}
 
 /// Noninterference: under the same words and files, streams of commands with equal skeletons come to one end: how and

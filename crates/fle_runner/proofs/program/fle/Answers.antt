@@ -54,7 +54,8 @@ returns-clause-encrypts g c = λ all told x has is asks bytes.
     let run = c.act-end.ensures.run in
     let shown = told_shown (form_of (map string_bytes c.args.words.now)) (g.F.Folder.seen c.args.files.now) in
     let ran = (run.did all told (shown all has) is).ran in (
-      encrypts_first c.cast_unsigned.result _ all told x asks bytes (run.did all told (shown all has) is),
+      encrypts_first c.cast_unsigned.result _ all told x asks bytes c.report.ensures.status
+          (run.did all told (shown all has) is),
       λ settled. encrypts c.cast_unsigned.result _ all told x _ _ _ _ asks bytes
           (whole_of ran (subst (λ (s : Status). IsSettled s) c.report.ensures.status settled)),
     )
@@ -64,7 +65,8 @@ returns-clause-encrypts_with g c = λ all told x has is asks bytes.
     let run = c.act-end.ensures.run in
     let shown = told_shown (form_of (map string_bytes c.args.words.now)) (g.F.Folder.seen c.args.files.now) in
     let ran = (run.did all told (shown all has) is).ran in (
-      encrypts_pairs_first c.cast_unsigned.result _ all told x asks bytes (run.did all told (shown all has) is),
+      encrypts_pairs_first c.cast_unsigned.result _ all told x asks bytes c.report.ensures.status
+          (run.did all told (shown all has) is),
       λ settled. encrypts_pairs c.cast_unsigned.result _ all told x _ _ _ _ asks bytes
           (whole_of ran (subst (λ (s : Status). IsSettled s) c.report.ensures.status settled)),
     )
@@ -75,7 +77,7 @@ returns-clause-decrypts g c = λ all x commands blocks sealed has is asks each r
     let shown = told_shown (form_of (map string_bytes c.args.words.now)) (g.F.Folder.seen c.args.files.now) in
     let back = decrypts c.cast_unsigned.result _ all x commands blocks sealed asks each readable few in
     let ran = (run.did all (stream sealed) (shown all has) is).ran in (
-      opens_first commands sealed back ran,
+      opens_first commands sealed back c.report.ensures.status ran,
       λ settled.
           let ended = subst (λ (s : Status). IsSettled s) c.report.ensures.status settled in (
             c.report.ensures.status
