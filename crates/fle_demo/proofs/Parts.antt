@@ -1,10 +1,6 @@
 -- Parts appended one after another.
 use Rattle.std.proofs.Common.{◌≡◌, ℕ, List, ◌++◌, append_assoc}
 
-pub four_parts : (old a b c d o p q r : List ℕ) → o ≡ old ++ a → p ≡ o ++ b → q ≡ p ++ c → r ≡ q ++ d
-    → r ≡ old ++ (a ++ (b ++ (c ++ d)))
-four_parts old a b c d o p q r h i j k = rw (k, j, i, h) (simp append_assoc)
-
 pub six_parts : (old a b c d e f o p q r s t : List ℕ) → o ≡ old ++ a → p ≡ o ++ b → q ≡ p ++ c → r ≡ q ++ d
     → s ≡ r ++ e → t ≡ s ++ f
     → t ≡ old ++ (a ++ (b ++ (c ++ (d ++ (e ++ f)))))

@@ -81,14 +81,6 @@ reaches_under key m n rows db t i x y blocks all same equal reaches =
     subst (λ (k : List ℕ). Reaches (ring (key ∷ []) k) rows db t i y blocks all) same
     (subst (λ (z : ℕ). Reaches (ring (key ∷ []) m) rows db t i z blocks all) equal reaches)
 
--- no command is left
-pub reaches_end : (keys : Keyring) (rows : List Row) (db : List ℕ) (t : Totals) (i x : ℕ) (blocks : List Block) (all :
-    Sums)
-    → blocks ≡ [] → Reaches keys rows db t i x blocks all → IsTotal t all
-reaches_end keys rows db t i x blocks all none reaches =
-    let here = subst (λ (bs : List Block). Reaches keys rows db t i x bs all) none reaches in
-    subst (λ (s : Sums). IsTotal t s) here.rest here.total
-
 -- the line is that of the definition
 pub text_is : (db : List ℕ) (n : ℕ) (key : KeyDoc) (bs others : List Block) (t : Totals) (text : List ℕ)
     → bs ≡ blocks n → key ≡ key_of_blocks master [] (take 8 bs) → others ≡ drop 8 bs
