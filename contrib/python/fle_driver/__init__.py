@@ -1,10 +1,11 @@
-"""Client-side field level encryption for pymongo, by two kept processes of the program `fle`."""
+"""Client-side field level encryption for pymongo, by the library libfle or by kept processes of the program `fle`."""
+from .databases import Databases
 from .errors import Closed, Ended, FaultyFile, FleError, NotStarted, Refused, TimedOut, Unsupported
 from .faults import (FileFault, InputFault, KeyFault, Limit, MasterFault, Reason, SchemaFault,
                      Status)
 from .fle import Fle
 from .hook import enable
 
-__all__ = ["Closed", "Ended", "FaultyFile", "FileFault", "Fle", "FleError", "InputFault", "KeyFault", "Limit",
-           "MasterFault", "NotStarted", "Reason", "Refused", "SchemaFault", "Status", "TimedOut", "Unsupported",
-           "enable"]
+__all__ = ["Closed", "Databases", "Ended", "FaultyFile", "FileFault", "Fle", "FleError", "InputFault", "KeyFault",
+           "Limit", "MasterFault", "NotStarted", "Reason", "Refused", "SchemaFault", "Status", "TimedOut",
+           "Unsupported", "enable"]

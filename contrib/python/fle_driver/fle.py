@@ -4,7 +4,7 @@ from __future__ import annotations
 import os
 import shutil
 from types import TracebackType
-from typing import FrozenSet, Optional, Type, Union
+from typing import TYPE_CHECKING, Any, Dict, FrozenSet, Mapping, Optional, Sequence, Tuple, Type, Union
 
 from .deadline import MOST
 from .errors import Closed, NotStarted
@@ -14,7 +14,12 @@ from .library import Engine, Part, loaded
 from .listed import collections_of
 from .process import Bytes
 
+if TYPE_CHECKING:
+    from .databases import Databases
+    from .schema_map import Schemas
+
 File = Union[str, "os.PathLike[str]"]
+Named = Tuple[str, bytes]  # what a file holds, or would, by the name that errors tell
 
 PING = b"\x0f\0\0\0\x10ping\0\1\0\0\0\0"  # {ping: 1}
 EMPTY = b"\5\0\0\0\0"
@@ -30,30 +35,66 @@ class Fle:
     with None it waits as long as it takes.
     """
 
+    bypass = whole_names = False
+    vault: Optional[Tuple[str, str]] = None
+
     def __init__(self, db: str, keys: File, schemas: File, master: File, program: Optional[File] = None,
                  timeout: Optional[float] = 60) -> None:
+        paths = [os.path.abspath(path) for path in (keys, schemas, master)]
+        self._begin(db, list(zip(paths, read_all(paths))), program, timeout)
+
+    @classmethod
+    def over(cls, db: str, files: Sequence[Named], program: Optional[File] = None, timeout: Optional[float] = 60, *,
+             seals: bool = True, opens: bool = True) -> Fle:
+        """One over what is in memory: keys, schemas and master. A process that isn't for sealing, or for opening,
+        begins at the first call that wants it, if ever one does."""
+        made = cls.__new__(cls)
+        made._begin(db, files, program, timeout, seals, opens)
+        return made
+
+    @staticmethod
+    def of(client: Any, vault: str, *, schemas: Optional[Schemas] = None, master: Optional[Bytes] = None,
+           kms_providers: Optional[Mapping[str, Any]] = None, db: Optional[str] = None, bypass: bool = False,
+           program: Optional[File] = None, timeout: Optional[float] = 60) -> Databases:
+        """Those of several databases, with the keys of a collection, as `encryption.__keyVault`, which is read by this
+        client: `Databases` says more."""
+        from .databases import Databases  # which stands on this module
+
+        return Databases(client, vault, schemas, master, kms_providers, db=db, bypass=bypass, program=program,
+                         timeout=timeout)
+
+    def _begin(self, db: str, files: Sequence[Named], program: Optional[File], timeout: Optional[float],
+               seals: bool = True, opens: bool = True) -> None:
+        """Opens an engine of the library; or else begins processes."""
         if timeout is not None and not 0 < timeout <= MOST:
             raise ValueError(f"a timeout of {timeout} seconds: it is above 0 and at most {MOST:,}")
         self.db = db
+        self._schemas: Optional[bytes] = files[1][1]
         calls = loaded() if program is None else None
-        fle = found(program or "fle") if calls is None else ""
-        paths = [os.path.abspath(path) for path in (keys, schemas, master)]
-        contents = read_all(paths)
-        self._schemas: Optional[bytes] = contents[1]
         if calls is not None:
-            engine = Engine(calls, db, paths, contents)
+            engine = Engine(calls, db, [name for name, _ in files], [content for _, content in files])
             self._sealing: Union[Kept, Part] = Part(engine, True)
             self._opening: Union[Kept, Part] = Part(engine, False)
             return
-        files = list(zip(paths, contents))
+        fle = found(program or "fle")
         self._sealing = Kept([fle, "encrypt", db], files, timeout)
         self._opening = Kept([fle, "decrypt"], [files[0], files[2]], timeout)
         try:
-            self._sealing.ask(PING)
-            self._opening.ask(EMPTY)
+            if seals:
+                self._sealing.ask(PING)
+            if opens:
+                self._opening.ask(EMPTY)
         except BaseException:
             self.close()
             raise
+
+    def engine(self, db: str) -> Optional[Fle]:
+        """What seals the commands of a database: this one those of its own, and of no other."""
+        return self if db == self.db else None
+
+    def opening(self) -> Fle:
+        """What opens replies."""
+        return self
 
     def encrypt(self, command: Bytes) -> bytes:
         """A command of this database with each protected value sealed, and nothing else changed."""
@@ -69,6 +110,10 @@ class Fle:
         if schemas is None:
             raise Closed("fle was closed")
         return collections_of(schemas)
+
+    def listed(self) -> Dict[str, FrozenSet[bytes]]:
+        """The same, by the name of the database."""
+        return {self.db: self.collections()}
 
     def close(self) -> None:
         """Ends both processes, once calls that are at work have ended; a later call raises `Closed`."""

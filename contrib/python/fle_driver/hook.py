@@ -2,17 +2,17 @@
 from __future__ import annotations
 
 import re
-from typing import Any, Iterable, Mapping, NoReturn
+from typing import Any, Iterable, Mapping, NoReturn, Optional
 
 import bson
 import pymongo
 
 from .errors import Unsupported
-from .fle import Fle
-from .reach import REACHING, name_of, reaches
-from .replies import opened
-from .scope import Scope
+from .reach import REACHING, name_of
+from .replies import may_hold_payloads, opened
+from .scope import Engines, Scope
 from .sent import Sent
+from .vault import reads_keys
 
 TRIED = "pymongo 3.11"
 IS_TRIED = re.compile(r"3\.11(\..*)?")  # of pymongo.version
@@ -22,10 +22,9 @@ TIME = "$clusterTime"  # the server's own; as in pymongo's own encryption it isn
 class Hook:
     """What pymongo asks of the object that it keeps as a client's `_encrypter`."""
 
-    _bypass_auto_encryption = False
-
-    def __init__(self, fle: Fle, others: Iterable[str] = (), plain: Iterable[str] = ()) -> None:
+    def __init__(self, fle: Engines, others: Iterable[str] = (), plain: Iterable[str] = ()) -> None:
         self._fle, self._scope = fle, Scope(fle, others, plain)
+        self._bypass_auto_encryption = fle.bypass  # then pymongo hands in replies alone
 
     def encrypt(self, database: str, command: Mapping[str, Any], *options: Any) -> Mapping[str, Any]:
         """The command as it is sent. pymongo 3 hands in whether names are checked, and then, as pymongo 4 does, the
@@ -35,37 +34,47 @@ class Hook:
         encoded again, by another thread or by a codec's own code."""
         judged = {name: value for name, value in command.items() if name != TIME}
         plain = bson.encode(judged, *options[:-1], codec_options=options[-1])
-        if database == self._fle.db:
-            plain = self._fle.encrypt(plain)
-            self._scope.want_collection(plain)
-        else:
-            self._scope.want_database(database, name_of(plain))
-            if name_of(plain) not in REACHING:
-                return command
-            if reaches(self._fle.db, plain):
-                raise Unsupported(f"{name_of(plain)} of another database would write into {self._fle.db} past its "
-                                  "rules: write by the calls of its collections")
-        sent = Sent(plain, options[-1])
+        whole = self._judged(database, plain)
+        if whole is None:
+            return command
+        sent = Sent(whole, options[-1])
         if TIME in command:
             sent[TIME] = command[TIME]
         return sent
 
+    def _judged(self, database: str, plain: bytes) -> Optional[bytes]:
+        """What is sent of a command that may be sent; None where no byte of it was looked at but its name."""
+        if reads_keys(self._fle.vault, database, plain):
+            return plain
+        fle = self._fle.engine(database)  # a call ends with the engine that it began with
+        if fle is not None:
+            whole = fle.encrypt(plain)
+            self._scope.want_collection(database, whole)
+            return whole
+        self._scope.want_database(database, name_of(plain))
+        if name_of(plain) not in REACHING:
+            return None
+        self._scope.want_no_reach(plain)
+        return plain
+
     def decrypt(self, response: bytes) -> bytes:
-        """A reply with what was sealed opened."""
-        return opened(bytes(response), self._fle.decrypt)
+        """A reply with what was sealed opened, all of it by one engine."""
+        reply = bytes(response)
+        return opened(reply, self._fle.opening().decrypt) if may_hold_payloads(reply) else reply
 
     def close(self) -> None:
         """What the client's own `close` calls."""
         self._fle.close()
 
 
-def enable(client: pymongo.MongoClient, fle: Fle, others: Iterable[str] = (), plain: Iterable[str] = (), *,
+def enable(client: pymongo.MongoClient, fle: Engines, others: Iterable[str] = (), plain: Iterable[str] = (), *,
            untried: bool = False) -> None:
-    """From here on the client seals what it sends to the database of `fle`, and opens each reply that it receives.
+    """From here on the client seals what it sends to each database of `fle`, and opens each reply that it receives.
 
-    `others` names other databases, and `plain` collections of this one that SCHEMAS doesn't list: their values are sent
-    as they are. A command of any other, and one of another database that would write into this one, raises
-    `Unsupported`; one that `fle` doesn't know, such as aggregate, `Refused`. Closing the client closes `fle`.
+    `others` names other databases, and `plain` collections of these that SCHEMAS doesn't list, as `database.collection`
+    where `fle` is by `Fle.of`: their values are sent as they are. A command of any other, and one of another database
+    that would write into these, raises `Unsupported`; one that `fle` doesn't know, such as aggregate, `Refused`.
+    Closing the client closes `fle`.
 
     A version of pymongo that wasn't tried is taken only with `untried`.
     """

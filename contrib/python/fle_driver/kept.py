@@ -4,7 +4,7 @@ from __future__ import annotations
 import os
 import threading
 import weakref
-from typing import Optional, Sequence, Tuple
+from typing import Optional, Protocol, Sequence, Tuple
 
 from .deadline import Deadline
 from .errors import Closed, Ended, ended
@@ -100,13 +100,20 @@ class Kept:
             process.forget()
 
 
-ALL: weakref.WeakSet[Kept] = weakref.WeakSet()
+class Forgetting(Protocol):
+    """What a child has to make anew after a fork."""
+
+    def forget(self) -> None:
+        """Leaves to the parent what is the parent's."""
+
+
+ALL: weakref.WeakSet[Forgetting] = weakref.WeakSet()
 
 
 def forget_all() -> None:
     """What a child does after a fork."""
-    for kept in list(ALL):
-        kept.forget()
+    for one in list(ALL):
+        one.forget()
 
 
 os.register_at_fork(after_in_child=forget_all)

@@ -1,5 +1,8 @@
 """What the tests share: the examples' files, documents written byte by byte, and a run of `fle` for each of them."""
+import contextlib
+import stat
 import subprocess
+import tempfile
 from pathlib import Path
 
 TOP = Path(__file__).parents[3]
@@ -55,3 +58,13 @@ def ran(words, stream):
 
 def sealed(command):
     return ran(["encrypt", *FILES], command)
+
+
+@contextlib.contextmanager
+def program(text):
+    """A program of this text."""
+    with tempfile.TemporaryDirectory() as folder:
+        path = Path(folder, "program")
+        path.write_text(f"#!/bin/sh\n{text}\n")
+        path.chmod(path.stat().st_mode | stat.S_IXUSR)
+        yield str(path)

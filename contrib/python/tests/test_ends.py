@@ -1,14 +1,11 @@
 """Processes that end, that stop, and that nobody names any more."""
-import contextlib
 import gc
 import itertools
 import os
 import shutil
 import signal
-import stat
 import subprocess
 import sys
-import tempfile
 import time
 import unittest
 from concurrent.futures import ThreadPoolExecutor
@@ -19,7 +16,7 @@ from fle_driver import Ended, Fle, Refused, TimedOut
 from fle_driver.kept import Kept
 from fle_driver.process import Process
 
-from .samples import FILES, binary, element, insert, sealed, spelled, string
+from .samples import FILES, binary, element, insert, program, sealed, spelled, string
 
 COMMAND = insert(spelled(string("ssn", "987-65-4321")))
 REFUSED = insert(spelled(element(10, "ssn", b"")))
@@ -72,16 +69,6 @@ def children_of(fle):
 def is_there(number):
     """Whether a process is there, be it that its end was not waited for."""
     return os.path.exists(f"/proc/{number}")
-
-
-@contextlib.contextmanager
-def program(text):
-    """A program of this text."""
-    with tempfile.TemporaryDirectory() as folder:
-        path = Path(folder, "program")
-        path.write_text(f"#!/bin/sh\n{text}\n")
-        path.chmod(path.stat().st_mode | stat.S_IXUSR)
-        yield str(path)
 
 
 @unittest.skipUnless(shutil.which("fle"), "no fle in PATH")

@@ -20,11 +20,8 @@ from fle_driver.hook import Hook
 from fle_driver.walk import ARRAY, elements
 
 from .samples import FILES, PERSON, insert, sealed, spelled, string
+from .wire import WithClients, batch
 
-try:
-    from .wire import Wire, batch
-except ImportError:
-    Wire = None
 FILTER = {"ssn": "123-45-6789"}
 E11000 = {"ok": 1, "n": 0, "writeErrors": [{"index": 0, "code": 11000, "errmsg": "E11000 duplicate key"}]}
 
@@ -39,18 +36,10 @@ def updates(verb, field, *items):
     return bson.encode(SON([(verb, "people"), (field, [SON(item) for item in items])]))
 
 
-@unittest.skipUnless(Wire and shutil.which("fle"), "no mockupdb, or no fle in PATH")
-class OnTheWire(unittest.TestCase):
-    @classmethod
-    def setUpClass(cls):
-        cls.wire = Wire()
-        cls.addClassCleanup(cls.wire.stop)
-
+class OnTheWire(WithClients):
     def setUp(self):
-        self.wire.forget()
-        self.client = pymongo.MongoClient(self.wire.uri)
-        self.addCleanup(self.client.close)
-        enable(self.client, Fle(*FILES), others=["other"])
+        super().setUp()
+        self.client = self.client_of(Fle(*FILES), others=["other"])
         self.people = self.client.hr.people
         self.raw = self.people.with_options(codec_options=DEFAULT_RAW_BSON_OPTIONS)
 

@@ -2,17 +2,12 @@
 import subprocess
 import sys
 import tempfile
-import unittest
 from pathlib import Path
 
 import bson
 
 from .samples import KEYS, TOP
-
-try:
-    from .wire import Wire, batch
-except ImportError:
-    Wire = None
+from .wire import WithServer, batch
 
 NONE = {"ok": 1, "n": 0, "nModified": 0}
 
@@ -41,13 +36,7 @@ OLD = documents_of(KEYS.read_bytes())
 NEW = list(map(changed, OLD))
 
 
-@unittest.skipUnless(Wire, "no mockupdb")
-class PutKeys(unittest.TestCase):
-    @classmethod
-    def setUpClass(cls):
-        cls.wire = Wire()
-        cls.addClassCleanup(cls.wire.stop)
-
+class PutKeys(WithServer):
     def run_with(self, documents, *replies):
         """The exit status and what is printed, where NEW holds these documents and the server answers so."""
         self.wire.forget()

@@ -1,22 +1,16 @@
 """Commands of another database that write into the one whose rules a client keeps aren't sent."""
-import shutil
 import unittest
 
 import bson
-import pymongo
 from bson.raw_bson import RawBSONDocument
 from bson.son import SON
 
-from fle_driver import Fle, Refused, Unsupported, enable
+from fle_driver import Fle, Refused, Unsupported
 from fle_driver.reach import reaches
 from fle_driver.walk import elements
 
 from .samples import FILES, element, integer, spelled, string
-
-try:
-    from .wire import Wire
-except ImportError:
-    Wire = None
+from .wire import WithClients
 
 
 def aggregate(*stages):
@@ -96,18 +90,10 @@ class Commands(unittest.TestCase):
         self.assertFalse(reaches("hr", spelled()))
 
 
-@unittest.skipUnless(Wire and shutil.which("fle"), "no mockupdb, or no fle in PATH")
-class OnTheWire(unittest.TestCase):
-    @classmethod
-    def setUpClass(cls):
-        cls.wire = Wire()
-        cls.addClassCleanup(cls.wire.stop)
-
+class OnTheWire(WithClients):
     def setUp(self):
-        self.wire.forget()
-        self.client = pymongo.MongoClient(self.wire.uri)
-        self.addCleanup(self.client.close)
-        enable(self.client, Fle(*FILES), others=["other", "admin"])
+        super().setUp()
+        self.client = self.client_of(Fle(*FILES), others=["other", "admin"])
 
     def test_from_every_database(self):
         for name, command in {**REACHING, **UNREADABLE}.items():

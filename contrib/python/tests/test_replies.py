@@ -3,19 +3,15 @@ import shutil
 import unittest
 from unittest import mock
 
-import pymongo
 from bson.raw_bson import DEFAULT_RAW_BSON_OPTIONS, RawBSONDocument
 
-from fle_driver import Fle, Limit, Reason, Refused, enable
+from fle_driver import Fle, Limit, Reason, Refused
 from fle_driver.replies import HEADS, MOST, may_hold_payloads, opened
 from fle_driver.walk import elements
 
 from .samples import FILES, ODD, PERSON, binary, element, insert, integer, sealed, spelled, string
+from .wire import WithClients, batch
 
-try:
-    from .wire import Wire, batch
-except ImportError:
-    Wire = None
 LEAST = 82  # bytes of a payload
 SHORT = spelled(string("ssn", "123-45-6789"))
 
@@ -120,20 +116,11 @@ class Lengths(unittest.TestCase):
                 self.assertEqual(str(error), f"KeyMissing at {fields} (place {'.'.join(map(str, place))})")
 
 
-@unittest.skipUnless(Wire and shutil.which("fle"), "no mockupdb, or no fle in PATH")
-class OnTheWire(unittest.TestCase):
-    @classmethod
-    def setUpClass(cls):
-        cls.wire = Wire()
-        cls.addClassCleanup(cls.wire.stop)
-
+class OnTheWire(WithClients):
     def setUp(self):
-        self.wire.forget()
+        super().setUp()
         self.fle = Fle(*FILES, program="fle")
-        self.client = pymongo.MongoClient(self.wire.uri)
-        self.addCleanup(self.client.close)
-        enable(self.client, self.fle)
-        self.raw = self.client.hr.people.with_options(codec_options=DEFAULT_RAW_BSON_OPTIONS)
+        self.raw = self.client_of(self.fle).hr.people.with_options(codec_options=DEFAULT_RAW_BSON_OPTIONS)
 
     def test_documents_of_the_greatest_length(self):
         plain = filled(MOST)

@@ -10,17 +10,14 @@ from bson.codec_options import CodecOptions
 from bson.raw_bson import RawBSONDocument
 from bson.son import SON
 
-from fle_driver import Closed, Fle, Reason, Refused, Unsupported, enable
+from fle_driver import Closed, Fle, Reason, Refused, Unsupported
 from fle_driver.hook import Hook
 from fle_driver.listed import collections_of
 from fle_driver.scope import PASSING
 
 from .samples import EXAMPLES, FILES, KEYS, MASTER, PERSON, spelled, string
+from .wire import WithClients, batch
 
-try:
-    from .wire import Wire, batch
-except ImportError:
-    Wire = None
 SECRET = {"ssn": "123-45-6789"}
 
 
@@ -50,23 +47,14 @@ class Listed(unittest.TestCase):
             fle.collections()
 
 
-@unittest.skipUnless(Wire and shutil.which("fle"), "no mockupdb, or no fle in PATH")
-class OnTheWire(unittest.TestCase):
-    @classmethod
-    def setUpClass(cls):
-        cls.wire = Wire()
-        cls.addClassCleanup(cls.wire.stop)
-
+class OnTheWire(WithClients):
     def setUp(self):
-        self.wire.forget()
+        super().setUp()
         self.fle = Fle(*FILES)
         self.addCleanup(self.fle.close)
 
     def client(self, fle=None, **names):
-        client = pymongo.MongoClient(self.wire.uri)
-        self.addCleanup(client.close)
-        enable(client, fle or self.fle, **names)
-        return client
+        return self.client_of(fle or self.fle, **names)
 
     def calls(self, collection):
         """Each call of a collection that sends this value."""

@@ -23,16 +23,13 @@ from bson.son import SON
 from bson.timestamp import Timestamp
 from pymongo.monitoring import CommandListener
 
-from fle_driver import Fle, enable
+from fle_driver import Fle
 from fle_driver.hook import Hook
 from fle_driver.walk import elements
 
 from .samples import FILES, PERSON, sealed
+from .wire import WithClients, batch
 
-try:
-    from .wire import Wire, batch
-except ImportError:
-    Wire = None
 VALUES = [1.5, float("nan"), "text", {"a": {"b": Int64(1)}}, RawBSONDocument(PERSON), [], [1, Int64(1), [None]],
           [RawBSONDocument(PERSON), "x"], Binary(b"\0\1", 0), Binary(bytes(16), 3), uuid.UUID(int=7), ObjectId(), True,
           datetime.datetime(9999, 12, 31, 23, 59, 59), None, Regex("^a", "ix"), Code("f()"), 1, Timestamp(1, 2),
@@ -145,19 +142,11 @@ class Keeping(CommandListener):
     failed = succeeded
 
 
-@unittest.skipUnless(Wire and shutil.which("fle"), "no mockupdb, or no fle in PATH")
-class OnTheWire(unittest.TestCase):
-    @classmethod
-    def setUpClass(cls):
-        cls.wire = Wire()
-        cls.addClassCleanup(cls.wire.stop)
-
+class OnTheWire(WithClients):
     def setUp(self):
-        self.wire.forget()
+        super().setUp()
         self.fle, self.listener = Fle(*FILES), Keeping()
-        self.client = pymongo.MongoClient(self.wire.uri, event_listeners=[self.listener])
-        self.addCleanup(self.client.close)
-        enable(self.client, self.fle)
+        self.client = self.client_of(self.fle, [self.listener])
         self.people = self.client.hr.people
 
     def calls(self, person):

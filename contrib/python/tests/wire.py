@@ -1,16 +1,26 @@
-"""A mock server that keeps what it receives as bytes, and answers what a test says."""
-import mockupdb
+"""A mock server that keeps what it receives as bytes, and answers what a test says; and what tests of it begin with."""
+import shutil
+import unittest
+
+import pymongo
 from bson.int64 import Int64
 from bson.raw_bson import DEFAULT_RAW_BSON_OPTIONS, RawBSONDocument
 
-# mockupdb decodes whatever it receives, and writes it as text: both would change, or refuse, what the tests send.
-mockupdb.CODEC_OPTIONS = DEFAULT_RAW_BSON_OPTIONS
-mockupdb.docs_repr = lambda *documents: "documents"
+from fle_driver import enable
+
+try:
+    import mockupdb
+except ImportError:
+    mockupdb = None
+else:
+    # It decodes whatever it receives, and writes it as text: both would change, or refuse, what the tests send.
+    mockupdb.CODEC_OPTIONS = DEFAULT_RAW_BSON_OPTIONS
+    mockupdb.docs_repr = lambda *documents: "documents"
 
 
 class Wire:
     """The server: the commands that came, and the replies to those that will come. To more it says that one document
-    was written. It takes a second to stop, so the tests of a class share one."""
+    was written."""
 
     def __init__(self):
         self.forget()
@@ -24,11 +34,12 @@ class Wire:
         self.came, self.replies = [], []
 
     def reply(self, request):
-        """Answers a command, but for the handshake."""
+        """Answers a command, but for the handshake; the end of sessions is no command of a test."""
         if request.command_name.lower() == "ismaster":
             return None
-        if request.command_name != "endSessions":
-            self.came.append(request.doc)
+        if request.command_name == "endSessions":
+            return request.ok()
+        self.came.append(request.doc)
         if request.flags & mockupdb.OP_MSG_FLAGS["moreToCome"]:  # not acknowledged
             return True
         return request.replies(self.replies.pop(0) if self.replies else {"ok": 1, "n": 1, "nModified": 1})
@@ -37,6 +48,36 @@ class Wire:
         """A field of the last command: the bytes of a document, or of each document of an array."""
         value = self.came[-1][field]
         return value.raw if isinstance(value, RawBSONDocument) else [document.raw for document in value]
+
+
+@unittest.skipUnless(mockupdb, "no mockupdb")
+class WithServer(unittest.TestCase):
+    """A server, which the tests of a class share, since it takes a second to stop."""
+
+    @classmethod
+    def setUpClass(cls):
+        cls.wire = Wire()
+        cls.addClassCleanup(cls.wire.stop)
+
+    def setUp(self):
+        self.wire.forget()
+
+
+@unittest.skipUnless(mockupdb and shutil.which("fle"), "no mockupdb, or no fle in PATH")
+class WithClients(WithServer):
+    """Clients of the server, for tests that have `fle` too."""
+
+    def plain_client(self, listeners=(), server=None):
+        """A client without the hook, of another server where one is named."""
+        client = pymongo.MongoClient((server or self.wire).uri, event_listeners=list(listeners))
+        self.addCleanup(client.close)
+        return client
+
+    def client_of(self, fle, listeners=(), **names):
+        """A client that this `Fle` seals and opens for; what it names is sent as it is."""
+        client = self.plain_client(listeners)
+        enable(client, fle, **names)
+        return client
 
 
 def batch(of, number, *documents):
