@@ -1,5 +1,5 @@
 -- What the named files hold leads on, or the task fails.
-use Rattle.std.proofs.Common.{◌≡◌, ℕ, true, Option, Some, Result, Ok, Err, List, ◌∙◌, ap, refl}
+use Rattle.std.proofs.Common.{◌≡◌, ℕ, true, Option, Some, Err, List, ◌∙◌, ap, refl}
 use Rattle.fle_outside.specs.Counts.{Rose}
 use Rattle.fle_outside.specs.Files.{Files}
 use Rattle.fle_outside.specs.Seen.{EntropySeen, FolderSeen, SinkSeen, SourceSeen}
@@ -70,27 +70,6 @@ pub master_fail : (number : ℕ) (file : Option (List ℕ)) (bytes : List ℕ) (
     → Leads (with_master number file) (Err (master_why number fault))
 master_fail number file bytes fault load read =
     λ next. load (λ bs. master_or number next (master_in bs)) ∙ ap (master_or number next) read
-
--- files behind others
-pub lead_on : {A B : Type 0} (first : (A → Task) → Task) (rest : A → (B → Task) → Task) (held : A)
-    (others : Result B Why) → Leads first (Ok held) → Leads (rest held) others
-    → Leads (λ (next : B → Task). first (λ (x : A). rest x next)) others
-lead_on first rest held (Ok both) leads on = λ next. leads (λ x. rest x next) ∙ on next
-lead_on first rest held (Err (whys.Finished finish)) leads on = λ next. leads (λ x. rest x next) ∙ on next
-lead_on first rest held (Err (whys.Cut cuts.Folder)) leads on = tt
-lead_on first rest held (Err (whys.Cut cuts.Memory)) leads on = tt
-lead_on first rest held (Err (whys.Cut cuts.Input)) leads on = absurd on
-lead_on first rest held (Err (whys.Cut cuts.Output)) leads on = absurd on
-lead_on first rest held (Err (whys.Cut cuts.Entropy)) leads on = absurd on
-
-pub lead_stop : {A B : Type 0} (first : (A → Task) → Task) (rest : A → (B → Task) → Task) (why : Why)
-    → Leads first (Err why) → Leads (λ (next : B → Task). first (λ (x : A). rest x next)) (Err why)
-lead_stop first rest (whys.Finished finish) stops = λ next. stops (λ x. rest x next)
-lead_stop first rest (whys.Cut cuts.Folder) stops = tt
-lead_stop first rest (whys.Cut cuts.Memory) stops = tt
-lead_stop first rest (whys.Cut cuts.Input) stops = absurd stops
-lead_stop first rest (whys.Cut cuts.Output) stops = absurd stops
-lead_stop first rest (whys.Cut cuts.Entropy) stops = absurd stops
 
 -- a run ends for this reason before its input is read
 did_stop : {A : Type 0} (files : (A → Task) → Task) (why : Why) (next : A → Task) (told : List ℕ)
