@@ -49,7 +49,8 @@ def in_memory(contents: bytes) -> BinaryIO:
 @contextmanager
 def handed(contents: Sequence[bytes]) -> Iterator[List[int]]:
     """Descriptors at which a process that is begun meanwhile finds these contents; each one that it opens by its name
-    begins at the first byte."""
+    begins at the first byte. They are made at each start: a name below the parent's /proc would want the right to look
+    into the parent."""
     with ExitStack() as files:
         yield [files.enter_context(in_memory(content)).fileno() for content in contents]
 

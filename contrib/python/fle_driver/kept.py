@@ -39,7 +39,8 @@ class Kept:
 
     def ask(self, document: Bytes) -> bytes:
         """The answer to one document of BSON. Where a process ends with no word against the document, another one is
-        asked, once: sealing and opening change nothing."""
+        asked, once: sealing and opening change nothing. The time counts in which other threads are waited for: else a
+        stopped process would hold each of them in turn."""
         want_whole(document)
         deadline = Deadline(self._timeout)
         lock, left = self._lock, deadline.left()
