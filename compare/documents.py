@@ -1,18 +1,16 @@
-"""Well-formed BSON, read plainly: an element is (type byte, name, value), a value is bytes, or a list of elements for a
-document or an array, as in .ci/plain/bson.py."""
+"""Well-formed BSON, read without a check: elements are as in reference/bson.py."""
 import struct
 
-FIXED = {1: 8, 6: 0, 7: 12, 8: 1, 9: 8, 10: 0, 16: 4, 17: 8, 18: 8, 19: 16, 127: 0, 255: 0}
+from reference.bson import ARRAY, BESIDE, BINARY, DOCUMENT, ENCRYPTED, REGEX, WIDTHS
 
 
 def length_of(document, at, tag):
     """How many bytes the value of this type has that begins there."""
-    if tag in FIXED:
-        return FIXED[tag]
-    if tag == 11:
+    if tag in WIDTHS:
+        return WIDTHS[tag]
+    if tag == REGEX:
         return document.index(0, document.index(0, at) + 1) + 1 - at
-    stated = struct.unpack_from("<i", document, at)[0]
-    return stated + {2: 4, 13: 4, 14: 4, 5: 5, 12: 16}.get(tag, 0)
+    return struct.unpack_from("<i", document, at)[0] + BESIDE.get(tag, 0)
 
 
 def elements_of(document):
@@ -22,7 +20,7 @@ def elements_of(document):
         length = length_of(document, end + 1, tag)
         value = document[end + 1:end + 1 + length]
         name = document[at + 1:end].decode("utf-8", "surrogateescape")
-        elements.append((tag, name, elements_of(value) if tag in (3, 4) else value))
+        elements.append((tag, name, elements_of(value) if tag in (DOCUMENT, ARRAY) else value))
         at = end + 1 + length
     return elements
 
@@ -33,7 +31,7 @@ def field(document, name):
 
 
 def is_payload(tag, value):
-    return tag == 5 and value[4] == 6 and len(value) > 5 and value[5] in (1, 2)
+    return tag == BINARY and value[4] == ENCRYPTED and len(value) > 5 and value[5] in (1, 2)
 
 
 def payloads_of(elements):

@@ -5,7 +5,7 @@ import struct
 from documents import elements_of
 from forge import padded, sealed
 from opening_cases import DATA, ID, INT, KEY, document
-from plain.bson import ARRAY, BINARY, DOCUMENT, STRING, binary, spell, text
+from reference.bson import ARRAY, BINARY, DOCUMENT, STRING, binary, spell, text
 from sides import MASTER
 
 SEALED = document(INT)

@@ -2,7 +2,7 @@
 import functools
 
 from documents import elements_of
-from plain.bson import ARRAY, BINARY, STRING, array, binary, spell, text
+from reference.bson import ARRAY, BINARY, STRING, array, binary, spell, text
 from sides import MASTER, Files, library
 
 

@@ -5,8 +5,9 @@ from typing import Iterable, Iterator, List, NamedTuple, Sequence, Tuple
 
 STRING, DOCUMENT, ARRAY, REGEX = 2, 3, 4, 11
 # The lengths of the values of each type (bsonspec.org): the same for all, or what stands beside a stated length.
-FIXED = {1: 8, 6: 0, 7: 12, 8: 1, 9: 8, 10: 0, 16: 4, 17: 8, 18: 8, 19: 16, 127: 0, 255: 0}
-BESIDE = {STRING: 4, DOCUMENT: 0, ARRAY: 0, 5: 5, 12: 16, 13: 4, 14: 4, 15: 0}
+# The same as in reference/bson.py, which isn't installed with this package.
+WIDTHS = {1: 8, 6: 0, 7: 12, 8: 1, 9: 8, 10: 0, 16: 4, 17: 8, 18: 8, 19: 16, 127: 0, 255: 0}
+BESIDE = {2: 4, 3: 0, 4: 0, 5: 5, 12: 16, 13: 4, 14: 4, 15: 0}
 
 
 class Element(NamedTuple):
@@ -45,8 +46,8 @@ def elements(document: bytes) -> Iterator[Element]:
 
 def width(tag: int, document: bytes, at: int) -> int:
     """The length of a value of this type."""
-    if tag in FIXED:
-        return FIXED[tag]
+    if tag in WIDTHS:
+        return WIDTHS[tag]
     if tag == REGEX:  # two texts that end with 00
         return document.index(0, document.index(0, at) + 1) + 1 - at
     return int.from_bytes(document[at:at + 4], "little") + BESIDE[tag]

@@ -2,9 +2,12 @@
 changed."""
 import base64
 
-from plain.bson import ARRAY, BINARY, DATE, DOCUMENT, INT, STRING, array, binary, spell, text
-from plain.chance import KEY_NAMES, NAMES, RAW, TYPES, some_raw
-from plain.sealing import Vault, derived_iv, padded, sealed
+from reference.aead import derived_iv, padded, sealed
+from reference.bson import ARRAY, BINARY, DATE, DOCUMENT, ENCRYPTED, INT, LONG, STRING, array, binary, spell, text
+from reference.chance.commands import KEY_NAMES, NAMES, RAW, some_raw
+from reference.reasons import Reason
+from reference.schemas import TYPES
+from reference.vault import Vault
 
 FOREIGN = ["aws", "azure", "gcp", "kmip", "Local", "local:a", "loca", ""]
 
@@ -42,17 +45,18 @@ def some_material(chance, master, damaged):
 
 def some_dates(chance):
     """`updateDate` up to three times, mostly once and a date."""
-    tags = chance.choices([DATE, 18], [9, 1], k=chance.choice([0, 1, 1, 1, 2, 3]))
-    return [(tag, "updateDate", chance.randbytes(8)) for tag in tags]
+    tags = chance.choices([DATE, LONG], [9, 1], k=chance.choice([0, 1, 1, 1, 2, 3]))
+    return [(kind, "updateDate", chance.randbytes(8)) for kind in tags]
 
 
 def some_ids(chance, infos):
     """The ids that rules name, each once, and a few more."""
-    named = [key for rules, _ in infos.values() for _, key, _ in rules.values() if isinstance(key, bytes)]
+    named = [rule.key for rules, _ in infos.values() for rule in rules.values() if isinstance(rule.key, bytes)]
     return list(dict.fromkeys(named)) + [chance.randbytes(16) for _ in range(3)]
 
 
 def key_document(chance, key_id, names, provider, material):
+    """The document of a key, its fields in any order."""
     inner = some_dates(chance) if chance.random() < 0.1 else []
     fields = [(BINARY, "_id", binary(4, key_id)), (BINARY, "keyMaterial", binary(0, material)),
               (DATE, "creationDate", chance.randbytes(8)), *some_dates(chance), (INT, "status", bytes(4)),
@@ -92,15 +96,16 @@ def some_plain(chance):
         for _ in range(chance.randrange(93, 100)):
             plain = [(DOCUMENT, "", plain)]
         return DOCUMENT, spell(plain)
-    tag = chance.randrange(256) if draw < 0.04 else chance.choice(RAW) if draw < 0.06 else chance.choice(TYPES)[1]
-    plain = spell([(2, "s", text("t"))]) if tag in (DOCUMENT, ARRAY) or tag not in RAW else some_raw(chance, tag)
-    return tag, changed(chance, plain) if chance.random() < 0.02 else plain
+    kind = chance.randrange(256) if draw < 0.04 else chance.choice(RAW) if draw < 0.06 else chance.choice(TYPES)[1]
+    plain = some_raw(chance, kind) if kind in RAW else spell([(STRING, "s", text("t"))])
+    return kind, changed(chance, plain) if chance.random() < 0.02 else plain
 
 
 def some_payload(chance, vault, ids):
-    key_id, (tag, plain) = chance.choice(ids), some_plain(chance)
-    key, head = vault.data_key(key_id), bytes([chance.choice([1, 2]), *key_id, tag])
-    key = chance.randbytes(96) if isinstance(key, int) else key
+    """A payload under a key of these, mostly a right one."""
+    key_id, (kind, plain) = chance.choice(ids), some_plain(chance)
+    key, head = vault.data_key(key_id), bytes([chance.choice([1, 2]), *key_id, kind])
+    key = chance.randbytes(96) if isinstance(key, Reason) else key
     iv = derived_iv(key, head, plain) if head[0] == 1 else chance.randbytes(16)
     contents = head + sealed(key, head, iv, some_blocks(chance, plain) if chance.random() < 0.02 else padded(plain))
     return changed(chance, contents) if chance.random() < 0.02 else contents
@@ -114,8 +119,8 @@ def some_sealed(chance, vault, ids, depth):
         if draw < 0.3 and depth:
             elements.append((chance.choice([DOCUMENT, ARRAY]), name, some_sealed(chance, vault, ids, depth - 1)))
         elif draw < 0.7:
-            elements.append((BINARY, name, binary(6, some_payload(chance, vault, ids))))
+            elements.append((BINARY, name, binary(ENCRYPTED, some_payload(chance, vault, ids))))
         else:
-            tag = chance.choice(RAW)
-            elements.append((tag, name, some_raw(chance, tag)))
+            kind = chance.choice(RAW)
+            elements.append((kind, name, some_raw(chance, kind)))
     return elements

@@ -1,7 +1,7 @@
 """Random collection infos, good ones, and ones that are spoiled once or twice, of which some stay good."""
-from plain.bson import ARRAY, BINARY, DOCUMENT, STRING, array, binary, spell, text
-from plain.chance import ALGORITHMS, TYPES, some_raw
-from plain.schemas import KEYWORDS, Fault, read_infos
+from reference.bson import ARRAY, BINARY, BOOL, DOCUMENT, STRING, SYMBOL, array, binary, spell, text
+from reference.chance.commands import put, some_raw
+from reference.schemas import ALGORITHMS, DETERMINISTIC_TYPES, KEYWORDS, TYPES, Fault, read_infos
 
 POINTED = 0.7  # how many of the keys that random rules may have are named by a pointer; 0: none
 OWNERS = ["owner", "o/w", "k~y", "e"]  # fields that name keys; a schema lists them seldom
@@ -11,6 +11,7 @@ OTHER_TYPES = ["null", "undefined", "minKey", "Int", "", "double", "object"]
 
 
 def id_of_16(chance):
+    """An element `keyId` with an id."""
     return ARRAY, "keyId", [(BINARY, "0", binary(4, chance.randbytes(16)))]
 
 
@@ -34,7 +35,7 @@ def some_rule(chance, key, algorithm):
     rule = [] if own == algorithm else [(STRING, "algorithm", text(ALGORITHMS[own]))]
     if key is None or chance.random() < 0.3 or own == "D" and key[0] == STRING:
         rule.insert(0, some_key(chance, own))
-    types = chance.sample(TYPES[:11] if own == "D" else TYPES, 1 if own == "D" else chance.randrange(1, 4))
+    types = chance.sample(DETERMINISTIC_TYPES if own == "D" else TYPES, 1 if own == "D" else chance.randrange(1, 4))
     if own == "R" and chance.random() < 0.5:
         return rule
     if len(types) == 1:
@@ -79,7 +80,7 @@ def some_documents(chance):
 
 
 def some_infos(chance):
-    """The rules of each collection, as rules.py has them, and whether it is a view; and the file."""
+    """The rules of each collection, as schemas.py has them, and whether it is a view; and the file."""
     documents = some_documents(chance)
     return read_infos(documents), b"".join(map(spell, documents))
 
@@ -88,10 +89,6 @@ def some_infos(chance):
 
 SETTINGS = ["encrypt", "encryptMetadata"]
 LISTS = ["keyId", "bsonType"]  # arrays that are changed as one value
-
-
-def put(elements, at, *others):
-    return elements[:at] + list(others) + elements[at + 1:]
 
 
 def some_element_of(chance, keyword):
@@ -103,8 +100,8 @@ def some_element_of(chance, keyword):
         return ARRAY, keyword, [(DOCUMENT, "0", inner)]
     if keyword in SETTINGS:
         return DOCUMENT, keyword, [id_of_16(chance), (STRING, "algorithm", text(ALGORITHMS["R"]))]
-    tag = chance.choice([DOCUMENT, DOCUMENT, STRING, ARRAY, 8])
-    return tag, keyword, inner if tag == DOCUMENT else [] if tag == ARRAY else some_raw(chance, tag)
+    kind = chance.choice([DOCUMENT, DOCUMENT, STRING, ARRAY, BOOL])
+    return kind, keyword, inner if kind == DOCUMENT else [] if kind == ARRAY else some_raw(chance, kind)
 
 
 def another_key(chance):
@@ -117,7 +114,7 @@ def another_key(chance):
         (BINARY, "keyId", one[2]), (STRING, "keyId", text("k"))])
 
 
-def another_setting(chance, tag, name, value):
+def another_setting(chance, kind, name, value):
     """Another value for an element of a rule."""
     if name == "keyId":
         return another_key(chance)
@@ -149,9 +146,9 @@ def edited_names(chance, elements):
     if not elements:
         return [some_element_of(chance, "encrypt")]
     at = chance.randrange(len(elements))
-    tag, name, value = elements[at]
+    kind, name, value = elements[at]
     return put(elements, at, *chance.choice([
-        [(tag, chance.choice(["", "a.b", "$a", "ok"]), value)], [elements[at], elements[at]], [(ARRAY, name, [])]]))
+        [(kind, chance.choice(["", "a.b", "$a", "ok"]), value)], [elements[at], elements[at]], [(ARRAY, name, [])]]))
 
 
 def edited_schema(chance, elements):
@@ -180,17 +177,17 @@ def edited_within(chance, elements, place, edit):
     """The elements, but for a document within, which is changed so."""
     if not place:
         return edit(chance, elements)
-    tag, name, value = elements[place[0]]
-    return put(elements, place[0], (tag, name, edited_within(chance, value, place[1:], edit)))
+    kind, name, value = elements[place[0]]
+    return put(elements, place[0], (kind, name, edited_within(chance, value, place[1:], edit)))
 
 
 def edited_info(chance, elements):
     """Another name, type or value for a field of an info, or a field twice."""
     at = chance.randrange(len(elements))
-    tag, name, value = elements[at]
+    kind, name, value = elements[at]
     return put(elements, at, *chance.choice([
-        [(STRING, "name", text(chance.choice(["people", "staff", ""])))], [(14, name, text("people"))], [],
-        [(tag, "other", value)], [elements[at], elements[at]], [(STRING, "type", text("view"))]]))
+        [(STRING, "name", text(chance.choice(["people", "staff", ""])))], [(SYMBOL, name, text("people"))], [],
+        [(kind, "other", value)], [elements[at], elements[at]], [(STRING, "type", text("view"))]]))
 
 
 def spoiled(chance, elements):

@@ -1,47 +1,47 @@
 """Marking replies at random: the right one to a command, its elements and the fields of its markings in any order; or
 one that is spoiled in one of many ways, of which some leave it right."""
-import struct
-
-from plain.bson import ARRAY, BINARY, DOCUMENT, INT, binary, places_of, spell, with_values
-from plain.chance import KEY_NAMES, NAMES, RAW, some_element, some_raw
-from plain.marking import key_field, marks_of, reply
-from plain.reading import LEVELS, document_at, documents_of
-from plain.replies import ORDER, READ
-from plain.rules import rules_of
+from reference.bson import (ARRAY, BINARY, BOOL, CODE, DATE, DOCUMENT, DOUBLE, ENCRYPTED, INT, LONG, MAX_KEY, MIN_KEY,
+                            NULL, STRING, SYMBOL, TIMESTAMP, UNDEFINED, binary, int32, places_of, spell, with_values)
+from reference.chance.commands import KEY_NAMES, NAMES, RAW, put, some_element, some_raw
+from reference.commands import rules_of
+from reference.marking import key_field, marks_of, reply
+from reference.reading import LEVELS, document_at, documents_of
+from reference.replies import ORDER, READ
 
 OTHERS = ["ok", "Result", "results", "resul", "hasEncryptionPlaceholder", "schemaRequiresEncryption ", ""]  # unread
-FORMS = [(2, 13, 14), (1, 9, 17, 18), (6, 10, 127, 255), (DOCUMENT, ARRAY)]  # types whose values have one form
+FORMS = [(STRING, CODE, SYMBOL), (DOUBLE, DATE, TIMESTAMP, LONG), (UNDEFINED, NULL, MAX_KEY, MIN_KEY),
+         (DOCUMENT, ARRAY)]  # types whose values have one form
 
 
 # ---- one element among some, at a number
 
-def put(elements, at, *others):
-    return elements[:at] + list(others) + elements[at + 1:]
-
-
 def dropped(_chance, elements, at):
+    """One element less."""
     return put(elements, at)
 
 
 def doubled(chance, elements, at):
+    """An element twice."""
     there = chance.randrange(len(elements) + 1)
     return elements[:there] + [elements[at]] + elements[there:]
 
 
 def swapped(chance, elements, at):
+    """Two elements in each other's place."""
     there = chance.randrange(len(elements))
     return put(put(elements, at, elements[there]), there, elements[at])
 
 
 def renamed(chance, elements, at):
-    tag, _, value = elements[at]
-    return put(elements, at, (tag, chance.choice([*READ, *ORDER, *NAMES]), value))
+    """Another name."""
+    kind, _, value = elements[at]
+    return put(elements, at, (kind, chance.choice([*READ, *ORDER, *NAMES]), value))
 
 
 def retyped(chance, elements, at):
     """Another type, with the same bytes where there is one of this form."""
-    tag, name, value = elements[at]
-    alike = [other for form in FORMS if tag in form for other in form if other != tag]
+    kind, name, value = elements[at]
+    alike = [other for form in FORMS if kind in form for other in form if other != kind]
     if alike and chance.random() < 0.8:
         return put(elements, at, (chance.choice(alike), name, value))
     other = chance.choice(RAW)
@@ -50,19 +50,21 @@ def retyped(chance, elements, at):
 
 def revalued(chance, elements, at):
     """Another value of the type, but for chance."""
-    tag, name, value = elements[at]
-    if tag == 8:
-        return put(elements, at, (tag, name, bytes([1 - value[0]])))
+    kind, name, value = elements[at]
+    if kind == BOOL:
+        return put(elements, at, (kind, name, bytes([1 - value[0]])))
     if isinstance(value, list):
-        return put(elements, at, (tag, name, value[1:]))
-    return put(elements, at, (tag, name, some_raw(chance, tag)))
+        return put(elements, at, (kind, name, value[1:]))
+    return put(elements, at, (kind, name, some_raw(chance, kind)))
 
 
 def added(chance, elements, at):
+    """One element more."""
     return elements[:at] + [some_element(chance, chance.choice(NAMES + OTHERS), 1)] + elements[at:]
 
 
 def edited(chance, elements):
+    """The elements, changed at one of them."""
     if not elements:
         return [some_element(chance, chance.choice(NAMES), 1)]
     edit = chance.choice([dropped, doubled, swapped, renamed, retyped, revalued, added])
@@ -75,21 +77,24 @@ def edited_within(chance, elements):
     if not inner or chance.random() < 0.2:
         return edited(chance, elements)
     at = chance.choice(inner)
-    tag, name, value = elements[at]
-    return put(elements, at, (tag, name, edited_within(chance, value)))
+    kind, name, value = elements[at]
+    return put(elements, at, (kind, name, edited_within(chance, value)))
 
 
 # ---- markings
 
 def marking(fields):
-    return BINARY, binary(6, b"\0" + spell(fields))
+    """The kind and the value of a marking."""
+    return BINARY, binary(ENCRYPTED, b"\0" + spell(fields))
 
 
 def fields_of(value):
+    """The fields of a marking."""
     return document_at(value, 6, len(value), LEVELS)[0]
 
 
 def shuffled(chance, elements):
+    """The same in any order."""
     return chance.sample(elements, len(elements))
 
 
@@ -102,23 +107,25 @@ def some_need(chance, rules):
 def under_another(chance, fields, rules):
     """A marking under the other algorithm, or under another key, or one that is named otherwise."""
     if chance.random() < 0.5:
-        return [(tag, name, struct.pack("<i", 3 - value[0]) if name == "a" else value) for tag, name, value in fields]
+        return [(kind, name, int32(3 - value[0]) if name == "a" else value) for kind, name, value in fields]
     key = key_field(some_need(chance, rules))
     return [key if field[1] in ("ki", "ka") else field for field in fields]
 
 
 def in_another_frame(chance, fields):
     """The fields behind another first byte, in another binary, or with bytes behind them."""
-    subtype, first, behind = chance.choice([(0, b"\0", b""), (6, b"\1", b""), (6, b"", b""), (6, b"\0", b"\0")])
+    subtype, first, behind = chance.choice([
+        (0, b"\0", b""), (ENCRYPTED, b"\1", b""), (ENCRYPTED, b"", b""), (ENCRYPTED, b"\0", b"\0")])
     return BINARY, binary(subtype, first + spell(fields) + behind)
 
 
 def spoiled_marking(chance, value, rules):
+    """The kind and the value of what stands in the place of a marking."""
     fields = fields_of(value)
     way = chance.randrange(4)
     if way == 0:
-        tag, _, plain = fields[0]
-        return tag, plain
+        kind, _, plain = fields[0]
+        return kind, plain
     if way == 1:
         return in_another_frame(chance, fields)
     return marking(under_another(chance, fields, rules) if way == 2 else edited(chance, fields))
@@ -128,12 +135,13 @@ def spoiled_marking(chance, value, rules):
 
 def of_result(elements, made):
     """A reply's elements with another result, made of the one that stands there."""
-    return [(tag, name, made(value) if name == "result" else value) for tag, name, value in elements]
+    return [(kind, name, made(value) if name == "result" else value) for kind, name, value in elements]
 
 
 def reordered(chance, elements, marks):
     """A right reply with its elements in any order, others among them, and so the fields of its markings."""
     def turned(result):
+        """The fields of each marking in any order."""
         return with_values(result, {place: marking(shuffled(chance, fields_of(value)))
                                     for place, _, value in places_of(result) if place in marks})
     others = [some_element(chance, chance.choice(OTHERS), 1) for _ in range(chance.randrange(3))]
@@ -142,9 +150,9 @@ def reordered(chance, elements, marks):
 
 def marked_too_much(chance, result, rules):
     """A marking in the place of one more value."""
-    place, tag, value = chance.choice(list(places_of(result)))
-    rest = [(INT, "a", struct.pack("<i", chance.choice([1, 2]))), key_field(some_need(chance, rules))]
-    return with_values(result, {place: marking([(tag, "v", value), *rest])})
+    place, kind, value = chance.choice(list(places_of(result)))
+    rest = [(INT, "a", int32(chance.choice([1, 2]))), key_field(some_need(chance, rules))]
+    return with_values(result, {place: marking([(kind, "v", value), *rest])})
 
 
 def spoiled(chance, elements, infos, command, others):

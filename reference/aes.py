@@ -1,5 +1,6 @@
 """AES-256 in CBC mode over whole blocks (FIPS 197; NIST SP 800-38A, section 6.2), by Python's `cryptography` where it
-is installed, and else as the standard says it, a block of 16 bytes being a number whose highest byte is the first."""
+is installed, and else as the standard says it, a block of 16 bytes being a number whose highest byte is the first. Byte
+4c + r of a block is that of row r and column c of the standard's state."""
 import functools
 from operator import itemgetter
 
@@ -56,6 +57,7 @@ ROWS_BACK = itemgetter(*((at - 4 * (at % 4)) % 16 for at in range(16)))
 
 
 def number(contents):
+    """A block as a number."""
     return int.from_bytes(contents, "big")
 
 
@@ -93,6 +95,7 @@ def cipher_back(keys, state):
 
 
 def plainly_sealed(key, iv, blocks):
+    """CBC encryption, SP 800-38A, section 6.2: each block is enciphered with the sealed one before it added."""
     keys, last, sealed = round_keys(key), number(iv), b""
     for at in range(0, len(blocks), 16):
         last = cipher(keys, number(blocks[at:at + 16]) ^ last)
@@ -101,6 +104,7 @@ def plainly_sealed(key, iv, blocks):
 
 
 def plainly_opened(key, iv, blocks):
+    """CBC decryption."""
     keys, last, opened = round_keys(key), number(iv), b""
     for at in range(0, len(blocks), 16):
         block = number(blocks[at:at + 16])
@@ -110,6 +114,7 @@ def plainly_opened(key, iv, blocks):
 
 
 def cbc_sealed(key, iv, blocks):
+    """Whole blocks under a key of 32 bytes, enciphered."""
     if Cipher is None:
         return plainly_sealed(key, iv, blocks)
     sealing = Cipher(algorithms.AES(key), modes.CBC(iv)).encryptor()
@@ -117,6 +122,7 @@ def cbc_sealed(key, iv, blocks):
 
 
 def cbc_opened(key, iv, blocks):
+    """Whole blocks, deciphered."""
     if Cipher is None:
         return plainly_opened(key, iv, blocks)
     opening = Cipher(algorithms.AES(key), modes.CBC(iv)).decryptor()

@@ -1,15 +1,10 @@
-"""Random commands, most of them near to what the rules accept."""
-import struct
+"""Random commands, most of them near to what the rules accept; `chance` is a random.Random."""
+from reference.bson import (ARRAY, BINARY, BOOL, CODE, CODE_WITH_SCOPE, DB_POINTER, DOCUMENT, INT, MAX_KEY, MIN_KEY,
+                            NULL, REGEX, STRING, SYMBOL, WIDTHS, binary, int32, is_encrypted, spell, text)
+from reference.commands import MARKED, PASSING
+from reference.paths import CLEAR, is_above, rule_at, standing
 
-from plain.bson import ARRAY, BINARY, DOCUMENT, INT, REGEX, STRING, binary, spell, text
-from plain.rules import MARKED, PASSING, Contents, rule_at
-
-ALGORITHMS = {"D": "AEAD_AES_256_CBC_HMAC_SHA_512-Deterministic", "R": "AEAD_AES_256_CBC_HMAC_SHA_512-Random"}
-# Names of types that a rule may state, with their type bytes; the deterministic algorithm may take the first eleven.
-TYPES = [("string", 2), ("binData", 5), ("objectId", 7), ("date", 9), ("regex", 11), ("dbPointer", 12),
-         ("javascript", 13), ("symbol", 14), ("int", 16), ("timestamp", 17), ("long", 18), ("double", 1), ("object", 3),
-         ("array", 4), ("bool", 8), ("javascriptWithScope", 15), ("decimal", 19)]
-RAW = [1, 2, 5, 6, 7, 8, 9, 10, 11, 12, 13, 14, 15, 16, 17, 18, 19, 127, 255]
+RAW = [kind for kind in range(1, 20) if kind not in (DOCUMENT, ARRAY)] + [MAX_KEY, MIN_KEY]  # types without elements
 NAMES = ["a", "b", "c", "d", "ssn", "0", "$x", "a.b", "", "documents"]
 OTHERS = ["d", "e", "x", "7", "_id", "", "a", "$x"]  # names that a schema lists seldom
 KEY_NAMES = ["hr", "pay/roll", "x", "", "k\0n", "\u00e9"]  # those that keys have, in any order
@@ -18,39 +13,48 @@ UNREAD = ["ordered", "lsid", "comment", "writeConcern", "hint", "limit", "sort",
 
 
 def some_text(chance):
+    """A few characters."""
     return "".join(chance.choice("xyz0 ") for _ in range(chance.randrange(12)))
 
 
-def some_raw(chance, tag):
-    bytes_of = chance.randbytes
-    scope = text(some_text(chance)) + spell([(10, "n", b"")])
-    return {1: lambda: bytes_of(8), 2: lambda: text(some_text(chance)),
-            5: lambda: binary(chance.choice([0, 2, 4, 6]), bytes_of(chance.randrange(9))), 6: lambda: b"",
-            7: lambda: bytes_of(12), 8: lambda: bytes([chance.randrange(2)]), 9: lambda: bytes_of(8), 10: lambda: b"",
-            11: lambda: b"a.c\0i\0", 12: lambda: text("db.c") + bytes_of(12), 13: lambda: text("f()"),
-            14: lambda: text("sym"),
-            15: lambda: struct.pack("<i", 4 + len(scope)) + scope, 16: lambda: bytes_of(4), 17: lambda: bytes_of(8),
-            18: lambda: bytes_of(8), 19: lambda: bytes_of(16), 127: lambda: b"", 255: lambda: b""}[tag]()
+def some_raw(chance, kind):
+    """A value of this type, which has no elements."""
+    scope = text(some_text(chance)) + spell([(NULL, "n", b"")])
+    if kind == BOOL:
+        return bytes([chance.randrange(2)])
+    if kind in WIDTHS:
+        return chance.randbytes(WIDTHS[kind])
+    return {STRING: lambda: text(some_text(chance)), CODE: lambda: text("f()"), SYMBOL: lambda: text("sym"),
+            BINARY: lambda: binary(chance.choice([0, 2, 4, 6]), chance.randbytes(chance.randrange(9))),
+            REGEX: lambda: b"a.c\0i\0", DB_POINTER: lambda: text("db.c") + chance.randbytes(12),
+            CODE_WITH_SCOPE: lambda: int32(4 + len(scope)) + scope}[kind]()
 
 
 def some_element(chance, name, depth):
-    tag = chance.choice([DOCUMENT, DOCUMENT, ARRAY] + RAW) if depth else chance.choice(RAW)
-    if tag in (DOCUMENT, ARRAY):
-        return (tag, name, [some_element(chance, chance.choice(NAMES), depth - 1) for _ in range(chance.randrange(4))])
-    return (tag, name, some_raw(chance, tag))
+    """An element of this name, which may nest so deep."""
+    kind = chance.choice([DOCUMENT, DOCUMENT, ARRAY] + RAW) if depth else chance.choice(RAW)
+    if kind in (DOCUMENT, ARRAY):
+        return (kind, name, [some_element(chance, chance.choice(NAMES), depth - 1) for _ in range(chance.randrange(4))])
+    return (kind, name, some_raw(chance, kind))
+
+
+def put(elements, at, *others):
+    """The elements, with others in the place of the one at this number."""
+    return elements[:at] + list(others) + elements[at + 1:]
 
 
 # ---- texts that name keys
 
 def some_name(chance):
+    """A name of a key, mostly of one that is there."""
     return chance.choice(NO_NAMES if chance.random() < 0.01 else KEY_NAMES)
 
 
 def spoiled_target(chance, name):
     """What stands in the place of a field that names a key, and names none; or one that does so by its type."""
     good = STRING, name, text(some_name(chance))
-    other = chance.choice([(14, name, text("hr")), (INT, name, bytes(4)), (ARRAY, name, [(STRING, "0", text("hr"))]),
-                           (DOCUMENT, name, []), (10, name, b"")])
+    other = chance.choice([(SYMBOL, name, text("hr")), (INT, name, bytes(4)),
+                           (ARRAY, name, [(STRING, "0", text("hr"))]), (DOCUMENT, name, []), (NULL, name, b"")])
     return chance.choice([[], [good, good], [good, other], [other]])
 
 
@@ -59,7 +63,7 @@ def with_target(chance, elements, names):
     name, *inner = names
     others, mine = ([one for one in elements if (one[1] == name) == same] for same in (False, True))
     if inner:
-        within = next((value for tag, _, value in mine if tag == DOCUMENT), [])
+        within = next((value for kind, _, value in mine if kind == DOCUMENT), [])
         made = [(DOCUMENT, name, with_target(chance, within, inner))]
         made = made if chance.random() < 0.99 else chance.choice([made + made, [(ARRAY, *made[0][1:])]])
     else:
@@ -72,8 +76,8 @@ def with_target(chance, elements, names):
 def some_stored(chance, rules):
     """A stored document as a whole that these rules accept, mostly."""
     elements = suited(chance, rules, (), 3)
-    for names in dict.fromkeys(key for _, key, _ in rules.values() if isinstance(key, tuple)):
-        if Contents(rules).standing(names) == "clear" or chance.random() < 0.1:
+    for names in dict.fromkeys(rule.key for rule in rules.values() if isinstance(rule.key, tuple)):
+        if standing(rules, names) == CLEAR or chance.random() < 0.1:
             elements = with_target(chance, elements, names)
     return elements
 
@@ -82,11 +86,11 @@ def some_stored(chance, rules):
 
 def suited_value(chance, rule, name):
     """An element whose type the rule allows, mostly no sealed value."""
-    tag = chance.choice(rule[2])
-    value = [some_element(chance, "n", 1)] if tag in (DOCUMENT, ARRAY) else some_raw(chance, tag)
-    if tag == BINARY and value[4] == 6 and chance.random() < 0.8:
+    kind = chance.choice(rule.types)
+    value = [some_element(chance, "n", 1)] if kind in (DOCUMENT, ARRAY) else some_raw(chance, kind)
+    if is_encrypted(kind, value) and chance.random() < 0.8:
         value = binary(0, b"six")
-    return (tag, name, value)
+    return (kind, name, value)
 
 
 def suited(chance, rules, path, depth):
@@ -94,7 +98,7 @@ def suited(chance, rules, path, depth):
     elements = []
     for name in chance.sample(NAMES, chance.randrange(6)) + chance.choices(["a", "b", "ssn"], k=chance.randrange(3)):
         below = path + (name,)
-        rule, above = rules.get(rule_at(rules, below)), any(other[: len(below)] == below for other in rules)
+        rule, above = rule_at(rules, below), is_above(rules, below)
         if rule and chance.random() < 0.97:
             elements.append(suited_value(chance, rule, name))
         elif above and chance.random() < 0.03:
@@ -108,7 +112,7 @@ def suited(chance, rules, path, depth):
 
 def some_dotted(chance, rules, algorithms="DR"):
     """A dotted path: often that of a rule with one of these algorithms; or one longer, shorter, other, positional."""
-    known = [path for path, rule in rules.items() if rule[0] in algorithms or chance.random() < 0.02]
+    known = [path for path, rule in rules.items() if rule.algorithm in algorithms or chance.random() < 0.02]
     if known and chance.random() < 0.85:
         *names, last = chance.choice(known)
         path = names + [chance.choice(OTHERS) if isinstance(last, frozenset) else last]
@@ -125,13 +129,15 @@ def some_dotted(chance, rules, algorithms="DR"):
 
 
 def some_compared(chance, rules, path, name):
-    rule = rules.get(rule_at(rules, path))
+    """An element with a value that the field at a path may be compared with, mostly."""
+    rule = rule_at(rules, path)
     if rule and chance.random() < 0.98:
         return suited_value(chance, rule, name)
     return some_element(chance, name, 1 if rule or chance.random() < 0.5 else 0)
 
 
 def some_operators(chance, rules, path, depth):
+    """Operators of a filter on the field at a path, which may nest so deep."""
     elements = []
     for _ in range(chance.randrange(1, 3)):
         name = chance.choices(["$eq", "$ne", "$in", "$nin", "$not", "$exists", "$gt", "x"],
@@ -149,6 +155,7 @@ def some_operators(chance, rules, path, depth):
 
 
 def some_filter(chance, rules, depth):
+    """The elements of a filter, which may nest so deep."""
     elements = []
     for _ in range(chance.randrange(4)):
         draw = chance.random()
@@ -173,7 +180,7 @@ def some_filter(chance, rules, depth):
 def some_argument(chance, rules, operator):
     """An element of the document behind an operator of an update, where no pointer can be read."""
     if chance.random() < 0.97:
-        rules = {path: rule for path, rule in rules.items() if isinstance(rule[1], bytes)}
+        rules = {path: rule for path, rule in rules.items() if isinstance(rule.key, bytes)}
     path = some_dotted(chance, rules)
     name = ".".join(path)
     if operator == "$rename" and chance.random() < 0.95:
@@ -184,6 +191,7 @@ def some_argument(chance, rules, operator):
 
 
 def some_update(chance, rules):
+    """What stands behind `u`."""
     if chance.random() < 0.25:
         return some_stored(chance, rules)
     elements = []
@@ -201,6 +209,7 @@ def some_update(chance, rules):
 # ---- commands
 
 def some_item(chance, rules, verb):
+    """An item of `updates` or `deletes`."""
     item = [(DOCUMENT, "q", some_filter(chance, rules, 2))]
     if verb == "update":
         item.append((DOCUMENT, "u", some_update(chance, rules)))
@@ -217,6 +226,7 @@ def some_item(chance, rules, verb):
 
 
 def some_contents(chance, rules, verb):
+    """The fields of a command that hold documents, filters and updates."""
     if verb == "insert":
         documents = [(DOCUMENT, str(at), some_stored(chance, rules)) for at in range(chance.randrange(1, 4))]
         return [(ARRAY, "documents", documents)]
@@ -235,7 +245,16 @@ def some_contents(chance, rules, verb):
     return fields
 
 
+def some_spoiling(chance, verb, name):
+    """An element that refuses many a command."""
+    return chance.choice([
+        (STRING, "$db", text("x")), (INT, "$db", bytes(4)), (STRING, verb, text(name)), (ARRAY, "documents", []),
+        (ARRAY, "updates", [(INT, "0", bytes(4))]), (DOCUMENT, "deletes", []), (STRING, "aggregate", text(name)),
+        (STRING, verb, text("")), (ARRAY, "filter", []), (DOCUMENT, "let", [])])
+
+
 def some_command(chance, infos):
+    """The elements of a command on one of the collections, or on none."""
     verb = chance.choices(MARKED + ["passing"], weights=[3, 4, 2, 3, 1])[0]
     name = chance.choices(["people", "staff", "notes", "unknown", "v"], weights=[60, 60, 10, 5, 1])[0]
     if verb == "passing":
@@ -247,10 +266,7 @@ def some_command(chance, infos):
         command.insert(chance.randrange(1, len(command) + 1), some_element(chance, chance.choice(UNREAD), 1))
     while chance.random() < 0.05:
         at = chance.randrange(len(command) + 1)
-        command.insert(at, chance.choice([
-            (STRING, "$db", text("x")), (INT, "$db", bytes(4)), (STRING, verb, text(name)), (ARRAY, "documents", []),
-            (ARRAY, "updates", [(INT, "0", bytes(4))]), (DOCUMENT, "deletes", []), (STRING, "aggregate", text(name)),
-            (STRING, verb, text("")), (ARRAY, "filter", []), (DOCUMENT, "let", [])]))
+        command.insert(at, some_spoiling(chance, verb, name))
         if chance.random() < 0.3:
             del command[chance.randrange(len(command))]
     return command

@@ -1,0 +1,1 @@
+"""Random input for the rules: commands, schemas, replies, and vaults with sealed documents."""
