@@ -41,7 +41,7 @@ class Vault:
         return self.known[key_id]
 
     def refusal(self, needs):
-        """The place and the reason of the first of some places whose key, for that need, isn't to be had."""
+        """The place and the reason of the first of some places whose key, for that need, cannot be obtained."""
         answers = ((place, self.data_key(self.id_for(need))) for place, need in needs)
         return next(((place, key) for place, key in answers if isinstance(key, Reason)), None)
 
