@@ -7,7 +7,7 @@
  *
  * With a number of slots each call is made on so many at once, on each by a thread of its own, which ends before the
  * next call: so a slot is opened by one thread, sealed under by another, and closed by a third. All have to answer
- * alike, and what is written is what one of them answered.
+ * alike, and what is written is what one of them answered. A thread has a stack of 512 KB.
  */
 #include <pthread.h>
 #include <stdio.h>
@@ -81,13 +81,17 @@ static void *make(void *of) {
     return NULL;
 }
 
+enum { STACK = 512 * 1024 };
+
 /* Makes a call on each slot, all at once, each by a thread that was started for it and has ended behind it. */
 static void make_at_once(turn *turns, size_t slots) {
     pthread_t *threads = malloc(slots * sizeof *threads);
-    if (!threads) exit(3);
+    pthread_attr_t own;
+    if (!threads || pthread_attr_init(&own) || pthread_attr_setstacksize(&own, STACK)) exit(3);
     for (size_t i = 0; i < slots; i++) {
-        if (pthread_create(&threads[i], NULL, make, &turns[i])) exit(3);
+        if (pthread_create(&threads[i], &own, make, &turns[i])) exit(3);
     }
+    pthread_attr_destroy(&own);
     for (size_t i = 0; i < slots; i++) {
         if (pthread_join(threads[i], NULL)) exit(3);
     }

@@ -13,7 +13,7 @@ from .kept import want_whole
 from .process import Bytes
 from .walk import place_at
 
-FOUND = "libfle.so"
+FOUND = "libfle.so.0"
 FEW = 256  # random bytes that a call is handed at first: enough for 16 values
 
 

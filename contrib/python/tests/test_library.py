@@ -29,7 +29,7 @@ def setUpModule():
             raise FileNotFoundError("no fle in PATH")
 
 
-@unittest.skipUnless(loaded() and shutil.which("fle"), "no libfle.so that the system finds, or no fle in PATH")
+@unittest.skipUnless(loaded() and shutil.which("fle"), "no libfle.so.0 that the system finds, or no fle in PATH")
 class WithBoth(unittest.TestCase):
     def setUp(self):
         self.library, self.program = Fle(*FILES), Fle(*FILES, program="fle")
@@ -106,7 +106,7 @@ class WithBoth(unittest.TestCase):
                 call(COMMAND)
 
 
-@unittest.skipUnless(loaded(), "no libfle.so that the system finds")
+@unittest.skipUnless(loaded(), "no libfle.so.0 that the system finds")
 class Files(unittest.TestCase):
     def told(self, keys=KEYS, schemas=SCHEMAS, master=MASTER):
         with self.assertRaises(FaultyFile) as faulty:
@@ -190,11 +190,11 @@ class ClosedBesideACall(unittest.TestCase):
         with mock.patch("fle_driver.fle.loaded", return_value=Calls()):
             self.closed_at_each_line(lambda: Fle(*FILES))
 
-    @unittest.skipUnless(loaded(), "no libfle.so that the system finds")
+    @unittest.skipUnless(loaded(), "no libfle.so.0 that the system finds")
     def test_a_call_of_the_library(self):
         self.closed_at_each_line(lambda: Fle(*FILES))
 
-    @unittest.skipUnless(loaded(), "no libfle.so that the system finds")
+    @unittest.skipUnless(loaded(), "no libfle.so.0 that the system finds")
     def test_a_call_with_arguments_missing(self):
         calls = loaded()
         for name, (_, arguments) in FORMS.items():

@@ -7,7 +7,7 @@ from fle_driver.library import loaded
 from . import test_databases, test_options, test_reload
 
 
-@unittest.skipUnless(loaded() and shutil.which("fle"), "no libfle.so that the system finds, or no fle in PATH")
+@unittest.skipUnless(loaded() and shutil.which("fle"), "no libfle.so.0 that the system finds, or no fle in PATH")
 class ByLibrary(unittest.TestCase):
     program = None
 

@@ -1,0 +1,127 @@
+/* memory DB KEYS INFOS MASTER < COMMAND: makes each call over and over, with memory that ends at its first allocation,
+ * at its second, and so on, until the call comes through. Before that each answers FLE_MEMORY and writes nothing:
+ * fle_open leaves an empty slot, though an engine was there, fle_seal and fle_unseal leave the engine, which answers next
+ * as it should. Ends with 0, or with a line that says what was otherwise. Linked with --wrap=malloc,--wrap=realloc. */
+#include <stdio.h>
+#include <stdlib.h>
+#include <string.h>
+
+#include "fle.h"
+
+enum { ROOM = 65536 };
+
+typedef struct {
+    uint8_t at[ROOM];
+    size_t size;
+} bytes;
+
+/* Whether allocations are counted, and how many are left before memory ends. */
+static bool counted;
+static size_t left;
+
+void *__real_malloc(size_t size);
+void *__real_realloc(void *at, size_t size);
+
+static bool ends(void) {
+    if (!counted) return false;
+    if (!left) return true;
+    left--;
+    return false;
+}
+
+void *__wrap_malloc(size_t size) { return ends() ? NULL : __real_malloc(size); }
+
+void *__wrap_realloc(void *at, size_t size) { return ends() ? NULL : __real_realloc(at, size); }
+
+static bytes db, keys, infos, master, command, sealed, out;
+static uint8_t blocks[ROOM];
+static fle_slot slot = FLE_SLOT;
+
+static fle_answer open_engine(void) {
+    return fle_open(&slot, db.at, db.size, keys.at, keys.size, infos.at, infos.size, master.at, master.size);
+}
+
+static fle_answer seal(void) {
+    return fle_seal(&slot, command.at, command.size, blocks, sizeof blocks, out.at, ROOM);
+}
+
+static fle_answer unseal(void) { return fle_unseal(&slot, sealed.at, sealed.size, out.at, ROOM); }
+
+static void want(bool holds, const char *what, size_t allocations) {
+    if (holds) return;
+    printf("with %zu allocations: %s\n", allocations, what);
+    exit(1);
+}
+
+/* Whether nothing was written at `out`, which was filled before. */
+static bool is_unwritten(void) {
+    for (size_t i = 0; i < ROOM; i++) {
+        if (out.at[i] != 0xA5) return false;
+    }
+    return true;
+}
+
+/* A call that has so many allocations; its answer. */
+static fle_answer with(fle_answer (*call)(void), size_t allocations) {
+    memset(out.at, 0xA5, ROOM);
+    counted = true, left = allocations;
+    const fle_answer answer = call();
+    counted = false;
+    return answer;
+}
+
+/* Opens at a full slot with ever more allocations, until an engine is there. */
+static void try_open(void) {
+    for (size_t n = 0;; n++) {
+        want(open_engine().status == FLE_DONE, "fle_open with plenty", n);
+        const fle_answer answer = with(open_engine, n);
+        if (answer.status == FLE_DONE) {
+            want(n > 0, "fle_open allocates nothing", n);
+            return;
+        }
+        want(answer.status == FLE_MEMORY && !answer.reason && !answer.place, "fle_open answers otherwise", n);
+        want(unseal().status == FLE_NOT_OPEN, "an engine behind a failed fle_open", n);
+    }
+}
+
+/* Makes a call with ever more allocations, each time of a new engine, until it writes these bytes. */
+static void try_call(fle_answer (*call)(void), const bytes *wanted) {
+    for (size_t n = 0;; n++) {
+        want(open_engine().status == FLE_DONE, "fle_open with plenty", n);
+        fle_answer answer = with(call, n);
+        const bool fails = answer.status == FLE_MEMORY;
+        want(!fails || is_unwritten(), "bytes for want of memory", n);
+        if (fails) answer = call();
+        want(answer.status == FLE_DONE && answer.length == wanted->size && !memcmp(out.at, wanted->at, wanted->size),
+             "a call answers otherwise", n);
+        if (!fails) {
+            want(n > 0, "a call allocates nothing", n);
+            return;
+        }
+    }
+}
+
+static void read_all(FILE *file, bytes *all) {
+    all->size = file ? fread(all->at, 1, ROOM, file) : ROOM;
+    if (all->size == ROOM) exit(5);
+    if (file != stdin) fclose(file);
+}
+
+int main(int count, char **words) {
+    if (count != 5) return 2;
+    db.size = strlen(words[1]);
+    memcpy(db.at, words[1], db.size);
+    read_all(fopen(words[2], "rb"), &keys), read_all(fopen(words[3], "rb"), &infos);
+    read_all(fopen(words[4], "rb"), &master), read_all(stdin, &command);
+
+    want(open_engine().status == FLE_DONE, "fle_open with plenty", 0);
+    const fle_answer answer = seal();
+    want(answer.status == FLE_DONE, "fle_seal with plenty", 0);
+    sealed.size = answer.length;
+    memcpy(sealed.at, out.at, sealed.size);
+    try_open();
+    try_call(seal, &sealed);
+    try_call(unseal, &command);
+    fle_close(&slot);
+    return 0;
+}

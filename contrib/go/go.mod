@@ -1,0 +1,3 @@
+module fle
+
+go 1.19
