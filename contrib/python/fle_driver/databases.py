@@ -7,6 +7,7 @@ from typing import Any, Dict, FrozenSet, Mapping, Optional, Sequence, Type
 
 from bson.binary import Binary
 
+from .clients import want_blocking
 from .data_key import insert_key, made_key
 from .errors import Closed, Unsupported
 from .fle import File, Fle, Named
@@ -28,13 +29,15 @@ class Databases:
     def __init__(self, client: Any, vault: str, schemas: Optional[Schemas], master: Optional[Bytes],
                  kms_providers: Optional[Mapping[str, Any]], *, db: Optional[str] = None, bypass: bool = False,
                  program: Optional[File] = None, timeout: Optional[float] = 60) -> None:
+        want_blocking(client)
         self.bypass, self.vault = bypass, namespace_of(vault)
-        self._client, self._program, self._timeout = client, program, timeout
+        self._client, self._program, self.timeout = client, program, timeout
         self._master: Named = "the master key", master_of(master, kms_providers)
         self._schemas: Dict[str, Named] = {} if bypass else schemas_of(schemas, db)
         self.forget()
         ALL.add(self)
         self._fles: Optional[Dict[str, Fle]] = self._made()
+        self.by_library = self.opening().by_library
 
     def _made(self) -> Dict[str, Fle]:
         """Engines over the keys as they are now; one of no database where nothing is sealed."""
@@ -42,7 +45,7 @@ class Databases:
         fles: Dict[str, Fle] = {}
         try:
             for db, schemas in (self._schemas or {self.vault[0]: ("no schemas", b"")}).items():
-                fles[db] = Fle.over(db, [keys, schemas, self._master], self._program, self._timeout,
+                fles[db] = Fle.over(db, [keys, schemas, self._master], self._program, self.timeout,
                                     seals=not self.bypass, opens=not fles)
         except BaseException:
             close_all(fles)
@@ -71,7 +74,7 @@ class Databases:
             raise TypeError("a list of names is wanted")
         self._now()
         return insert_key(self._client, self.vault,
-                          made_key(self._program, self._master, key_alt_names, self._timeout))
+                          made_key(self._program, self._master, key_alt_names, self.timeout))
 
     def _now(self) -> Dict[str, Fle]:
         """The engines of calls that begin now."""

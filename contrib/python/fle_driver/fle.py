@@ -68,9 +68,10 @@ class Fle:
         """Opens an engine of the library; or else begins processes."""
         if timeout is not None and not 0 < timeout <= MOST:
             raise ValueError(f"a timeout of {timeout} seconds: it is above 0 and at most {MOST:,}")
-        self.db = db
+        self.db, self.timeout = db, timeout
         self._schemas: Optional[bytes] = files[1][1]
         calls = loaded() if program is None else None
+        self.by_library = calls is not None
         if calls is not None:
             engine = Engine(calls, db, [name for name, _ in files], [content for _, content in files])
             self._sealing: Union[Kept, Part] = Part(engine, True)

@@ -14,7 +14,8 @@ from .fle import File, Named
 
 Schemas = Union[File, Mapping[str, Union[File, Mapping[str, Any]]]]
 
-OPTIONS: CodecOptions = CodecOptions(document_class=SON, uuid_representation=STANDARD)  # those of pymongo's schema_map
+# Those of pymongo's schema_map.
+OPTIONS: CodecOptions[Any] = CodecOptions(document_class=SON, uuid_representation=STANDARD)
 
 
 def schemas_of(schemas: Optional[Schemas], db: Optional[str]) -> Dict[str, Named]:

@@ -1,13 +1,15 @@
 """A command as pymongo sends it: the bytes that were judged, and beside them what pymongo sets itself."""
 from __future__ import annotations
 
-from typing import Any, Dict, Iterator, MutableMapping
+from typing import Any, Dict, Iterator, Mapping, MutableMapping, Optional
 
 import bson
 from bson.codec_options import CodecOptions
 from bson.raw_bson import RawBSONDocument
 
 from .walk import Element, elements, spelled
+
+TIME = "$clusterTime"  # the server's own; as in pymongo's own encryption it isn't judged: a check of names refuses it
 
 
 class Sent(MutableMapping[str, Any]):
@@ -18,7 +20,7 @@ class Sent(MutableMapping[str, Any]):
 
     _type_marker = RawBSONDocument._type_marker
 
-    def __init__(self, judged: bytes, options: CodecOptions) -> None:
+    def __init__(self, judged: bytes, options: CodecOptions[Any]) -> None:
         self._options = options
         self._items: Dict[str, Any] = {element.name: element for element in elements(judged)}
 
@@ -56,3 +58,22 @@ class Sent(MutableMapping[str, Any]):
 
     def __repr__(self) -> str:
         return f"Sent({list(self)})"
+
+
+def encoded(command: Mapping[str, Any], *options: Any) -> bytes:
+    """A command as it is judged. It is encoded here, once: what is sent is what was judged, since its values may have
+    changed when they are encoded again, by another thread or by a codec's own code."""
+    judged = {name: value for name, value in command.items() if name != TIME}
+    checks_names = any(options[:-1])  # pymongo 3 says it before the codec options, pymongo 4 never does
+    plain: bytes = bson.encode(judged, checks_names, options[-1])
+    return plain
+
+
+def sent_of(command: Mapping[str, Any], whole: Optional[bytes], options: CodecOptions[Any]) -> Mapping[str, Any]:
+    """What is sent of a command: what was judged, and the server's own time; the command itself where no byte was."""
+    if whole is None:
+        return command
+    sent = Sent(whole, options)
+    if TIME in command:
+        sent[TIME] = command[TIME]
+    return sent

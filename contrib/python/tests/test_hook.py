@@ -7,12 +7,13 @@ from unittest import mock
 
 import bson
 import pymongo
-from bson.binary import Binary
+from bson.binary import STANDARD, Binary
 from bson.codec_options import CodecOptions
 from bson.errors import InvalidDocument
 from bson.raw_bson import DEFAULT_RAW_BSON_OPTIONS, RawBSONDocument
 from bson.son import SON
-from pymongo.errors import BulkWriteError, DuplicateKeyError, PyMongoError
+from pymongo.client_options import ClientOptions
+from pymongo.errors import BulkWriteError, DuplicateKeyError, InvalidOperation, PyMongoError
 from pymongo.write_concern import WriteConcern
 
 from fle_driver import Closed, Fle, Reason, Refused, Unsupported, enable
@@ -22,6 +23,7 @@ from fle_driver.walk import ARRAY, elements
 from .samples import FILES, PERSON, insert, sealed, spelled, string
 from .wire import WithClients, batch
 
+CODEC = CodecOptions(uuid_representation=STANDARD)
 FILTER = {"ssn": "123-45-6789"}
 E11000 = {"ok": 1, "n": 0, "writeErrors": [{"index": 0, "code": 11000, "errmsg": "E11000 duplicate key"}]}
 
@@ -142,13 +144,15 @@ class OnTheWire(WithClients):
     def test_another_database(self):
         self.client.other.people.insert_one(RawBSONDocument(PERSON))
         self.assertEqual(self.wire.last("documents"), [PERSON])
-        with self.assertRaises(InvalidDocument):
-            self.client.other.people.insert_one({"$a": 1})
+        if pymongo.version_tuple < (4,):  # later versions check no names
+            with self.assertRaises(InvalidDocument):
+                self.client.other.people.insert_one({"$a": 1})
 
     def test_a_client_that_was_closed(self):
         self.client.close()
-        with self.assertRaises(Closed):
+        with self.assertRaises((Closed, InvalidOperation)):  # pymongo 4 says so itself
             self.people.insert_one({"ssn": "x"})
+        self.assertEqual(self.wire.came, [])
 
 
 @unittest.skipUnless(shutil.which("fle"), "no fle in PATH")
@@ -162,19 +166,19 @@ class Commands(unittest.TestCase):
 
     def test_the_same_command_again(self):
         before = SON(self.command)
-        first, again = (self.hook.encrypt("hr", self.command, True, CodecOptions()) for _ in range(2))
+        first, again = (self.hook.encrypt("hr", self.command, True, CODEC) for _ in range(2))
         self.assertEqual(self.command, before)
         self.assertEqual(first["documents"][0].raw, again["documents"][0].raw)
 
     def test_fields_that_have_no_protected_value_stay_what_they_are(self):
-        sent = self.hook.encrypt("hr", self.command, True, CodecOptions())
+        sent = self.hook.encrypt("hr", self.command, True, CODEC)
         self.assertEqual(list(sent), list(self.command))
-        self.assertEqual(bson.decode(sent.raw)["comment"], self.comment)
+        self.assertEqual(bson.decode(sent.raw, CODEC)["comment"], self.comment)
         self.assertEqual(sent["$clusterTime"], {"$any": 1})
 
     def test_a_call_without_a_check_of_names(self):
         three, four = (self.hook.encrypt("hr", self.command, *options)
-                       for options in ((False, CodecOptions()), (CodecOptions(),)))
+                       for options in ((False, CODEC), (CODEC,)))
         self.assertEqual(three["documents"][0].raw, four["documents"][0].raw)
 
 
@@ -193,14 +197,23 @@ class Clients(unittest.TestCase):
 
     def test_a_client_whose_bulk_write_passes_no_encrypter(self):
         with mock.patch.object(pymongo.MongoClient, "bulk_write", create=True) as past:
+            self.client._options = ClientOptions(None, None, None, {})
             enable(self.client, self.fle)
+            self.assertTrue(self.client._options.auto_encryption_opts)  # by which pymongo refuses it too
             with self.assertRaises(Unsupported):
                 self.client.bulk_write([])
         past.assert_not_called()
 
+    def test_a_client_whose_options_are_elsewhere(self):
+        with mock.patch.object(pymongo.MongoClient, "bulk_write", create=True):
+            self.client._options = None
+            with self.assertRaisesRegex(Unsupported, "can't be refused"):
+                enable(self.client, self.fle)
+        self.assertIsNone(self.client._encrypter)
+
     def test_versions(self):
         for version, is_tried in (("3.11", True), ("3.11.4", True), ("3.110", False), ("3.10.1", False),
-                                  ("3.12.0", False), ("4.10.1", False)):
+                                  ("3.12.0", False), ("4.9.2", False), ("4.10.1", True), ("4.11", False)):
             for untried in (False, True):
                 client = pymongo.MongoClient(connect=False)
                 self.addCleanup(client.close)
@@ -209,7 +222,7 @@ class Clients(unittest.TestCase):
                         enable(client, self.fle, untried=untried)
                         self.assertIsInstance(client._encrypter, Hook)
                     else:
-                        with self.assertRaisesRegex(Unsupported, f"pymongo {version} wasn't tried, pymongo 3.11 was"):
+                        with self.assertRaisesRegex(Unsupported, f"pymongo {version} wasn't tried, pymongo 3.11 and 4"):
                             enable(client, self.fle)
                         self.assertIsNone(client._encrypter)
 

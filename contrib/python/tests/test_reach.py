@@ -2,6 +2,7 @@
 import unittest
 
 import bson
+import pymongo
 from bson.raw_bson import RawBSONDocument
 from bson.son import SON
 
@@ -110,6 +111,8 @@ class OnTheWire(WithClients):
 
     def test_other_commands_of_other_databases(self):
         for name, command in OTHERS.items():
+            if name == "bulkWrite" and pymongo.version_tuple >= (4, 9):
+                continue  # pymongo takes it for its own, whose documents it looks for, and sends nothing
             with self.subTest(name):
                 self.client.other.command(SON(command))
                 came = [part for part in elements_of(self.wire.came[-1]) if part.name in command]

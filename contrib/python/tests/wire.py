@@ -8,6 +8,8 @@ from bson.raw_bson import DEFAULT_RAW_BSON_OPTIONS, RawBSONDocument
 
 from fle_driver import enable
 
+from .server import Server
+
 try:
     import mockupdb
 except ImportError:
@@ -50,20 +52,24 @@ class Wire:
         return value.raw if isinstance(value, RawBSONDocument) else [document.raw for document in value]
 
 
-@unittest.skipUnless(mockupdb, "no mockupdb")
+def begun():
+    """A mock server: that of mockupdb where it is installed."""
+    return Wire() if mockupdb else Server()
+
+
 class WithServer(unittest.TestCase):
     """A server, which the tests of a class share, since it takes a second to stop."""
 
     @classmethod
     def setUpClass(cls):
-        cls.wire = Wire()
+        cls.wire = begun()
         cls.addClassCleanup(cls.wire.stop)
 
     def setUp(self):
         self.wire.forget()
 
 
-@unittest.skipUnless(mockupdb and shutil.which("fle"), "no mockupdb, or no fle in PATH")
+@unittest.skipUnless(shutil.which("fle"), "no fle in PATH")
 class WithClients(WithServer):
     """Clients of the server, for tests that have `fle` too."""
 
