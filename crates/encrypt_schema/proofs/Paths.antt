@@ -10,6 +10,7 @@ pub mod Written
 pub mod Walked
 pub mod Growth
 pub mod Grids
+pub mod Sharing
 pub mod Steps
 pub mod Opened
 pub mod Walks

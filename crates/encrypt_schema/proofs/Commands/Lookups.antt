@@ -1,24 +1,24 @@
--- What was looked up stands where it says, also where one more is kept.
-use Rattle.std.proofs.Common.{◌≡◌, ℕ, Bool, true, false, cond, ◌&&◌, not, List, [], ◌∷◌, ◌++◌, Option, Some, None}
-use Rattle.std.proofs.Common.{option_map, is_some, refl, sym, ap}
+-- What was looked up is kept for a slot, and stands where each of its rules reads it.
+use Rattle.std.proofs.Common.{◌≡◌, ◌==◌, ℕ, zero, suc, Bool, true, false, cond, ◌&&◌, not, List, [], ◌∷◌, ◌++◌}
+use Rattle.std.proofs.Common.{Option, Some, None, option_map, is_some, slice_get, refl, sym, ap, subst, ◌∙◌}
+use Rattle.std.proofs.lemmas.Bool.{eqb-true}
+use Rattle.std.specs.Cmp.Lexicographic.{bytes_decides}
 use Rattle.bson_codec.specs.Borrowed.{At}
 use Rattle.encrypt_schema.specs.declared.command.marks.Span.{Span}
-use Rattle.encrypt_schema.specs.declared.command.pointing.Found.{Found}
 use Rattle.encrypt_schema.specs.declared.command.reason.Reason.TheVariants.{PointerBad}
-use Rattle.encrypt_schema.specs.Language.Policies.{policy_at}
+use Rattle.encrypt_schema.specs.declared.schema.policy.KeyRef.{KeyRef}
+use Rattle.encrypt_schema.specs.declared.schema.policy.Policy.{Policy}
+use Rattle.encrypt_schema.specs.Language.Policies.{is_same_key, policy_at}
 use Rattle.encrypt_schema.specs.Language.Row.{Row}
 use Rattle.encrypt_schema.specs.Commands.Offences.{is_pointer, pointer_offence}
-use Rattle.encrypt_schema.specs.Commands.Pointers.{Target, Targets, nth_span, nth_target}
+use Rattle.encrypt_schema.specs.Commands.Pointers.{Target, Targets, nth_span, nth_target, target_of}
 use Rattle.encrypt_schema.specs.Commands.Stations.{Store}
 use Rattle.encrypt_schema.specs.Views.Walking.{targets_seen}
-use Rattle.encrypt_schema.specs.Views.Pointing.{AreFound}
-use Rattle.encrypt_schema.specs.declared.schema.policy.KeyRef.TheVariants.{Id}
-use Rattle.encrypt_schema.proofs.Commands.PointerSpans.{by_id, key_found, key_past, span_by_id, span_seen}
-
-pub found_more : (rows : List Row) (root : Option At) (fs : List Found) (f : Found) → AreFound rows root fs
-    → Some f.name ≡ nth_span f.rule (targets_seen rows root) → AreFound rows root (fs ++ f ∷ [])
-found_more rows root [] f all one = (one, tt)
-found_more rows root (g ∷ fs) f all one = (all.0, found_more rows root fs f all.1 one)
+use Rattle.encrypt_schema.specs.Views.Pointing.{AreKept}
+use Rattle.encrypt_schema.specs.Views.Slots.{ShareKeys, nth_known}
+use Rattle.encrypt_schema.specs.declared.schema.policy.KeyRef.TheVariants.{Id, Pointer}
+use Rattle.encrypt_schema.proofs.Commands.PointerSpans.{by_id, key_found, key_past, nth_targets, span_by_id, span_seen}
+use Rattle.encrypt_schema.proofs.Paths.Paths.{path_same}
 
 there : (b : Bool) (o : Option Target) (name : Span) → Some name ≡ option_map (λ t. t.span) o
     → None ≡ cond (b && not (is_some o)) (Some PointerBad) None
@@ -44,3 +44,68 @@ clean_by_id rows root i id e = sym (by_id rows (targets_seen rows root) i id e)
 
 -- a rule with an id, or none: no text names its key, and it is refused for no pointer
 pub ruleset by_ids = (nameless, clean_by_id, key_found, key_past)
+
+-- a key that is the same is one key
+pub same_key : (key other : KeyRef) → is_same_key key other ≡ true → key ≡ other
+same_key (Id id) (Id other) e = ap Id ((bytes_decides id other).0 e)
+same_key (Id id) (Pointer others) e = absurd cc
+same_key (Pointer names) (Id other) e = absurd cc
+same_key (Pointer names) (Pointer others) e = ap Pointer (path_same names others e)
+
+-- the rule that is there has a key, if its own is the same
+pub has_key : (i : ℕ) (rows : List Row) (policy : Policy) (key : KeyRef)
+    → Some policy ≡ option_map (λ (row : Row). row.policy) (slice_get rows i) → true ≡ is_same_key policy.key key
+    → (policy_at i rows).key ≡ key
+has_key i rows policy key there same = key_found i rows policy there ∙ same_key policy.key key (sym same)
+
+pub ruleset same_keys = (has_key, same_key, key_found)
+
+-- rules of one key have one target
+pub shared_span : (rows : List Row) (root : Option At) (i j : ℕ) (name : Span)
+    → (policy_at j rows).key ≡ (policy_at i rows).key → Some name ≡ nth_span j (targets_seen rows root)
+    → Some name ≡ nth_span i (targets_seen rows root)
+shared_span rows None i j name same found = found
+shared_span rows (Some d) i j name same found =
+    found
+    ∙ ap span_seen (nth_targets j rows d.start d.tree ∙ ap (target_of rows d.start d.tree) same
+    ∙ sym (nth_targets i rows d.start d.tree))
+
+-- at first nothing is kept
+pub none_kept : (rows : List Row) (root : Option At) (slots : List (Option ℕ)) (names : List (Option Span)) → names ≡ []
+    → ShareKeys slots rows → AreKept rows root slots names
+none_kept rows root slots names empty shared =
+    subst (AreKept rows root slots) (sym empty) (record { shared = shared; kept = λ i s name a b. absurd cc })
+
+-- what is kept
+pub kept_there : (rows : List Row) (root : Option At) (slots : List (Option ℕ)) (names : List (Option Span))
+    → AreKept rows root slots names → (i s : ℕ) (name : Span) → Some s ≡ nth_known slots i
+    → Some name ≡ nth_known names s → Some name ≡ nth_span i (targets_seen rows root)
+kept_there rows root slots names h i s name a b = h.kept i s name (sym a) (sym b)
+
+module _ (rows : List Row) (root : Option At) (slots : List (Option ℕ)) (old new : List (Option Span))
+    (h : AreKept rows root slots old) (j slot : ℕ) (name : Span) (has : Some slot ≡ nth_known slots j)
+    (is : Some name ≡ nth_span j (targets_seen rows root)) where
+  by_slot : (i s : ℕ) (other : Span) (here : Bool) → (s == slot) ≡ here → nth_known slots i ≡ Some s
+      → cond here (Some name) (nth_known old s) ≡ Some other → Some other ≡ nth_span i (targets_seen rows root)
+  by_slot i s other true e a b = sym b
+      ∙ shared_span rows root i j name
+      (h.shared j i slot (sym has) (subst (λ (k : ℕ). nth_known slots i ≡ Some k) (eqb-true s slot e) a)) is
+  by_slot i s other false e a b = h.kept i s other a b
+
+  by_room : (room : Bool) → ((s : ℕ) → nth_known new s ≡ cond (room && s == slot) (Some name) (nth_known old s))
+      → (i s : ℕ) (other : Span) → nth_known slots i ≡ Some s → nth_known new s ≡ Some other
+      → Some other ≡ nth_span i (targets_seen rows root)
+  by_room true put i s other a b = by_slot i s other (s == slot) refl a (sym (put s) ∙ b)
+  by_room false put i s other a b = h.kept i s other a (sym (put s) ∙ b)
+
+  -- one more is kept
+  pub one_kept : (room : Bool) → ((s : ℕ) → nth_known new s ≡ cond (room && s == slot) (Some name) (nth_known old s))
+      → AreKept rows root slots new
+  one_kept room put = record { shared = h.shared; kept = by_room room put }
+
+-- a place more in which nothing is kept
+pub known_longer : (names : List (Option Span)) (s : ℕ) → nth_known (names ++ None ∷ []) s ≡ nth_known names s
+known_longer [] zero = refl
+known_longer [] (suc s) = refl
+known_longer (x ∷ names) zero = refl
+known_longer (x ∷ names) (suc s) = known_longer names s

@@ -1,11 +1,12 @@
 -- The rules' pointers as they are read in one document.
-use Rattle.std.specs.Prelude.{◌≡◌, List, [], ◌∷◌, Option, Some, refl}
+use Rattle.std.specs.Prelude.{◌≡◌, ℕ, List, Option, Some, refl}
 use Rattle.std.specs.Coded.{Coded, code_by, coded×, coded_option}
 use Rattle.bson_codec.specs.Borrowed.{At, coded_at}
-use Rattle.encrypt_schema.specs.declared.command.pointing.Found.{Found}
+use Rattle.encrypt_schema.specs.declared.command.marks.Span.{Span}
 use Rattle.encrypt_schema.specs.contracts.path.rows.Rows as rules
 use Rattle.encrypt_schema.specs.Language.Row.{Row}
 use Rattle.encrypt_schema.specs.Commands.Pointers.{Targets, nth_span}
+use Rattle.encrypt_schema.specs.Views.Slots.{ShareKeys, nth_known}
 use Rattle.encrypt_schema.specs.Views.Walking.{targets_seen}
 
 -- rules, and the document from which their pointers are read, where there is one
@@ -22,7 +23,9 @@ coded_read = code_by (List Row × Option At) (coded× rules.the_row.coded (coded
 abbrev pub targets_read : Read → Targets
 targets_read r = targets_seen r.rows r.root
 
--- what was looked up stands where it says
-abbrev pub AreFound : List Row → Option At → List Found → Type 0
-AreFound rows root [] = Unit {0}
-AreFound rows root (f ∷ fs) = (Some f.name ≡ nth_span f.rule (targets_seen rows root)) × AreFound rows root fs
+-- what is kept for a slot is where the key of each of its rules is named
+pub record AreKept (rows : List Row) (root : Option At) (slots : List (Option ℕ)) (names : List (Option Span))
+    : Type 0 where
+  pub shared : ShareKeys slots rows
+  pub kept : (i s : ℕ) (name : Span) → nth_known slots i ≡ Some s → nth_known names s ≡ Some name
+      → Some name ≡ nth_span i (targets_seen rows root)

@@ -38,3 +38,8 @@ pointer_names text = unwrap_or (pointer_of text) []
 abbrev pub key_stated : StatedKey → KeyRef
 key_stated (states.Id id) = Id id
 key_stated (states.Pointer text) = Pointer (pointer_names text.now)
+
+-- the text of its pointer, where it is one
+abbrev pub pointer_text : StatedKey → Option (List ℕ)
+pointer_text (states.Id id) = None
+pointer_text (states.Pointer text) = Some text.now

@@ -1,40 +1,38 @@
-//! The rules' pointers as they are read in one document: each leads somewhere once, however many values ask for it.
+//! The rules' pointers as they are read in one document: each is looked up once, however many rules have it and values
+//! ask for it.
 
-ghost use Rattle.std.specs.Prelude.{◌≡◌, true, None, Some, IfErr, IfOk, IfSome};
+ghost use Rattle.std.specs.Prelude.{◌≡◌, ◌<◌, ◌==◌, ◌&&◌, ℕ, true, None, Some, IfErr, IfOk, IfSome, length};
+ghost use Rattle.std.specs.Prelude.{if◌then◌else◌};
 ghost use Rattle.encrypt_schema.specs.Commands.Offences.{pointer_offence};
 ghost use Rattle.encrypt_schema.specs.Commands.Pointers.{nth_span};
 ghost use Rattle.encrypt_schema.specs.Commands.Stations.{Store};
 ghost use Rattle.encrypt_schema.specs.Views.Pointing.{Read, targets_read};
+ghost use Rattle.encrypt_schema.specs.Views.Slots.{nth_known};
 
 use crate::command::marks::Span;
 use crate::command::pointers::name_under;
 use crate::command::reason::Reason;
 use crate::path::rows::Rows;
+use crate::path::slots::nth_slot;
 use crate::schema::policy::KeyRef;
 use bson_codec::RawDoc;
 use std::alloc::Global;
 use std::marker::Model;
-
-/// A rule whose pointer was looked up, and where the text stands that names its key.
-#[derive(Clone, Copy)]
-pub(crate) struct Found {
-    /// The number of the rule.
-    rule: u32,
-    /// Where the text stands.
-    name: Span,
-}
 
 /// Rules, and the document from which their pointers are read, where there is one. No pointer is looked up twice,
 /// unless memory runs out.
 #[derive(Drop)]
 pub(crate) struct Pointing<'r, 'd> {
     rows: &'r Rows,
+    /// The slot of each rule.
+    slots: &'r [Option<u32>],
     root: Option<RawDoc<'d>>,
-    found: Vec<Found>,
+    /// By a slot, where the text stands to which the pointer leads, if it was looked up.
+    names: Vec<Option<Span>>,
 }
 
 impl<'r, 'd> Model for Pointing<'r, 'd> {
-    ghost use Rattle.encrypt_schema.specs.Views.Pointing.{AreFound, Read, coded_read};
+    ghost use Rattle.encrypt_schema.specs.Views.Pointing.{AreKept, Read, coded_read};
 
     ghost Value = { Read };
 
@@ -42,7 +40,7 @@ impl<'r, 'd> Model for Pointing<'r, 'd> {
 
     ghost view = { λ p. record { rows = p.rows.now; root = p.root } };
 
-    ghost invariant = { λ p. AreFound p.rows.now p.root p.found.items };
+    ghost invariant = { λ p. AreKept p.rows.now p.root p.slots.now p.names.items };
 }
 
 impl<'r, 'd> Pointing<'r, 'd> {
@@ -52,8 +50,9 @@ impl<'r, 'd> Pointing<'r, 'd> {
     {
         Pointing {
             rows,
+            slots: rows.slots(),
             root,
-            found: Vec::new(alloc),
+            names: Vec::new(alloc),
         }
     }
 
@@ -64,27 +63,23 @@ impl<'r, 'd> Pointing<'r, 'd> {
         self.rows
     }
 
-    /// Where the text stands that names the key of the rule of this number, if it was looked up.
+    /// Where the text stands that names the key of the rule of this number, if its pointer was looked up.
+    #[tactic(auto, using(crate::proofs::Commands::Lookups::kept_there))]
     fn found(&self, i: u32) -> Option<Span>
         ensures found { IfSome result (λ name. Some name ≡ nth_span i (targets_read self.now)) }
     {
-        for found in self.found.as_slice() {
-            if found.rule == i {
-                return Some(found.name);
-            }
-        }
-        None
+        let slot = nth_slot(self.slots, i)?;
+        let name = nth_name(&self.names, slot)?;
+        Some(name)
     }
 
-    /// Keeps where it stands, if there is memory for it.
-    #[tactic(auto, using(crate::proofs::Commands::Lookups::found_more))]
+    /// Keeps where it stands, if the rule has a slot and there is memory for it.
     fn keep(&mut self, i: u32, name: Span)
         requires is { Some name ≡ nth_span i (targets_read self.old) }
         ensures same { self.new ≡ self.old }
     {
-        match self.found.push(Found { rule: i, name }) {
-            Ok(()) => (),
-            Err(_) => (),
+        if let Some(slot) = nth_slot(self.slots, i) {
+            let _ = put_name(&mut self.names, slot, name);
         }
     }
 
@@ -141,4 +136,43 @@ impl<'r, 'd> Pointing<'r, 'd> {
             Err(reason) => Err(reason),
         }
     }
+}
+
+/// Where the text stands that is kept for a slot.
+fn nth_name(names: &Vec<Option<Span>>, slot: u32) -> Option<Span>
+    ensures name { result ≡ nth_known names.now.items slot }
+{
+    let slot = slot as usize;
+    if slot < names.len() {
+        names[slot]
+    } else {
+        None
+    }
+}
+
+/// Keeps for a slot where the text stands, and tells whether there was memory for it.
+fn put_name(names: &mut Vec<Option<Span>>, slot: u32, name: Span) -> bool
+    ensures put { (s : ℕ) → nth_known names.new.items s
+        ≡ (if result && s == slot then Some name else nth_known names.old.items s) }
+{
+    let slot = slot as usize;
+    if !reach_slot(names, slot) {
+        return false;
+    }
+    names[slot] = Some(name);
+    true
+}
+
+/// Makes a place for a slot, and for those before it, and tells whether there was memory for it.
+#[tactic(auto, using(crate::proofs::Commands::Lookups::known_longer))]
+fn reach_slot(names: &mut Vec<Option<Span>>, slot: usize) -> bool
+    ensures same { (s : ℕ) → nth_known names.new.items s ≡ nth_known names.old.items s }
+    ensures there { result ≡ true → slot < length names.new.items }
+{
+    while names.len() <= slot {
+        if names.push(None).is_err() {
+            return false;
+        }
+    }
+    true
 }
