@@ -5,6 +5,7 @@ pub mod Spellings
 pub mod Drawings
 pub mod Growth
 pub mod Runs
+pub mod LastNames
 pub mod Policies
 pub mod Stands
 pub mod Judged

@@ -6,6 +6,7 @@ pub mod Sealed
 pub mod Plans
 pub mod Ivs
 pub mod Sealing
+pub mod LastNames
 pub mod Standing
 pub mod SealedTrees
 pub mod SealedCommand

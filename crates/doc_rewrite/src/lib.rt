@@ -28,6 +28,7 @@ mod indexed_keys;
 mod iv;
 mod key_table;
 mod label;
+mod last_name;
 pub mod laws;
 mod leaf;
 mod listener;

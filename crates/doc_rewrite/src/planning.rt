@@ -1,14 +1,16 @@
 //! What is known of a document before its values are sealed: which they are, and how long it gets.
 
-ghost use Rattle.std.specs.Prelude.{◌≡◌, ◌+◌, ◌*◌, ◌<◌, ◌≤◌, ◌^◌, [], length, IfErr, IfOk};
+ghost use Rattle.std.specs.Prelude.{◌≡◌, ◌+◌, ◌*◌, ◌<◌, ◌≤◌, ◌^◌, [], length, slice_get, IfErr, IfOk};
+ghost use Rattle.std.specs.Prelude.{option_and_then};
 ghost use Rattle.bson_tree.specs.Spelling.{doc_bytes};
+ghost use Rattle.doc_rewrite.specs.LastNames.{name_of};
 ghost use Rattle.doc_rewrite.specs.Plans.{AreLong, AreMarksOf, IsTooLong, StandsFor};
 ghost use Rattle.doc_rewrite.specs.Sites.{grown, sites_of as sites_by};
 
 use crate::sites::{Sites, site_at, sites_of};
 use bson_codec::RawDoc;
 use bson_splice::TooLong;
-use encrypt_schema::{Marks, Rows};
+use encrypt_schema::{KeyRef, Mark, Marks, Rows, Span};
 use std::marker::Model;
 
 /// The most bytes of a sealed document.
@@ -56,6 +58,30 @@ impl<'a> Plan<'a> {
         ensures small { self.now.size ≤ 48000000 }
     {
         &self.sites
+    }
+
+    /// Where the text stands that names the key of the value of this number, counted from 0; `None` where an id does.
+    pub(crate) fn name(&self, i: usize) -> Option<Span>
+        ensures name { result ≡ option_and_then (name_of self.now.rows) (slice_get self.now.marks i) }
+    {
+        match self.ruled {
+            Some((marks, rows)) => match marks.get(i) {
+                Some(mark) => name_of(&mark, rows),
+                None => None,
+            },
+            None => None,
+        }
+    }
+}
+
+/// Where the text stands that names the key of a mark's value; `None` where the mark's rule has the key's id.
+fn name_of(mark: &Mark, rows: &Rows) -> Option<Span>
+    ensures name { result ≡ name_of rows.now mark.now }
+{
+    let policy = rows.policy(mark.policy)?;
+    match &policy.key {
+        KeyRef::Id(_) => None,
+        KeyRef::Pointer(_) => mark.name,
     }
 }
 

@@ -2,13 +2,15 @@
 
 ghost use Rattle.std.specs.Prelude.{◌≡◌, drop, length, IfOk, OnErr};
 ghost use Rattle.doc_rewrite.specs.Keys.{GivesLongIds, key_in};
+ghost use Rattle.doc_rewrite.specs.LastNames.{KeepsLast};
 ghost use Rattle.doc_rewrite.specs.Plans.{StandsFor};
 ghost use Rattle.doc_rewrite.specs.Sealing.{FellShort, HasKeys, IsSealedWhole, SealsNone, SealsOne};
 ghost use Rattle.doc_rewrite.specs.Sites.{draws_of, spans_of};
 
 use crate::iv::iv_for;
-use crate::key_table::{KeyTable, key_for};
+use crate::key_table::KeyTable;
 use crate::label::Label;
+use crate::last_name::{LastName, key_by, last_behind};
 use crate::placing::put_sealed;
 use crate::planning::Plan;
 use crate::sites::{Sites, site_at, start_at};
@@ -17,17 +19,19 @@ use bson_splice::{Putter, Stopped, splice};
 use crypto_hooks::Block256;
 use fle_outside::{Entropy, Failed};
 
-/// Values that are sealed one after the other, those before `next` already.
+/// Values that are sealed one after the other, those before `next` already. `last` is the name that led to a key last.
 #[derive(Drop)]
-struct Sealing<'a, 'n, B, N> {
+struct Sealing<'a, 'l, 'n, B, N> {
     hooks: &'a B,
     keys: &'a KeyTable,
+    plan: &'a Plan<'a>,
     sites: &'a Sites<'a>,
     next: usize,
+    last: &'l mut Option<LastName<'a>>,
     entropy: &'n mut N,
 }
 
-impl<'a, 'n, B: Block256, N: Entropy> Putter for Sealing<'a, 'n, B, N> {
+impl<'a, 'l, 'n, B: Block256, N: Entropy> Putter for Sealing<'a, 'l, 'n, B, N> {
     ghost spans = { λ s. spans_of (drop s.next s.sites.now) };
 
     ghost puts = { λ a b p.
@@ -39,7 +43,8 @@ impl<'a, 'n, B: Block256, N: Entropy> Putter for Sealing<'a, 'n, B, N> {
         SealsNone (drop a.next a.sites.now) (N.seen a.entropy.now) (N.seen b.entropy.now)
         × (b.entropy.ghost_name ≡ a.entropy.ghost_name) };
 
-    ghost ready = { λ s. B.answers s.hooks.now × HasKeys (key_in s.keys.now) (drop s.next s.sites.now) };
+    ghost ready = { λ s. B.answers s.hooks.now × HasKeys (key_in s.keys.now) (drop s.next s.sites.now)
+        × KeepsLast (key_in s.keys.now) s.plan.now s.sites.now s.last.now };
 
     fn next_start(&self) -> Option<usize> {
         start_at(self.sites, self.next)
@@ -53,7 +58,9 @@ impl<'a, 'n, B: Block256, N: Entropy> Putter for Sealing<'a, 'n, B, N> {
     ) -> Result<usize, Stopped> {
         match site_at(self.sites, self.next) {
             Some(site) => {
-                let found = key_for(self.keys, site.need);
+                let name = self.plan.name(self.next);
+                let found = key_by(self.keys, *self.last, name, site.need);
+                *self.last = last_behind(*self.last, name, found);
                 let label = Label {
                     algorithm: site.algorithm,
                     key_id: found.0,
@@ -94,11 +101,14 @@ pub fn seal_through<B: Block256, N: Entropy>(
     ensures failed { OnErr result (FellShort (N.seen entropy.old) (N.seen entropy.new) (draws_of plan.now.sites)) }
 {
     keys.ids();
+    let mut last = None;
     let mut sealing = Sealing {
         hooks,
         keys,
+        plan,
         sites: plan.sites(),
         next: 0,
+        last: &mut last,
         entropy,
     };
     match splice(document, &mut sealing, out) {

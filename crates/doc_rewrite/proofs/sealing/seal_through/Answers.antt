@@ -1,11 +1,22 @@
 use Rattle.std.proofs.Common.{◌≡◌, ◌∙◌, List, length, drop, arith, rules, subst, sym}
 use Rattle.bson_splice.specs.Whole.{HasRoomFor}
 use Rattle.doc_rewrite.specs.Keys.{key_in}
-use Rattle.doc_rewrite.specs.Sealing.{IsSealedWhole, FellShort}
+use Rattle.doc_rewrite.specs.Sealing.{FellShort, HasKeys, IsSealedWhole}
 use Rattle.doc_rewrite.specs.Sites.{Site, spans_of, draws_of}
 use Rattle.doc_rewrite.proofs.Growth.{room, size_is}
 use Rattle.doc_rewrite.proofs.Runs.{name_done, name_stopped, whole, short}
 use Rattle.doc_rewrite.proofs.sealing.seal_through.Goals as goal
+
+pub splice-requires-clause-ready : goal.splice-requires-clause-ready
+splice-requires-clause-ready g c = (
+  c.requires.hooks,
+  subst (λ (ss : List Site). HasKeys (key_in c.args.keys.now) ss) (sym c.sites.ensures.sites) c.requires.keyed,
+  record {
+    document = c.args.document.now;
+    own = c.sites.ensures.sites ∙ c.requires.stands.own;
+    kept = tt;
+  },
+)
 
 pub splice-requires-clause-small : goal.splice-requires-clause-small
 splice-requires-clause-small g c = omega (arith, c.requires.room, c.sites.ensures.small)
