@@ -97,8 +97,8 @@ def compare(name, well, what=""):
 
 
 def known_rows(script):
-    """The newest file of a script in compare/results, and its lines, among which the rows of its tables are."""
-    newest = max(glob.glob(f"compare/results/*-{script}.md"))
+    """The newest file of a script in bench/results/compare, and its lines, among which the rows of its tables are."""
+    newest = max(glob.glob(f"bench/results/compare/*-{script}.md"))
     with open(newest, encoding="utf-8") as page:
         return newest, set(page.read().splitlines())
 
