@@ -16,6 +16,7 @@ pub mod Measures
 pub mod Views
 pub mod Deeper
 pub mod Fronts
+pub mod Cuts
 pub mod Items
 pub mod Values
 pub mod Grammar

@@ -6,5 +6,6 @@ pub mod Reading
 pub mod Measure
 pub mod Borrowed
 pub mod Elements
+pub mod Cuts
 pub mod Standings
 pub mod Values

@@ -139,7 +139,7 @@ pub(crate) fn holds_offset(item: &RawItem<'_>, at: usize) -> bool
 }
 
 // Whether values of this type hold a document: embedded document and array.
-fn has_document(tag: u8) -> bool
+pub(crate) fn has_document(tag: u8) -> bool
     ensures inner { result ≡ is_inner tag }
 {
     tag == types::DOCUMENT || tag == types::ARRAY

@@ -2,9 +2,13 @@
 
 ghost use Rattle.std.specs.Prelude.{◌≡◌, ◌+◌, ◌<◌, ◌^◌, option_map};
 ghost use Rattle.bson_tree.specs.Tree.{count};
+ghost use Rattle.bson_tree.specs.Spelling.{items_bytes};
 ghost use Rattle.bson_codec.specs.Borrowed.{holding};
+ghost use Rattle.bson_codec.specs.Cuts.{items_before, items_from};
+ghost use Rattle.bson_codec.specs.Elements.{TakesElement, elements_left};
 
 use crate::borrowed::RawDoc;
+use crate::cut::cut_before;
 use crate::front::parts_of;
 use crate::item::{RawItem, holds_offset};
 use std::marker::Model;
@@ -68,11 +72,39 @@ impl<'a> RawIter<'a> {
             at: self.at,
         }
     }
+
+    /// Takes the elements up to the first whose value begins at the offset `at` or, being a document or an array, ends
+    /// behind it: the bytes of those before it, as they stand, and it. All of them and `None`, where there is no such
+    /// element, or no offset.
+    pub fn skip_to(&mut self, at: Option<usize>) -> (&'a [u8], Option<RawItem<'a>>)
+        ensures bytes { result.0.now ≡ items_bytes (items_before at self.old) }
+        ensures taken { TakesElement (items_from at self.old) result.1 self.new }
+    {
+        let (width, met) = cut_before(self.rest, self.at, at);
+        let (skipped, rest) = self.rest.split_at(width);
+        match met {
+            None => {
+                self.rest = rest;
+                self.at += width;
+                (skipped, None)
+            }
+            Some(parts) => {
+                let start = self.at + width + (2 + parts.name.len());
+                let item = RawItem {
+                    tag: parts.tag,
+                    name: parts.name,
+                    value: parts.value,
+                    start,
+                };
+                self.rest = parts.rest;
+                self.at = start + parts.value.len();
+                (skipped, Some(item))
+            }
+        }
+    }
 }
 
 impl<'a> Iterator for RawIter<'a> {
-    ghost use Rattle.bson_codec.specs.Elements.{TakesElement, elements_left};
-
     type Item = RawItem<'a>;
 
     ghost next_gives = { TakesElement };

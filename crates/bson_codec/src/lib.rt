@@ -16,6 +16,7 @@
 
 mod borrowed;
 mod checking;
+mod cut;
 mod decoding;
 mod encoding;
 mod fault;

@@ -1,10 +1,20 @@
 -- The elements that are left to be written, one after the other.
-use Rattle.std.proofs.Common.{◌≡◌, ◌∙◌, ℕ, ◌+◌, List, length, Some, ap, sym}
-use Rattle.bson_tree.specs.Tree.{item}
+use Rattle.std.proofs.Common.{◌≡◌, ◌∙◌, ℕ, ◌+◌, List, length, Option, Some, None, ap, subst, sym}
+use Rattle.bson_tree.specs.Tree.{item, no_items}
 use Rattle.bson_tree.specs.Spelling.{value_bytes}
 use Rattle.bson_codec.specs.Borrowed.{At, Elem}
 use Rattle.bson_codec.specs.Elements.{TakesElement}
 use Rattle.bson_splice.specs.Splices.{Put, left_in, left, spliced_in, spliced}
+
+-- an element that was taken is the next one
+pub takes_some : (here : At) (met : Option Elem) (rest : At) (e : Elem) → met ≡ Some e → TakesElement here met rest
+    → TakesElement here (Some e) rest
+takes_some here met rest e is taken = subst (λ (o : Option Elem). TakesElement here o rest) is taken
+
+-- where none was taken, none is left
+pub takes_none : (here : At) (met : Option Elem) (rest : At) → met ≡ None → TakesElement here met rest
+    → here.tree ≡ no_items
+takes_none here met rest is taken = (subst (λ (o : Option Elem). TakesElement here o rest) is taken).0
 
 -- what is left is the next element and the others
 pub left_parts : (here rest : At) (e : Elem) (ps : List Put) → TakesElement here (Some e) rest

@@ -1,13 +1,13 @@
 -- A document that is spliced element by element.
-use Rattle.std.proofs.Common.{◌≡◌, ◌∙◌, ℕ, ◌+◌, ◌≤◌, Some, List, [], ◌++◌, length, take, arith, refl, sym, ap, subst}
-use Rattle.std.proofs.Common.{length-append, append_assoc, length-take-le}
+use Rattle.std.proofs.Common.{◌≡◌, ◌∙◌, ℕ, ◌+◌, ◌≤◌, Option, Some, List, [], ◌++◌, length, take, arith, refl, sym}
+use Rattle.std.proofs.Common.{ap, subst, length-append, append_assoc, length-take-le}
 use Rattle.std.proofs.lemmas.List.{append-nil}
 use Rattle.bson_tree.specs.Tree.{Items, no_items}
 use Rattle.bson_tree.specs.Spelling.{items_bytes}
 use Rattle.bson_codec.specs.Borrowed.{At, Elem}
 use Rattle.bson_codec.specs.Elements.{TakesElement}
 use Rattle.bson_splice.specs.Spans.{Span, AreFits, Runs}
-use Rattle.bson_splice.specs.Splicing.{HasRoom, Splices, Stops, element_made, element_left, elements_made}
+use Rattle.bson_splice.specs.Splicing.{HasRoom, PutsBefore, Splices, Stops, element_made, element_left, elements_made}
 use Rattle.bson_splice.specs.Splicing.{elements_left}
 use Rattle.bson_splice.specs.Splices.{Put, left_in, left, spliced_in, spliced}
 use Rattle.bson_splice.proofs.Elements.{left_parts}
@@ -77,6 +77,19 @@ module _ {S : Type 0} (step : S → S → Put → Type 0) (spans : S
         ∙ ap (λ (x : List Put). elements_left (all.start + 4) all.tree x) (sym (append_assoc going.puts s.puts qs));
   }
 
+  -- behind elements that were put as they stand
+  pub passes : (here : At) (met : Option Elem) (rest : At) (mid : S) (now new : List ℕ) (end behind : ℕ)
+      → Going step spans all here before mid old now at end
+      → (p : PutsBefore (spans mid) here met rest now new end behind)
+      → Going step spans all p.mid before mid old new at behind
+  passes here met rest mid now new end behind going p = record {
+    puts = going.puts;
+    runs = going.runs;
+    fits = going.fits;
+    written = λ qs f. p.made qs f ∙ going.written qs f;
+    left = λ qs f. p.left qs f ∙ going.left qs f;
+  }
+
   -- no element is left
   pub ends : (here : At) (after : S) (new : List ℕ) (end : ℕ) → here.tree ≡ no_items
       → Going step spans all here before after old new at end
@@ -104,6 +117,19 @@ module _ {S : Type 0} (step : S → S → Put → Type 0) (spans : S
     stop = s.stop;
   }
 
+  -- there is room for the elements that are left
+  pub room_left : (here : At) (mid : S) (new : List ℕ) (end size : ℕ) → at ≤ length old → end ≤ length new
+      → Going step spans all here before mid old new at end
+      → HasRoom (spans before) (elements_made (all.start + 4) all.tree) at size
+      → HasRoom (spans mid) (elements_made here.start here.tree) end size
+  room_left here mid new end size within inside going room ps f =
+      let whole = going.puts ++ ps in
+      let long : length (take end new) + length (elements_made here.start here.tree ps)
+      ≡ length (take at old) + length (elements_made (all.start + 4) all.tree whole)
+      = sym (length-append (take end new) (elements_made here.start here.tree ps)) ∙ ap length (going.written ps f)
+      ∙ length-append (take at old) (elements_made (all.start + 4) all.tree whole) in
+      omega (arith, long, room whole (going.fits ps f), length-take-le at old within, length-take-le end new inside)
+
   -- there is room for the next element
   pub room_next : (here rest : At) (e : Elem) (mid : S) (new : List ℕ) (end size : ℕ)
       → at ≤ length old → end ≤ length new
@@ -112,16 +138,10 @@ module _ {S : Type 0} (step : S → S → Put → Type 0) (spans : S
       → HasRoom (spans before) (elements_made (all.start + 4) all.tree) at size
       → HasRoom (spans mid) (element_made e) end size
   room_next here rest e mid new end size within inside taken going room ps f =
-      let whole = going.puts ++ ps in
       let t = spliced_in e.start ps e.tree in
       let is = spliced rest.start (left_in e.start ps e.tree) rest.tree in
       let parts : elements_made here.start here.tree ps ≡ element_made e ps ++ items_bytes is
       = ap items_bytes (left_parts here rest e ps taken).0 ∙ one_item e.name t is in
-      let long : length (take end new) + length (elements_made here.start here.tree ps)
-      ≡ length (take at old) + length (elements_made (all.start + 4) all.tree whole)
-      = sym (length-append (take end new) (elements_made here.start here.tree ps)) ∙ ap length (going.written ps f)
-      ∙ length-append (take at old) (elements_made (all.start + 4) all.tree whole) in
-      let size : length (elements_made here.start here.tree ps) ≡ length (element_made e ps) + length (items_bytes is)
+      let long : length (elements_made here.start here.tree ps) ≡ length (element_made e ps) + length (items_bytes is)
       = ap length parts ∙ length-append (element_made e ps) (items_bytes is) in
-      let fits = room whole (going.fits ps f) in
-      omega (arith, long, size, fits, length-take-le at old within, length-take-le end new inside)
+      omega (arith, long, room_left here mid new end size within inside going room ps f)

@@ -5,6 +5,7 @@ pub mod Steps
 pub mod Elements
 pub mod Parts
 pub mod Fitting
+pub mod Cuts
 pub mod Going
 pub mod Documents
 pub mod Whole

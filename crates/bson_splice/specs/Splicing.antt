@@ -1,8 +1,9 @@
 -- What was written while a part of a document was spliced
-use Rattle.std.specs.Prelude.{◌≡◌, ℕ, ◌+◌, ◌≤◌, Result, Ok, Err, List, ◌∷◌, ◌++◌, length, take}
-use Rattle.bson_tree.specs.Tree.{Items, item, no_items}
+use Rattle.std.specs.Prelude.{◌≡◌, ℕ, ◌+◌, ◌≤◌, Option, Result, Ok, Err, List, ◌∷◌, ◌++◌, length, take}
+use Rattle.bson_tree.specs.Tree.{Items, item, items_size, no_items}
 use Rattle.bson_tree.specs.Spelling.{items_bytes, doc_bytes}
 use Rattle.bson_codec.specs.Borrowed.{At, Elem}
+use Rattle.bson_codec.specs.Elements.{TakesElement}
 use Rattle.bson_splice.specs.declared.putter.Stopped.{Stopped}
 use Rattle.bson_splice.specs.Spans.{Span, Fits, AreFits, Runs}
 use Rattle.bson_splice.specs.Splices.{Put, left_in, left, spliced_in, spliced}
@@ -51,6 +52,19 @@ abbrev pub TellsPut : {S : Type 0} → (S → S → Put → Type 0) → (S → S
     → Elem → S → S → List ℕ → List ℕ → ℕ → Result ℕ Stopped → Type 0
 TellsPut step stops spans e before after old new at (Ok end) = PutsOne step spans e before after old new at end
 TellsPut step stops spans e before after old new at (Err _) = stops before after
+
+-- elements at the front were written as they stand, then one was taken, if there was one, and `rest` is left: whatever
+-- takes the places, what was written and what is left from that one on become what all become
+pub record PutsBefore (ss : List Span) (here : At) (met : Option Elem) (rest : At) (old new : List ℕ)
+    (at end : ℕ) : Type 0 where
+  pub mid : At
+  pub taken : TakesElement mid met rest
+  pub made : (ps : List Put) → AreFits ss ps
+      → take end new ++ elements_made mid.start mid.tree ps ≡ take at old ++ elements_made here.start here.tree ps
+  pub left : (ps : List Put) → AreFits ss ps
+      → elements_left mid.start mid.tree ps ≡ elements_left here.start here.tree ps
+  pub fewer : items_size mid.tree ≤ items_size here.tree
+  pub within : end ≤ length new
 
 -- these were put in; whatever takes the places behind theirs, `made` of all was written behind `at`, and `rests` of
 -- all are left

@@ -2,13 +2,30 @@
 
 ghost use Rattle.std.specs.Prelude.{◌≡◌, ◌+◌, ◌<◌, ◌≤◌, ◌^◌, length};
 ghost use Rattle.bson_splice.specs.Whole.{HasRoomFor, StandsAt, TellsWhole};
-ghost use Rattle.bson_splice.specs.Splicing.{EndsWithin, HasRoom, TellsSplices, document_left, document_made};
-ghost use Rattle.bson_splice.specs.Splicing.{element_left, element_made, elements_left, elements_made};
+ghost use Rattle.bson_splice.specs.Splicing.{EndsWithin, HasRoom, PutsBefore, TellsSplices, document_left};
+ghost use Rattle.bson_splice.specs.Splicing.{document_made, element_left, element_made, elements_left, elements_made};
 
 use crate::putter::{Putter, Stopped};
 use crate::step::{Step, step_of};
-use crate::writing::{close, put_item, put_name};
-use bson_codec::{RawDoc, RawItem};
+use crate::writing::{close, put, put_item, put_name};
+use bson_codec::{RawDoc, RawItem, RawIter};
+
+/// Puts the elements before the first that the next place meets, as they stand, and takes them and that one from
+/// `items`: the offset behind what was put, and that one; `None` where no element is left.
+fn put_before<'a, P: Putter>(
+    items: &mut RawIter<'a>,
+    putter: &P,
+    out: &mut [u8],
+    at: usize,
+) -> (usize, Option<RawItem<'a>>)
+    requires room { HasRoom (P.spans putter.now) (elements_made items.old.start items.old.tree) at (length out.old) }
+    ensures size { length out.new ≡ length out.old }
+    ensures put { PutsBefore (P.spans putter.now) items.old result.1 items.new out.old out.new at result.0 }
+{
+    let (skipped, met) = items.skip_to(putter.next_start());
+    let end = put(out, at, skipped);
+    (end, met)
+}
 
 /// Splices an element.
 #[cycle(splice)]
@@ -90,14 +107,18 @@ fn splice_items<P: Putter>(
         (elements_left (document.now.start + 4) document.now.tree) putter.old putter.new out.old out.new at result }
     ensures within { EndsWithin (length out.new) result }
 {
+    let mut items = document.items();
     let mut end = at;
-    for item in document.items() {
-        match splice_item(&item, putter, out, end) {
-            Ok(behind) => end = behind,
-            Err(Stopped) => return Err(Stopped),
+    loop {
+        let (here, met) = put_before(&mut items, putter, out, end);
+        match met {
+            Some(item) => match splice_item(&item, putter, out, here) {
+                Ok(behind) => end = behind,
+                Err(Stopped) => return Err(Stopped),
+            },
+            None => return Ok(here),
         }
     }
-    Ok(end)
 }
 
 /// Writes the document to the front of `out`, with what `putter` puts in place of its values; how many bytes that

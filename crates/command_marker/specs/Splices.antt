@@ -2,8 +2,12 @@
 use Rattle.std.specs.Prelude.{ℕ, ◌+◌, Bool, List, [], ◌∷◌, Option}
 use Rattle.bson_tree.specs.Tree.{Tree, Items}
 use Rattle.bson_splice.specs.Splices.{begins_by, is_before_by, left_by, left_in_by, put_at_by, spliced_by}
-use Rattle.bson_splice.specs.Splices.{spliced_in_by}
+use Rattle.bson_splice.specs.Splices.{spliced_in_by, start_by}
 use Rattle.encrypt_schema.specs.declared.command.marks.Mark.{Mark}
+
+-- where the next mark begins; none where none is left
+abbrev pub next_start : List Mark → Option ℕ
+next_start ms = start_by (λ (m : Mark). m.start) ms
 
 -- the next mark begins at this offset
 abbrev pub begins : ℕ → List Mark → Bool

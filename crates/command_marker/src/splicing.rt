@@ -8,7 +8,7 @@ ghost use Rattle.bson_tree.specs.Spelling.{doc_bytes, items_bytes};
 ghost use Rattle.bson_tree.specs.Tree.{item as element, no_items};
 ghost use Rattle.payload6.specs.Needs.{alternate_name, need_seen};
 ghost use Rattle.command_marker.specs.Marked.{marked_by, need_marked};
-ghost use Rattle.command_marker.specs.Splices.{left, left_in, spliced, spliced_in};
+ghost use Rattle.command_marker.specs.Splices.{left, left_in, next_start, spliced, spliced_in};
 ghost use Rattle.command_marker.specs.Written.{AreRuled, growth};
 
 use bson_codec::writing::{append, close, open, put_name};
@@ -100,6 +100,27 @@ fn put_marked(
     append(out, &length_bytes(size))?;
     append(out, &[subtypes::ENCRYPTED])?;
     put_marking(out, item, algorithm, need)?;
+    Ok(())
+}
+
+/// Where the mark of this number begins, counted from 0; `None` where there is none.
+fn start_of(marks: &Marks, next: usize) -> Option<usize>
+    ensures start { result ≡ next_start (drop next marks.now) }
+{
+    match marks.get(next) {
+        Some(mark) => Some(mark.start as usize),
+        None => None,
+    }
+}
+
+/// Appends elements as they stand; mostly there are none between two marks, so that nothing is called then.
+fn put_skipped(out: &mut Vec<u8>, bytes: &[u8]) -> Result<(), Memory>
+    ensures appended { OnOk result (out.new.items ≡ out.old.items ++ bytes.now) }
+{
+    if bytes.is_empty() {
+        return Ok(());
+    }
+    append(out, bytes)?;
     Ok(())
 }
 
@@ -196,9 +217,14 @@ fn put_items<'a>(
     ensures left { IfOk result (λ n. drop n marks.now
         ≡ left (document.now.start + 4) (drop next marks.now) document.now.tree) }
 {
+    let mut items = document.items();
     let mut behind = next;
-    for item in document.items() {
-        behind = put_item(out, rows, marks, command, behind, &item)?;
+    loop {
+        let (skipped, met) = items.skip_to(start_of(marks, behind));
+        put_skipped(out, skipped)?;
+        match met {
+            Some(item) => behind = put_item(out, rows, marks, command, behind, &item)?,
+            None => return Ok(behind),
+        }
     }
-    Ok(behind)
 }

@@ -1,11 +1,12 @@
 use Rattle.std.proofs.Common.{◌≡◌, ◌∙◌, ap, sym, arith, length, ℕ, refl, rules, subst, ◌+◌, ◌*◌, ◌<◌, ◌^◌}
 use Rattle.bson_tree.specs.Tree.{items_size, tree_size}
 use Rattle.bson_codec.specs.Borrowed.{At}
-use Rattle.bson_splice.specs.Splicing.{HasRoom, document_made, element_made}
+use Rattle.bson_splice.specs.Splicing.{HasRoom, document_made, element_made, elements_made}
 use Rattle.bson_splice.proofs.Documents.{room_document, room_keep, room_put, room_name, room_open, keeps, takes}
 use Rattle.bson_splice.proofs.Documents.{ends_at, document_splices}
 use Rattle.bson_splice.proofs.Fitting.{blanks, blanks_fit}
-use Rattle.bson_splice.proofs.Going.{starts, goes_on, halts, room_next}
+use Rattle.bson_splice.proofs.Elements.{takes_none, takes_some}
+use Rattle.bson_splice.proofs.Going.{starts, ends, goes_on, halts, passes, room_left, room_next}
 use Rattle.bson_splice.proofs.splicing.+splice.Goals as goal
 
 pub splice_document-overflow_add-at : goal.splice_document-overflow_add-at
@@ -99,7 +100,7 @@ splice_item-returns-in-Ok-clause-spliced g t c =
 
 pub splice_items-loop-item-init : goal.splice_items-loop-item-init
 splice_items-loop-item-init g t c =
-    let here = c.into_iter-item-iterator.ensures.into_iter_gives ∙ c.items-item-items.ensures.elements in
+    let here = c.items-items.ensures.elements in
     let ss = g.P.Putter.spans c.args.putter.now in
     record {
       size = omega (arith, ap (λ (a : At). items_size a.tree) here);
@@ -107,42 +108,87 @@ splice_items-loop-item-init g t c =
       ready = c.requires.ready;
       inside = omega (arith, c.requires.room (blanks ss) (blanks_fit ss));
       going = starts g.P.Putter.puts g.P.Putter.spans c.args.document.now c.args.putter.now c.args.out.now c.args.at
-          c.into_iter-item-iterator.result here;
+          c.items-items.result here;
+    }
+
+pub splice_items-put_before-here-requires : goal.splice_items-put_before-here-requires
+splice_items-put_before-here-requires g t c =
+    let inv = c.loop-item.invariant in
+    let ss = g.P.Putter.spans c.args.putter.now in
+    let fits = room_left g.P.Putter.puts g.P.Putter.spans c.args.document.now c.args.putter.now c.args.out.now c.args.at
+    c.loop-item.items c.loop-item.putter c.loop-item.out c.loop-item.end (length c.args.out.now)
+    (omega (arith, c.requires.room (blanks ss) (blanks_fit ss))) inv.inside inv.going c.requires.room in
+    record {
+      room = subst (λ (n : ℕ). HasRoom (g.P.Putter.spans c.loop-item.putter)
+          (elements_made c.loop-item.items.start c.loop-item.items.tree) c.loop-item.end n) (sym inv.long) fits;
     }
 
 pub splice_items-splice_item-requires : goal.splice_items-splice_item-requires
 splice_items-splice_item-requires g t c κs within =
     let inv = c.loop-item.invariant in
     let ss = g.P.Putter.spans c.args.putter.now in
-    let taken = c.in-Some.ensures.steps in
+    let before = c.put_before-here.ensures.put in
+    let taken = takes_some before.mid c.put_before-here.result.1 c.put_before-here.new.items c.in-Some.item c.in-Some.is
+    before.taken in
     let falls : 3 * tree_size c.in-Some.item.tree < 3 * items_size c.args.document.now.tree =
-    omega (arith, ap items_size taken.0, inv.size) in
-    let small : length c.loop-item.out < 2 ^ 31 = omega (arith, inv.long, c.requires.small) in
+    omega (arith, ap items_size taken.0, before.fewer, inv.size) in
+    let long = c.put_before-here.ensures.size ∙ inv.long in
+    let small : length c.put_before-here.new.out < 2 ^ 31 = omega (arith, long, c.requires.small) in
     let fits = room_next g.P.Putter.puts g.P.Putter.spans c.args.document.now c.args.putter.now c.args.out.now c.args.at
-    c.loop-item.item-iterator c.next.new.self c.in-Some.item c.loop-item.putter c.loop-item.out c.loop-item.end
-    (length c.args.out.now)
-    (omega (arith, c.requires.room (blanks ss) (blanks_fit ss))) inv.inside taken inv.going c.requires.room in
+    before.mid c.put_before-here.new.items c.in-Some.item c.loop-item.putter c.put_before-here.new.out
+    c.put_before-here.result.0 (length c.args.out.now)
+    (omega (arith, c.requires.room (blanks ss) (blanks_fit ss))) before.within taken
+    (passes g.P.Putter.puts g.P.Putter.spans c.args.document.now c.args.putter.now c.args.out.now c.args.at
+    c.loop-item.items c.put_before-here.result.1 c.put_before-here.new.items c.loop-item.putter c.loop-item.out
+    c.put_before-here.new.out c.loop-item.end c.put_before-here.result.0 inv.going before) c.requires.room in
     let room = subst (λ (n : ℕ). HasRoom (g.P.Putter.spans c.loop-item.putter)
-    (element_made c.in-Some.item) c.loop-item.end n) (sym inv.long) fits in
+    (element_made c.in-Some.item) c.put_before-here.result.0 n) (sym long) fits in
     search (rules, falls, room, small)
 
 pub splice_items-loop-item-preserved : goal.splice_items-loop-item-preserved
 splice_items-loop-item-preserved g t c =
     let inv = c.loop-item.invariant in
-    let taken = c.in-Some.ensures.steps in
+    let before = c.put_before-here.ensures.put in
+    let taken = takes_some before.mid c.put_before-here.result.1 c.put_before-here.new.items c.in-Some.item c.in-Some.is
+    before.taken in
     record {
-      size = omega (arith, ap items_size taken.0, inv.size);
-      long = c.in-Ok.ensures.size ∙ inv.long;
+      size = omega (arith, before.fewer, ap items_size taken.0, inv.size);
+      long = c.in-Ok.ensures.size ∙ c.put_before-here.ensures.size ∙ inv.long;
       ready = c.in-Ok.ensures.ready;
       inside = c.in-Ok.ensures.within;
       going = goes_on g.P.Putter.puts g.P.Putter.spans c.args.document.now c.args.putter.now c.args.out.now c.args.at
-          c.loop-item.item-iterator c.next.new.self c.in-Some.item c.loop-item.putter c.splice_item.new.putter
-          c.loop-item.out c.splice_item.new.out c.loop-item.end c.in-Ok.behind taken inv.going c.in-Ok.ensures.spliced;
+          before.mid c.put_before-here.new.items c.in-Some.item c.loop-item.putter c.splice_item.new.putter
+          c.put_before-here.new.out c.splice_item.new.out c.put_before-here.result.0 c.in-Ok.behind taken
+          (passes g.P.Putter.puts g.P.Putter.spans c.args.document.now c.args.putter.now c.args.out.now c.args.at
+          c.loop-item.items c.put_before-here.result.1 c.put_before-here.new.items c.loop-item.putter c.loop-item.out
+          c.put_before-here.new.out c.loop-item.end c.put_before-here.result.0 inv.going before)
+          c.in-Ok.ensures.spliced;
     }
+
+pub splice_items-loop-item-smaller : goal.splice_items-loop-item-smaller
+splice_items-loop-item-smaller g t c =
+    let before = c.put_before-here.ensures.put in
+    let taken = takes_some before.mid c.put_before-here.result.1 c.put_before-here.new.items c.in-Some.item c.in-Some.is
+    before.taken in
+    omega (arith, before.fewer, ap items_size taken.0)
 
 pub splice_items-returns-in-Err-clause-spliced : goal.splice_items-returns-in-Err-clause-spliced
 splice_items-returns-in-Err-clause-spliced g t c =
+    let before = c.put_before-here.ensures.put in
     halts g.P.Putter.puts g.P.Putter.spans c.args.document.now c.args.putter.now c.args.out.now c.args.at
-    g.P.Putter.stops c.loop-item.item-iterator c.loop-item.putter c.splice_item.new.putter c.loop-item.out
-    c.loop-item.end
-    c.loop-item.invariant.going c.in-Err.ensures.spliced
+    g.P.Putter.stops before.mid c.loop-item.putter c.splice_item.new.putter c.put_before-here.new.out
+    c.put_before-here.result.0
+    (passes g.P.Putter.puts g.P.Putter.spans c.args.document.now c.args.putter.now c.args.out.now c.args.at
+    c.loop-item.items c.put_before-here.result.1 c.put_before-here.new.items c.loop-item.putter c.loop-item.out
+    c.put_before-here.new.out c.loop-item.end c.put_before-here.result.0 c.loop-item.invariant.going before)
+    c.in-Err.ensures.spliced
+
+pub splice_items-returns-in-None-clause-spliced : goal.splice_items-returns-in-None-clause-spliced
+splice_items-returns-in-None-clause-spliced g t c =
+    let before = c.put_before-here.ensures.put in
+    ends g.P.Putter.puts g.P.Putter.spans c.args.document.now c.args.putter.now c.args.out.now c.args.at
+    before.mid c.loop-item.putter c.put_before-here.new.out c.put_before-here.result.0
+    (takes_none before.mid c.put_before-here.result.1 c.put_before-here.new.items c.in-None.is before.taken)
+    (passes g.P.Putter.puts g.P.Putter.spans c.args.document.now c.args.putter.now c.args.out.now c.args.at
+    c.loop-item.items c.put_before-here.result.1 c.put_before-here.new.items c.loop-item.putter c.loop-item.out
+    c.put_before-here.new.out c.loop-item.end c.put_before-here.result.0 c.loop-item.invariant.going before)

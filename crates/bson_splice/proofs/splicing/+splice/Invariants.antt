@@ -14,10 +14,13 @@ decreases-splice_items g l = 3 * items_size l.document.now.tree
 
 abbrev pub invariant-splice_items-loop-item : goal.invariant-splice_items-loop-item
 invariant-splice_items-loop-item g l = record {
-  size : items_size l.item-iterator.tree ≤ items_size l.document.tree;
+  size : items_size l.items.tree ≤ items_size l.document.tree;
   long : length l.out ≡ length l.fn.out;
   ready : g.P.Putter.ready l.putter;
   inside : l.end ≤ length l.out;
-  going : Going g.P.Putter.puts g.P.Putter.spans l.document l.item-iterator l.fn.putter l.putter l.fn.out l.out l.at
+  going : Going g.P.Putter.puts g.P.Putter.spans l.document l.items l.fn.putter l.putter l.fn.out l.out l.at
       l.end;
 }
+
+abbrev pub decreases-splice_items-loop-item : goal.decreases-splice_items-loop-item
+decreases-splice_items-loop-item g l = items_size l.items.tree

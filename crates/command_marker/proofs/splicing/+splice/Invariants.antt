@@ -16,11 +16,14 @@ decreases-put_items l = 3 * items_size l.document.now.tree
 
 abbrev pub invariant-put_items-loop-item : goal.invariant-put_items-loop-item
 invariant-put_items-loop-item l = record {
-  size : items_size l.item-iterator.tree ≤ items_size l.document.tree;
-  made : l.out.items ++ items_bytes (spliced (marked_by l.rows l.command) l.item-iterator.start
-      (drop l.behind l.marks) l.item-iterator.tree)
+  size : items_size l.items.tree ≤ items_size l.document.tree;
+  made : l.out.items ++ items_bytes (spliced (marked_by l.rows l.command) l.items.start
+      (drop l.behind l.marks) l.items.tree)
       ≡ l.fn.out.items ++ items_bytes (spliced (marked_by l.rows l.command) (l.document.start + 4)
       (drop l.next l.marks) l.document.tree);
-  rests : left l.item-iterator.start (drop l.behind l.marks) l.item-iterator.tree
+  rests : left l.items.start (drop l.behind l.marks) l.items.tree
       ≡ left (l.document.start + 4) (drop l.next l.marks) l.document.tree;
 }
+
+abbrev pub decreases-put_items-loop-item : goal.decreases-put_items-loop-item
+decreases-put_items-loop-item l = items_size l.items.tree
