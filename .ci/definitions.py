@@ -167,6 +167,14 @@ class Specs:
             return items_of(*self.items[name])
         return items_of(self.modules[name], behind) if name in self.modules else []
 
+    def narrowed(self, name, fields):
+        """The record of this name with these of its fields alone, each with the English above it."""
+        whole = self.own[name]
+        head, parts = re.match(r"((?:.*\n)*?.* where\n)((?:.*\n)*)", "\n".join([*whole.lines, ""])).groups()
+        parts = re.finditer(r"(?:  --.*\n)*  pub (\S+) : .*\n(?:   .*\n)*", parts)
+        kept = head + "".join(part.group() for part in parts if part.group(1) in fields)
+        return Definition(self, whole.first, kept.splitlines(), "record", {name})
+
     def is_constructor(self, token):
         return any(token in found.constructors if isinstance(found, Definition)
                    else token in CONSTRUCTORS or not token[0].islower() for found in self.find(token))

@@ -14,8 +14,9 @@ use Rattle.fle_outside.specs.Limits.{output_limit}
 use Rattle.fle_stream.specs.Plan.{Plan, Verdict}
 use Rattle.fle_stream.specs.Streams.{Docs, doc, ends}
 use Rattle.fle_runner.specs.Encrypt.{encrypt_verdict}
-use Rattle.fle_runner.specs.Headline.{Setup, accepted_in, accepts, if_accepted, sites_in, verdict_of}
+use Rattle.fle_runner.specs.Headline.{Setup, accepted_in, accepts, sites_in, verdict_of}
 use Rattle.fle_runner.specs.Verdicts.{as_verdict}
+use Rattle.fle_runner.proofs.IfAccepted.{if_accepted}
 
 -- the commands of a stream before the first whose verdict writes no output, and before 2^40 bytes were taken
 unfoldable pub accepted : (Items → Verdict) → ℕ → Docs → List Items
@@ -32,7 +33,7 @@ by_parts None (Some r) over plan c cs = refl
 by_parts None None true plan c cs = refl
 by_parts None None false plan c cs = refl
 
-one : (x : Setup) (c : Items) (cs : List Items)
+pub one : (x : Setup) (c : Items) (cs : List Items)
     → if_accepted (verdict_of x c) c cs ≡ cond (accepts x c) (c ∷ cs) []
 unfolding encrypt_verdict seal_ruling
 one x c cs =

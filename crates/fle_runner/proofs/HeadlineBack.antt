@@ -20,7 +20,8 @@ use Rattle.fle_stream.specs.declared.status.Status.TheVariants as statuses
 use Rattle.fle_engine.specs.Opening.{open_ruling, opened_or}
 use Rattle.fle_runner.specs.Decrypt.{decrypt_verdict}
 use Rattle.fle_runner.specs.Headline.{AreOpenable, AreReadable, AreSealedUnder, OpensAgain, SealsFirst, SealsNext}
-use Rattle.fle_runner.specs.Headline.{Setup, accepted_in, if_accepted, verdict_of}
+use Rattle.fle_runner.specs.Headline.{Setup, accepted_in, verdict_of}
+use Rattle.fle_runner.proofs.IfAccepted.{if_accepted}
 use Rattle.fle_runner.specs.ReadBack.{ComesTo, stream}
 use Rattle.fle_runner.specs.Verdicts.{as_verdict, plain_plan}
 use Rattle.fle_runner.proofs.Accepted.{accepted, accepted_is}

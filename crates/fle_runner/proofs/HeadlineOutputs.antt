@@ -29,8 +29,8 @@ use Rattle.fle_stream.specs.declared.why.Why.{Why}
 use Rattle.fle_stream.specs.declared.why.Why.TheVariants as whys
 use Rattle.fle_runner.specs.Encrypt.{at_front}
 use Rattle.fle_runner.specs.Headline.{AreByUuid, AreSealedUnder, SealsAllOf, SealsFirstOf, SealsNext, Setup}
-use Rattle.fle_runner.specs.Headline.{if_accepted, sites_in, verdict_of}
-use Rattle.fle_runner.specs.HeadlinePairs.{in_time}
+use Rattle.fle_runner.specs.Headline.{sites_in, verdict_of}
+use Rattle.fle_runner.proofs.IfAccepted.{if_accepted, in_time}
 use Rattle.fle_runner.proofs.Headline.{is_accepted, sealed_under}
 
 -- outputs are those of these commands, one by one, each of bytes and from a document or more

@@ -1,10 +1,19 @@
 -- What a run of `encrypt-with` wrote: the sealed form of each accepted command whose reply is right.
-use Rattle.std.proofs.Common.{◌≡◌, ℕ, ◌+◌, ◌^◌, ◌<◌, ◌∙◌, true, false, cond, nat_lt, Option, Some, None, List, []}
-use Rattle.std.proofs.Common.{refl, sym, ap, subst, arith}
+use Rattle.std.proofs.Common.{◌≡◌, ℕ, ◌+◌, ◌^◌, ◌<◌, ◌∙◌, Bool, true, false, cond, nat_lt, Option, Some, None, List, []}
+use Rattle.std.proofs.Common.{◌∷◌, length, refl, sym, ap, subst, arith}
+use Rattle.std.specs.Prelude.{◌&&◌, not, is_none}
+use Rattle.std.proofs.lemmas.Bool.{false≢true}
+use Rattle.std.proofs.lemmas.Bool.Decides.{nat_tests}
 use Rattle.std.specs.List.{All}
+use Rattle.bson_tree.specs.Spelling.{doc_bytes}
 use Rattle.bson_tree.specs.Tree.{Items}
-use Rattle.context_machine.specs.Rings.{Finder}
+use Rattle.context_machine.specs.Rings.{Finder, first_keyless, needs_of}
+use Rattle.doc_rewrite.specs.Sites.{at_front, grown}
+use Rattle.encrypt_schema.specs.Commands.Targets.{rows_of, verdict}
+use Rattle.encrypt_schema.specs.Commands.Visits.{Refusal}
 use Rattle.encrypt_schema.specs.Language.Collection.{Collection}
+use Rattle.fle_engine.specs.Checking.{wrong_to}
+use Rattle.fle_outside.specs.Limits.{output_limit}
 use Rattle.fle_outside.specs.Files.{Files}
 use Rattle.fle_outside.specs.Seen.{EntropySeen, SinkSeen}
 use Rattle.fle_stream.specs.Codes.{status_of}
@@ -23,16 +32,72 @@ use Rattle.fle_stream.specs.declared.why.Finish.TheVariants as finishes
 use Rattle.fle_stream.specs.declared.why.Number.{Number}
 use Rattle.fle_stream.specs.declared.why.Why.{Why}
 use Rattle.fle_stream.proofs.Programs.{did_task}
-use Rattle.fle_runner.specs.EncryptWith.{encrypt_pairing}
+use Rattle.fle_runner.specs.EncryptWith.{encrypt_pairing, refused_as, wrong_as}
 use Rattle.fle_runner.specs.Headline.{AreByUuid, SealsAllOf, SealsFirstOf, Setup}
-use Rattle.fle_runner.specs.Headline.{verdict_of}
+use Rattle.fle_runner.specs.Headline.{sites_in, verdict_of}
 use Rattle.fle_runner.specs.HeadlinePairs.{IsEncryptWith, accepted_pairs, commands_in, pairing_of}
-use Rattle.fle_runner.specs.HeadlinePairs.{unless_stopped}
 use Rattle.fle_runner.specs.Verbs.{task, task_of}
-use Rattle.fle_words.specs.Words.{Form}
+use Rattle.fle_words.specs.Words.{Form, form_of}
+use Rattle.fle_words.proofs.OtherForms.{encrypt_with_form_is}
+use Rattle.fle_runner.proofs.Accepted.{one}
 use Rattle.fle_runner.proofs.HeadlineFiles.{files_lead_to, held_uuids}
 use Rattle.fle_runner.proofs.HeadlineOutputs.{AreOutputs, made_judged, made_within, seals_all_of, seals_first_of}
 use Rattle.fle_runner.proofs.HeadlineReads.{AreRead, pairs_read}
+use Rattle.fle_runner.proofs.IfAccepted.{if_accepted, in_time}
+use Rattle.reply_check.specs.declared.wrong.WrongReply.{WrongReply}
+
+-- ---- pairs that are accepted, by how they are judged
+
+-- these commands, where this document isn't refused, which else ends the run
+abbrev pub unless_stopped : Refused → List Items → List Items
+unless_stopped (Some why) cs = []
+unless_stopped None cs = cs
+
+-- the commands of the pairs before the first one that a run refuses
+unfoldable pub judged_pairs : Pairing → ℕ → Docs → List Items
+judged_pairs w taken (ends rest) = []
+judged_pairs w taken (doc n c (ends rest)) = []
+judged_pairs w taken (doc n c (doc m r docs)) =
+    in_time taken (unless_stopped (w.opens c) (in_time (taken + n) (unless_stopped (w.answers c r)
+    (if_accepted (w.comes c) c (judged_pairs w (taken + (n + m)) docs)))))
+
+-- one pair: whether the command is begun in time, and the reply; what refuses the command, and is wrong with the reply;
+-- whether the command has its keys and isn't too long
+by_pair : (early late : Bool) → (late ≡ true → early ≡ true) → (v : Option Refusal) (w : Option WrongReply)
+    (keyed short : Bool) (c r : Items) (cs : List Items)
+    → cond early (unless_stopped (refused_as c v) (cond late (unless_stopped (wrong_as r w)
+    (cond (is_none v && keyed && short) cs [])) [])) []
+    ≡ cond (late && (is_none v && keyed && short) && is_none w) cs []
+by_pair false true before v w keyed short c r cs = absurd (false≢true (before refl))
+by_pair false false before v w keyed short c r cs = refl
+by_pair true false before (Some q) w keyed short c r cs = refl
+by_pair true false before None w keyed short c r cs = refl
+by_pair true true before (Some q) w keyed short c r cs = refl
+by_pair true true before None (Some q) true true c r cs = refl
+by_pair true true before None (Some q) true false c r cs = refl
+by_pair true true before None (Some q) false short c r cs = refl
+by_pair true true before None None true true c r cs = refl
+by_pair true true before None None true false c r cs = refl
+by_pair true true before None None false short c r cs = refl
+
+-- a reply that is begun in time is behind a command that is
+earlier : (taken n : ℕ) → nat_lt (taken + n) (2 ^ 40) ≡ true → nat_lt taken (2 ^ 40) ≡ true
+earlier taken n late = grind (arith, nat_tests)
+
+-- they are those that are accepted
+pairs_are : (x : Setup) (taken : ℕ) (docs : Docs)
+    → judged_pairs (pairing_of x) taken docs ≡ accepted_pairs x taken docs
+unfolding judged_pairs accepted_pairs encrypt_pairing
+pairs_are x taken (ends rest) = refl
+pairs_are x taken (doc n c (ends rest)) = refl
+pairs_are x taken (doc n c (doc m r docs)) =
+    let rest = accepted_pairs x (taken + (n + m)) docs in
+    ap (λ (cs : List Items). in_time taken (unless_stopped (refused_as c (verdict x.db x.infos 0 c)) (in_time
+    (taken + n) (unless_stopped (wrong_as r (wrong_to x.infos c r)) cs))))
+    (ap (if_accepted (verdict_of x c) c) (pairs_are x (taken + (n + m)) docs) ∙ one x c rest)
+    ∙ by_pair (nat_lt taken (2 ^ 40)) (nat_lt (taken + n) (2 ^ 40)) (earlier taken n) (verdict x.db x.infos 0 c)
+    (wrong_to x.infos c r) (is_none (first_keyless x.keys (needs_of (rows_of x.infos c) (at_front c))))
+    (not (nat_lt output_limit (length (doc_bytes c) + grown (sites_in x c)))) c r (c ∷ rest)
 
 -- ---- the outputs of accepted pairs
 
@@ -62,8 +127,8 @@ module _ (x : Setup) (w : Pairing) (same : (c : Items) → w.comes c ≡ verdict
 
   -- the commands of pairs that are accepted are those of the outputs
   pub pairs_made : (number taken : ℕ) (docs : Docs) → AreRead docs
-      → AreOutputs x (accepted_pairs w taken docs) (paired w number taken docs).outputs
-  unfolding paired answered accepted_pairs
+      → AreOutputs x (judged_pairs w taken docs) (paired w number taken docs).outputs
+  unfolding paired answered judged_pairs
   pairs_made number taken (ends rest) read =
       subst (λ (os : List Output). AreOutputs x [] os) (sym (within_none taken number 0 _ refl)) tt
   pairs_made number taken (doc n c (ends rest)) read =
@@ -84,8 +149,10 @@ comes_same x c = refl
 
 stream_made : (x : Setup) (told : List ℕ) → All (λ b. b < 256) told
     → AreOutputs x (commands_in x told) (outcome_of (pairs (pairing_of x)) told).outputs
-stream_made x told all = pairs_made x (pairing_of x) (comes_same x) 1 0
-    (documents_within document_limit answer_limit told) (pairs_read told all)
+stream_made x told all =
+    let docs = documents_within document_limit answer_limit told in
+    subst (λ (cs : List Items). AreOutputs x cs (outcome_of (pairs (pairing_of x)) told).outputs) (pairs_are x 0 docs)
+    (pairs_made x (pairing_of x) (comes_same x) 1 0 docs (pairs_read told all))
 
 -- what a run wrote whose outputs were all written whole
 pub pairs_sealed : (x : Setup) (told : List ℕ) (entropy entropy_after : EntropySeen) (out out_after : SinkSeen)
@@ -111,7 +178,8 @@ pairs_first x told uuids all is ran =
 pub pairs_task : (now : ℕ) (words : List (List ℕ)) (all : Files) (x : Setup) → IsEncryptWith words all x
     → task now words all ≡ pairs (pairing_of x)
 pairs_task now words all x h =
-    ap (λ (form : Option Form). task_of now form all) h.form
+    ap (λ (form : Option Form). task_of now form all) (ap form_of h.form
+    ∙ encrypt_with_form_is x.db h.keys h.schemas h.master h.database.0 h.database.1 h.others.0 h.others.1 h.others.2)
     ∙ files_lead_to all h.keys h.schemas h.master x
     (λ (ks : Finder) (infos : List Collection). pairs (encrypt_pairing ks infos x.db)) h.files
 

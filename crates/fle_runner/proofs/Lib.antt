@@ -1,3 +1,4 @@
+pub mod IfAccepted
 pub mod Accepted
 pub mod Judgements
 pub mod Engines
@@ -23,3 +24,4 @@ pub mod Unseals
 pub mod Pairings
 pub mod HeadlinePairs
 pub mod RightPairs
+pub mod Promises

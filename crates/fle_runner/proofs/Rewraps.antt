@@ -37,7 +37,8 @@ use Rattle.fle_stream.proofs.Endings.{settled_status, whole_of}
 use Rattle.fle_stream.proofs.Outputs.{did_undrawn, output_of}
 use Rattle.fle_stream.proofs.Programs.{did_task}
 use Rattle.fle_stream.proofs.Turned.{entropy_not_folder, entropy_not_output}
-use Rattle.fle_words.specs.Words.{Form}
+use Rattle.fle_words.specs.Words.{Form, form_of}
+use Rattle.fle_words.proofs.OtherForms.{rewrap_form_is}
 use Rattle.data_key.specs.declared.key_doc.KeyDoc.{KeyDoc}
 use Rattle.key_vault.specs.Loading.{vault}
 use Rattle.local_kms.specs.Master.{master_in}
@@ -131,7 +132,8 @@ rewrap_is now words all x h =
     λ (from : List ℕ). with_master 2 (file_of all h.to) (second from) in
     let keys : List ℕ → List KeyDoc → Task =
     λ (bytes : List ℕ) (keys : List KeyDoc). third x.from x.to (record { bytes = bytes; keys = keys }) in
-    ap (λ (form : Option Form). task_of now form all) h.form
+    ap (λ (form : Option Form). task_of now form all) (ap form_of h.form
+    ∙ rewrap_form_is h.from h.to h.keys h.others.0 h.others.1 h.others.2)
     ∙ leads 1 master_limit all h.from h.from_held.bytes (λ bytes. master_or 1 first (master_in bytes))
     h.from_held.file
     ∙ ap (master_or 1 first) h.from_held.says

@@ -20,7 +20,7 @@ use Rattle.fle_outside.specs.Limits.{output_limit}
 use Rattle.fle_outside.specs.Seen.{Draws, EntropySeen, Gains, SinkSeen}
 use Rattle.fle_outside.specs.Writing.{IsProperPrefix}
 use Rattle.payload6.specs.Needs.{Need}
-use Rattle.fle_stream.specs.Plan.{Verdict, writes, refused, too_long}
+use Rattle.fle_stream.specs.Plan.{Verdict}
 use Rattle.fle_stream.specs.Streams.{Docs, doc, documents, ends}
 use Rattle.fle_stream.specs.declared.status.Status.{Status}
 use Rattle.fle_stream.specs.declared.status.Status.TheVariants as statuses
@@ -50,12 +50,6 @@ AreByUuid keys = (need : Need) (found : Found) → keys need ≡ Ok found → le
 -- a data key that is had for sealing is had by its id for opening
 abbrev pub OpensAgain : Setup → Type 0
 OpensAgain x = HasAll x.opens (found_in x.keys)
-
--- a command that is accepted, before these; one that isn't ends the run
-abbrev pub if_accepted : Verdict → Items → List Items → List Items
-if_accepted (writes plan) c cs = c ∷ cs
-if_accepted (refused reason place) c cs = []
-if_accepted too_long c cs = []
 
 -- the values of a command that its rules protect
 abbrev pub sites_in : Setup → Items → List Site

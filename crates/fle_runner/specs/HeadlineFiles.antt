@@ -45,16 +45,20 @@ pub record HoldSetup (all : Files) (keys schemas master : List ℕ) (x : Setup) 
   pub schemas_file : HoldsBytes all schemas file_limit schemas_bytes
   pub schemas_say : infos_of schemas_bytes ≡ Some x.infos
 
--- the words are `encrypt DB KEYS SCHEMAS MASTER`: DB has 1 to 63 bytes, and the others aren't empty; and the files are
--- there, within their limits, and say this
-pub record IsEncrypt (words : List (List ℕ)) (all : Files) (x : Setup) : Type 0 where
+-- the words are `VERB DB KEYS SCHEMAS MASTER`, of this verb: DB has 1 to 63 bytes, and the others aren't empty; and the
+-- files are there, within their limits, and say this
+pub record AsksSealing (verb : List ℕ) (words : List (List ℕ)) (all : Files) (x : Setup) : Type 0 where
   pub keys : List ℕ
   pub schemas : List ℕ
   pub master : List ℕ
-  pub form : words ≡ codes "encrypt" ∷ x.db ∷ keys ∷ schemas ∷ master ∷ []
+  pub form : words ≡ verb ∷ x.db ∷ keys ∷ schemas ∷ master ∷ []
   pub database : (0 < length x.db) × (length x.db ≤ 63)
   pub others : (0 < length keys) × (0 < length schemas) × (0 < length master)
   pub files : HoldSetup all keys schemas master x
+
+-- the words are `encrypt DB KEYS SCHEMAS MASTER`, and the files say this
+abbrev pub IsEncrypt : List (List ℕ) → Files → Setup → Type 0
+IsEncrypt words all x = AsksSealing (codes "encrypt") words all x
 
 -- the words are `mark DB SCHEMAS`, and the file is there, within its limit, and says this
 pub record IsMark (words : List (List ℕ)) (all : Files) (db : List ℕ) (infos : List Collection) : Type 0 where

@@ -1,5 +1,5 @@
 -- `rewrap OLD NEW KEYS`: what the files of the words hold, and what a run then wrote.
-use Rattle.std.specs.Prelude.{◌≡◌, ℕ, ◌<◌, Some, None, Ok, List, length}
+use Rattle.std.specs.Prelude.{◌≡◌, ℕ, ◌<◌, Some, None, Ok, List, [], ◌∷◌, codes, length}
 use Rattle.std.specs.List.{All}
 use Rattle.fle_files.specs.Limits.{file_limit, master_limit}
 use Rattle.fle_outside.specs.Blocks.{Block}
@@ -10,7 +10,6 @@ use Rattle.fle_runner.specs.declared.rewrap.RewrapFiles.{RewrapFiles}
 use Rattle.fle_stream.specs.Ended.{World}
 use Rattle.fle_stream.specs.declared.status.Status.{Status}
 use Rattle.fle_stream.specs.declared.status.Status.TheVariants as statuses
-use Rattle.fle_words.specs.Words.{form_of, rewrap}
 use Rattle.key_vault.specs.Loading.{vault}
 use Rattle.local_kms.specs.Master.{master_in}
 use Rattle.rewrap_keys.specs.Reloaded.{Reloads}
@@ -22,13 +21,14 @@ pub record HoldsMaster (all : Files) (name master : List ℕ) : Type 0 where
   pub file : HoldsBytes all name master_limit bytes
   pub says : master_in bytes ≡ Ok master
 
--- the words are `rewrap OLD NEW KEYS`, and the files are there, within their limits, and hold two master keys and a
--- vault
+-- the words are `rewrap OLD NEW KEYS`, none of which is empty, and the files are there, within their limits, and hold
+-- two master keys and a vault
 pub record IsRewrap (words : List (List ℕ)) (all : Files) (x : RewrapFiles) : Type 0 where
   pub from : List ℕ
   pub to : List ℕ
   pub keys : List ℕ
-  pub form : form_of words ≡ Some (rewrap from to keys)
+  pub form : words ≡ codes "rewrap" ∷ from ∷ to ∷ keys ∷ []
+  pub others : (0 < length from) × (0 < length to) × (0 < length keys)
   pub from_held : HoldsMaster all from x.from
   pub to_held : HoldsMaster all to x.to
   pub vault_file : HoldsBytes all keys file_limit x.vault.bytes

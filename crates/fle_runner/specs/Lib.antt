@@ -17,3 +17,4 @@ pub mod HeadlineFiles
 pub mod HeadlinePairs
 pub mod HeadlineRewrap
 pub mod TwoStreams
+pub mod Promises

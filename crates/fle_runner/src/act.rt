@@ -1,13 +1,12 @@
 //! What the words ask for, done.
 
-ghost use Rattle.std.specs.Prelude.{◌≡◌, None, map, string_bytes};
-ghost use Rattle.fle_outside.specs.Seen.{AsksOnly};
+ghost use Rattle.std.specs.Prelude.{◌≡◌, map, string_bytes};
+ghost use Rattle.fle_runner.specs.Promises.{DoesAsked};
 ghost use Rattle.fle_runner.specs.Statuses.{EndsByVerb};
-ghost use Rattle.fle_runner.specs.Verbs.{AreShown, files_of, pace_for, task};
-ghost use Rattle.fle_words.specs.Words.{form_of};
-ghost use Rattle.fle_stream.specs.Acted.{Acted, objects};
+ghost use Rattle.fle_stream.specs.Acted.{objects};
 ghost use Rattle.fle_stream.specs.Codes.{status_of};
 ghost use Rattle.fle_stream.specs.Ended.{IsUnread};
+ghost use Rattle.fle_words.specs.Words.{form_of};
 
 use crate::decrypt::decrypt;
 use crate::demo::demo;
@@ -44,18 +43,10 @@ pub fn act<S: Source, F: Folder, O: Sink, N: Entropy, B: Block256>(
     hooks: &B,
 ) -> End
     requires hooks { B.answers hooks.now }
-    ensures run { Acted (AreShown (form_of (map string_bytes request.entry.words.now)))
-        (task request.entry.time (map string_bytes request.entry.words.now)) (pace_for (form_of
-        (map string_bytes request.entry.words.now)))
+    ensures does { DoesAsked request.entry.time (map string_bytes request.entry.words.now)
         (objects (S.seen input.old) (F.seen files.old) (O.seen out.old) (N.seen entropy.old))
         (objects (S.seen input.new) (F.seen files.new) (O.seen out.new) (N.seen entropy.new)) result }
-    ensures unformed { form_of (map string_bytes request.entry.words.now) ≡ None
-        → result.why ≡ Why.Finished Finish.Words }
-    ensures formed { result.why ≡ Why.Finished Finish.Words → form_of
-        (map string_bytes request.entry.words.now) ≡ None }
     ensures unread { result.why ≡ Why.Finished Finish.Words → files.new ≡ files.old }
-    ensures asked { AsksOnly (files_of (form_of (map string_bytes request.entry.words.now)))
-        (F.seen files.old) (F.seen files.new) }
     ensures untouched { IsUnread (status_of result.why)
         → (input.new ≡ input.old) × (out.new ≡ out.old) × (entropy.new ≡ entropy.old) }
     // What each verb may end with, and what it then did with the input, the files and the blocks.

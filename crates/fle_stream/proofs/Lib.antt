@@ -14,3 +14,6 @@ pub mod Acts
 pub mod Paired
 pub mod PairTurns
 pub mod Opens
+pub mod Exits
+pub mod Fronts
+pub mod PairExits

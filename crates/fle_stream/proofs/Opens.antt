@@ -12,9 +12,8 @@ use Rattle.fle_stream.specs.Plan.{Verdict, draws_in, draws_of, size_in, size_of}
 use Rattle.fle_stream.specs.Run.{HandedPast, LastStep, total}
 use Rattle.fle_stream.specs.Streams.{Docs, doc, ends, Rest, first_size, rest_size}
 use Rattle.fle_stream.specs.Task.{two_documents}
-use Rattle.fle_stream.specs.Turn.{TookBehind, TurnTook}
+use Rattle.fle_stream.specs.Turn.{TookBehind}
 use Rattle.fle_stream.specs.declared.pairing.Checked.TheVariants as checks
-use Rattle.fle_stream.specs.declared.turning.Turn.{Turn}
 use Rattle.fle_stream.specs.declared.turning.Turn.TheVariants as turns
 use Rattle.fle_stream.specs.declared.why.Number.{Number}
 use Rattle.fle_stream.specs.declared.why.Bound.TheVariants as bounds
@@ -84,16 +83,16 @@ pub took_first : (number before after : ℕ) → RoseWithin before after (2 ^ 24
     × (after ≤ before + 48000000 * 2)
 took_first number before after took = (omega arith, omega (arith, took.0), omega (arith, took.1))
 
--- behind a first document a turn that ended took at most the second, at which it ended
+-- behind a first document, of whatever size, a turn that ended, for whatever cause, took at most the second, at which
+-- it ended
 pub took_second : (number before after : ℕ) → RoseWithin before after 48000000
-    → (number ≤ number + 1) × (number + 1 ≤ number + 1) × (min before (2 ^ 64 - 1) ≤ after)
-    × (after ≤ before + 48000000)
-took_second number before after took = (omega arith, omega arith, took.0, took.1)
+    → TookBehind two_documents 0 number before after (turns.Ended (number + 1) (whys.Cut cuts.Input))
+took_second number before after took = (omega arith, omega arith, took.0, omega (arith, took.1))
 
 -- or at the first one
 pub took_again : (number before after : ℕ) → RoseWithin before after 48000000
-    → (number ≤ number) × (number ≤ number + 1) × (min before (2 ^ 64 - 1) ≤ after) × (after ≤ before + 48000000)
-took_again number before after took = (omega arith, omega arith, took.0, took.1)
+    → TookBehind two_documents 0 number before after (turns.Ended number (whys.Cut cuts.Memory))
+took_again number before after took = (omega arith, omega arith, took.0, omega (arith, took.1))
 
 pub took_none : (n : ℕ) → RoseWithin n n 48000000
 took_none n = (omega arith, omega arith)

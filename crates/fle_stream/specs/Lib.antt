@@ -12,6 +12,7 @@ pub mod Held
 pub mod Pairs
 pub mod Check
 pub mod Task
+pub mod Turned
 pub mod Files
 pub mod Did
 pub mod Acted

@@ -58,6 +58,13 @@ spans_of (makes plan) told = []
 spans_of (each v) told = first_size (documents told) (length told) ∷ []
 spans_of (pairs w) told = pair_spans (documents_within document_limit answer_limit told) (length told)
 
+-- the most bytes of the second document of a task's input, of the fourth and so on; of the others it is document_limit
+abbrev pub other_limit : Task → ℕ
+other_limit (fails finish) = document_limit
+other_limit (makes plan) = document_limit
+other_limit (each v) = document_limit
+other_limit (pairs w) = answer_limit
+
 -- one document a step
 abbrev pub one_document : Pace
 one_document = record { documents = 1; bytes = document_limit }

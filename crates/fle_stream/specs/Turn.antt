@@ -1,7 +1,6 @@
 -- What one turn of a verb that reads the input does.
-use Rattle.std.specs.Prelude.{◌≡◌, ℕ, ◌+◌, ◌*◌, ◌-◌, ◌^◌, ◌≤◌, min, Option, List}
+use Rattle.std.specs.Prelude.{◌≡◌, ℕ, ◌+◌, ◌*◌, ◌-◌, ◌^◌, ◌<◌, ◌≤◌, min, Option, List, Result, Ok, Err}
 use Rattle.fle_outside.specs.Filling.{RoseBy}
-use Rattle.fle_outside.specs.Limits.{output_limit}
 use Rattle.fle_outside.specs.Seen.{EntropySeen, SinkSeen}
 use Rattle.fle_stream.specs.Outcome.{Course}
 use Rattle.fle_stream.specs.Run.{OneStep, LastStep}
@@ -67,8 +66,17 @@ Progresses pace taken (turns.Wrote n d) =
     (taken + 1 ≤ 2 ^ 40) × (1 ≤ d) × (d ≤ pace.documents) × (5 * d ≤ n) × (n ≤ pace.bytes * d) × (n ≤ 2 ^ 40)
 Progresses pace taken (turns.Ended at why) = Unit {0}
 
--- what the second half of a turn over pairs took, behind a first document of so many bytes and this number
-abbrev pub TookBehind : ℕ → ℕ → ℕ → ℕ → Turn → Type 0
-TookBehind size number before after (turns.Wrote n d) = (size ≤ n) × RoseBy before after (n - size)
-TookBehind size number before after (turns.Ended at why) =
-    (number ≤ at) × (at ≤ number + 1) × (min before (2 ^ 64 - 1) ≤ after) × (after ≤ before + output_limit)
+-- what the rest of a turn took, behind a first document of so many bytes and this number
+abbrev pub TookBehind : Pace → ℕ → ℕ → ℕ → ℕ → Turn → Type 0
+TookBehind pace size number before after (turns.Wrote n d) = (size ≤ n) × RoseBy before after (n - size)
+TookBehind pace size number before after (turns.Ended at why) =
+    (number ≤ at)
+    × (at < number + pace.documents)
+    × (min before (2 ^ 64 - 1) ≤ after)
+    × (after ≤ before + pace.bytes * (pace.documents - 1))
+
+-- what a turn did that wrote an output, from n bytes of the input, which are d documents from this number on; or why it
+-- wrote none
+abbrev pub turn_by : ℕ → ℕ → ℕ → Result (Unit {0}) Why → Turn
+turn_by number n d (Ok done) = turns.Wrote n d
+turn_by number n d (Err why) = turns.Ended number why

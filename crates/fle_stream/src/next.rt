@@ -4,9 +4,10 @@ ghost use Rattle.std.specs.Prelude.{true, ◌≡◌, ◌+◌, ◌-◌, ◌^◌, 
 ghost use Rattle.std.specs.Int.{from_le_bytes, w32};
 ghost use Rattle.fle_outside.specs.Counts.{Rose};
 ghost use Rattle.fle_outside.specs.Filling.{FillTakes, FillWithin, RoseBy, RoseWithin};
-ghost use Rattle.fle_stream.specs.Next.{NextIs, NextSound, NextTook};
+ghost use Rattle.fle_stream.specs.Next.{NextIs, NextSound, NextTook, StopsBy};
 ghost use Rattle.fle_stream.specs.Streams.{faulty, short as short_of};
 
+use crate::why::{Bound, Cut, Finish, Why};
 use bson_codec::{BsonFault, BsonKind, stated_length};
 use fle_outside::{Fill, Source, fill_piece};
 use std::alloc::Global;
@@ -18,14 +19,9 @@ pub enum Next {
     Framed(Vec<u8>),
     /// Nothing is left.
     Nothing,
-    /// The stated length is above the limit.
-    Over,
-    /// The bytes that are left end too soon, or state a length that is too small; this is their first fault.
-    Faulty(BsonFault),
-    /// The source failed.
-    Failed,
-    /// There was no memory.
-    Memory,
+    /// Why a run ends there: the stated length is above the limit; the bytes that are left end too soon, or state a
+    /// length that is too small, which is their first fault; the source failed; or there was no memory.
+    Stops(Why),
 }
 
 /// Reads the bytes of the next document of a stream, of at most `limit` bytes, and no byte behind it. What they spell
@@ -38,18 +34,18 @@ pub fn next_document<S: Source>(alloc: Global, source: &mut S, limit: u32) -> Ne
     ensures sound { NextSound limit result }
     ensures took { NextTook limit 0 (S.seen source.old).taken (S.seen source.new).taken result }
     ensures later { (S.seen source.old).faults ≤ (S.seen source.new).faults }
-    ensures cause { result ≡ Next.Failed → Rose (S.seen source.old).faults (S.seen source.new).faults }
+    ensures cause { StopsBy Cut.Input result → Rose (S.seen source.old).faults (S.seen source.new).faults }
     ensures sure { (S.seen source.old).assured ≡ true
-        → (result ≡ Next.Failed → ⊥) × ((S.seen source.new).assured ≡ true) }
+        → (StopsBy Cut.Input result → ⊥) × ((S.seen source.new).assured ≡ true) }
 {
     let mut head = [0u8; 4];
     match fill_piece(source, &mut head) {
-        Fill::Failed => Next::Failed,
+        Fill::Failed => Next::Stops(Why::Cut(Cut::Input)),
         Fill::Ended(0) => Next::Nothing,
-        Fill::Ended(n) => Next::Faulty(short(n)),
+        Fill::Ended(n) => Next::Stops(Why::Finished(Finish::Malformed(short(n)))),
         Fill::Whole => match stated_length(head) {
-            Err(fault) => Next::Faulty(fault),
-            Ok(size) if limit < size => Next::Over,
+            Err(fault) => Next::Stops(Why::Finished(Finish::Malformed(fault))),
+            Ok(size) if limit < size => Next::Stops(Why::Finished(Finish::Limit(Bound::Document))),
             Ok(size) => next_body(alloc, source, &head, size as usize, limit),
         },
     }
@@ -67,15 +63,15 @@ fn next_body<S: Source>(alloc: Global, source: &mut S, head: &[u8], size: usize,
     ensures sound { NextSound limit result }
     ensures took { NextTook limit 4 (S.seen source.old).taken (S.seen source.new).taken result }
     ensures later { (S.seen source.old).faults ≤ (S.seen source.new).faults }
-    ensures cause { result ≡ Next.Failed → Rose (S.seen source.old).faults (S.seen source.new).faults }
+    ensures cause { StopsBy Cut.Input result → Rose (S.seen source.old).faults (S.seen source.new).faults }
     ensures sure { (S.seen source.old).assured ≡ true
-        → (result ≡ Next.Failed → ⊥) × ((S.seen source.new).assured ≡ true) }
+        → (StopsBy Cut.Input result → ⊥) × ((S.seen source.new).assured ≡ true) }
 {
     match vec![in alloc; 0u8; size] {
-        Err(_) => Next::Memory,
+        Err(_) => Next::Stops(Why::Cut(Cut::Memory)),
         Ok(mut bytes) => match fill_document(source, head, &mut bytes) {
-            Fill::Failed => Next::Failed,
-            Fill::Ended(n) => Next::Faulty(short(n)),
+            Fill::Failed => Next::Stops(Why::Cut(Cut::Input)),
+            Fill::Ended(n) => Next::Stops(Why::Finished(Finish::Malformed(short(n)))),
             Fill::Whole => Next::Framed(bytes),
         },
     }

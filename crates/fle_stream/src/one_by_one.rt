@@ -1,26 +1,17 @@
 //! Verbs that read the documents of the input one by one, and write an output of each.
 
-ghost use Rattle.std.specs.Prelude.{◌≡◌, ◌^◌, ◌≤◌, List, ℕ, [], ◌∷◌, Some, length};
+ghost use Rattle.std.specs.Prelude.{◌≡◌, ◌^◌, ◌≤◌, length};
 ghost use Rattle.bson_tree.specs.Spelling.{doc_bytes};
 ghost use Rattle.bson_tree.specs.Tree.{Items};
-ghost use Rattle.fle_outside.specs.Counts.{Rose};
-ghost use Rattle.fle_stream.specs.Plan.{Verdict, DrawsNone, draws_of, size_of};
+ghost use Rattle.fle_stream.specs.Plan.{Verdict, DrawsNone};
 ghost use Rattle.fle_stream.specs.Task.{each};
-ghost use Rattle.fle_stream.specs.Turn.{EndsBy, EndsOfStream, Progresses, TurnOf, TurnTook};
 ghost use Rattle.fle_stream.specs.Write.{WriteIs};
 
-use crate::next::{Next, next_document};
-use crate::turning::{Turn, Verb};
-use crate::why::{Bound, Cut, Finish, Why};
-use bson_codec::{RawDoc, check_bson};
+use crate::turning::{First, Turn, Verb, turn_of};
+use crate::why::Why;
+use bson_codec::RawDoc;
 use fle_outside::{Entropy, Sink, Source};
 use std::alloc::Global;
-
-/// A document is begun only where fewer bytes than this were taken before: 2^40.
-const STREAM_LIMIT: u64 = 1_099_511_627_776;
-
-/// The largest document of the input, in bytes.
-const DOCUMENT_LIMIT: u32 = 16_777_216;
 
 /// What writes the output of each document, or says why the run ends there.
 pub trait DocumentWriter {
@@ -61,57 +52,17 @@ impl<W: DocumentWriter> Verb for OneByOne<W> {
 
     ghost quiet = { λ s. DrawsNone (W.verdict s.writer) };
 
-    fn turn<S: Source, O: Sink, N: Entropy>(
+    fn go_on<S: Source, O: Sink, N: Entropy>(
         &mut self,
         alloc: Global,
-        number: u64,
-        taken: u64,
-        input: &mut S,
+        first: &First<'_>,
+        _input: &mut S,
         out: &mut O,
         entropy: &mut N,
     ) -> Turn {
-        if STREAM_LIMIT <= taken {
-            return Turn::Ended {
-                number,
-                why: Why::Finished(Finish::Limit(Bound::Stream)),
-            };
-        }
-        match next_document(alloc, input, DOCUMENT_LIMIT) {
-            Next::Framed(bytes) => match check_bson(&bytes) {
-                Ok(document) => {
-                    match self.writer.write_document(alloc, &document, out, entropy) {
-                        Ok(()) => Turn::Wrote {
-                            bytes: bytes.len(),
-                            documents: 1,
-                        },
-                        Err(why) => Turn::Ended { number, why },
-                    }
-                }
-                Err(fault) => Turn::Ended {
-                    number,
-                    why: Why::Finished(Finish::Malformed(fault)),
-                },
-            },
-            Next::Nothing => Turn::Ended {
-                number,
-                why: Why::Finished(Finish::Done),
-            },
-            Next::Over => Turn::Ended {
-                number,
-                why: Why::Finished(Finish::Limit(Bound::Document)),
-            },
-            Next::Faulty(fault) => Turn::Ended {
-                number,
-                why: Why::Finished(Finish::Malformed(fault)),
-            },
-            Next::Failed => Turn::Ended {
-                number,
-                why: Why::Cut(Cut::Input),
-            },
-            Next::Memory => Turn::Ended {
-                number,
-                why: Why::Cut(Cut::Memory),
-            },
-        }
+        let wrote = self
+            .writer
+            .write_document(alloc, &first.document, out, entropy);
+        turn_of(wrote, first.number, first.size, 1)
     }
 }

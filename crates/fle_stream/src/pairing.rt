@@ -1,30 +1,23 @@
 //! Verbs that judge the documents of the input pair by pair: a document, and the one behind it, which answers it.
 
-ghost use Rattle.std.specs.Prelude.{true, ◌≡◌, ◌<◌, ◌≤◌, ◌^◌, List, ℕ, None, Some, length, drop};
+ghost use Rattle.std.specs.Prelude.{◌≡◌, ◌<◌, ◌≤◌, ◌^◌, None, length};
 ghost use Rattle.bson_tree.specs.Spelling.{doc_bytes};
-ghost use Rattle.fle_outside.specs.Counts.{Rose};
 ghost use Rattle.fle_stream.specs.Check.{CheckIs};
 ghost use Rattle.fle_stream.specs.Judge.{JudgeIs};
-ghost use Rattle.fle_stream.specs.Pairs.{Pairing, answer_limit};
-ghost use Rattle.fle_stream.specs.Plan.{DrawsNone, draws_of, size_of};
-ghost use Rattle.fle_stream.specs.Streams.{doc, document_limit, documents_within};
-ghost use Rattle.fle_stream.specs.Task.{course_of, pairs, spans_of, two_documents};
-ghost use Rattle.fle_stream.specs.Turn.{EndsBy, EndsOfStream, Progresses, TookBehind, TurnOf, TurnTook};
+ghost use Rattle.fle_stream.specs.Pairs.{Pairing};
+ghost use Rattle.fle_stream.specs.Plan.{DrawsNone};
+ghost use Rattle.fle_stream.specs.Task.{pairs, two_documents};
+ghost use Rattle.fle_stream.specs.Turn.{EndsBy, EndsOfStream, Progresses, TookBehind};
+ghost use Rattle.fle_stream.specs.Turned.{HasRead, TurnDid, devices};
 
 use crate::judging::{Judged, write_judged};
 use crate::next::{Next, next_document};
-use crate::turning::{Turn, Verb};
+use crate::turning::{First, STREAM_LIMIT, Turn, Verb, ended, refused, turn_of};
 use crate::why::{Bound, Cut, Finish, Number, Why};
 use bson_codec::{RawDoc, check_bson};
 use bson_tree::Place;
 use fle_outside::{Entropy, Sink, Source};
 use std::alloc::Global;
-
-/// A document is begun only where fewer bytes than this were taken before: 2^40.
-const STREAM_LIMIT: u64 = 1_099_511_627_776;
-
-/// The largest first document of a pair, in bytes.
-const DOCUMENT_LIMIT: u32 = 16_777_216;
 
 /// The largest second document of a pair, in bytes.
 const ANSWER_LIMIT: u32 = 48_000_000;
@@ -84,19 +77,6 @@ pub struct PairJudging<J> {
     pub judge: J,
 }
 
-/// A first document that isn't refused by itself.
-#[derive(Drop)]
-struct Opened<'a> {
-    /// The document.
-    document: RawDoc<'a>,
-    /// Its bytes.
-    size: usize,
-    /// Its number in the input.
-    number: u64,
-    /// The bytes of the input that were taken before it.
-    taken: u64,
-}
-
 impl<J: PairJudge> Verb for PairJudging<J> {
     ghost task = { λ s. pairs (J.pairing s.judge) };
 
@@ -104,68 +84,18 @@ impl<J: PairJudge> Verb for PairJudging<J> {
 
     ghost quiet = { λ s. DrawsNone (J.pairing s.judge).comes };
 
-    fn turn<S: Source, O: Sink, N: Entropy>(
+    fn go_on<S: Source, O: Sink, N: Entropy>(
         &mut self,
         alloc: Global,
-        number: u64,
-        taken: u64,
+        first: &First<'_>,
         input: &mut S,
         out: &mut O,
         entropy: &mut N,
     ) -> Turn {
-        if STREAM_LIMIT <= taken {
-            return Turn::Ended {
-                number,
-                why: Why::Finished(Finish::Limit(Bound::Stream)),
-            };
-        }
-        match next_document(alloc, input, DOCUMENT_LIMIT) {
-            Next::Framed(bytes) => match check_bson(&bytes) {
-                Ok(document) => match self.judge.open(alloc, &document) {
-                    Checked::Passes => {
-                        let size = bytes.len();
-                        let opened = Opened {
-                            document,
-                            size,
-                            number,
-                            taken,
-                        };
-                        judge_pair(alloc, &mut self.judge, &opened, input, out, entropy)
-                    }
-                    Checked::Refused(reason, place) => Turn::Ended {
-                        number,
-                        why: Why::Finished(Finish::Refused(reason, place)),
-                    },
-                    Checked::Memory => Turn::Ended {
-                        number,
-                        why: Why::Cut(Cut::Memory),
-                    },
-                },
-                Err(fault) => Turn::Ended {
-                    number,
-                    why: Why::Finished(Finish::Malformed(fault)),
-                },
-            },
-            Next::Nothing => Turn::Ended {
-                number,
-                why: Why::Finished(Finish::Done),
-            },
-            Next::Over => Turn::Ended {
-                number,
-                why: Why::Finished(Finish::Limit(Bound::Document)),
-            },
-            Next::Faulty(fault) => Turn::Ended {
-                number,
-                why: Why::Finished(Finish::Malformed(fault)),
-            },
-            Next::Failed => Turn::Ended {
-                number,
-                why: Why::Cut(Cut::Input),
-            },
-            Next::Memory => Turn::Ended {
-                number,
-                why: Why::Cut(Cut::Memory),
-            },
+        match self.judge.open(alloc, &first.document) {
+            Checked::Passes => judge_pair(alloc, &mut self.judge, first, input, out, entropy),
+            Checked::Refused(reason, place) => refused(first.number, reason, place),
+            Checked::Memory => ended(first.number, Why::Cut(Cut::Memory)),
         }
     }
 }
@@ -175,113 +105,55 @@ impl<J: PairJudge> Verb for PairJudging<J> {
 fn judge_pair<J: PairJudge, S: Source, O: Sink, N: Entropy>(
     alloc: Global,
     judge: &mut J,
-    opened: &Opened<'_>,
+    first: &First<'_>,
     input: &mut S,
     out: &mut O,
     entropy: &mut N,
 ) -> Turn
-    requires short { length (doc_bytes opened.now.document.tree) ≤ 2 ^ 24 }
-    requires whole { opened.now.document.start ≡ 0 }
     requires ready { J.ready judge.old }
-    requires begun { opened.now.taken < 2 ^ 40 }
-    requires least { 5 ≤ opened.now.size }
-    requires most { opened.now.size ≤ 2 ^ 24 }
-    requires small { opened.now.number < 2 ^ 41 }
-    requires opened { (J.pairing judge.old).opens opened.now.document.tree ≡ None }
+    requires short { length (doc_bytes first.now.document.tree) ≤ 2 ^ 24 }
+    requires whole { first.now.document.start ≡ 0 }
+    requires begun { first.now.taken < 2 ^ 40 }
+    requires least { 5 ≤ first.now.size }
+    requires most { first.now.size ≤ 2 ^ 24 }
+    requires small { first.now.number < 2 ^ 41 }
+    requires opened { (J.pairing judge.old).opens first.now.document.tree ≡ None }
     ensures ready { J.ready judge.new }
     ensures same { J.pairing judge.new ≡ J.pairing judge.old }
-    ensures progress { Progresses two_documents opened.now.taken result }
+    ensures progress { Progresses two_documents first.now.taken result }
     ensures kind { EndsOfStream result }
-    ensures turn { (told : List ℕ) → (S.seen input.old).told ≡ Some (drop opened.now.size told)
-        → documents_within document_limit answer_limit told
-        ≡ doc opened.now.size opened.now.document.tree
-        (documents_within answer_limit document_limit (drop opened.now.size told))
-        → TurnOf (course_of (pairs (J.pairing judge.old))) (spans_of (pairs (J.pairing judge.old)))
-        opened.now.number opened.now.taken told (S.seen input.new).told (N.seen entropy.old) (N.seen entropy.new)
-        (O.seen out.old) (O.seen out.new) result }
-    ensures took { TookBehind opened.now.size opened.now.number (S.seen input.old).taken (S.seen input.new).taken
-        result }
-    ensures in_later { (S.seen input.old).faults ≤ (S.seen input.new).faults }
-    ensures in_cause { EndsBy Cut.Input result → Rose (S.seen input.old).faults (S.seen input.new).faults }
-    ensures in_sure { (S.seen input.old).assured ≡ true
-        → (EndsBy Cut.Input result → ⊥) × ((S.seen input.new).assured ≡ true) }
-    ensures out_later { (O.seen out.old).faults ≤ (O.seen out.new).faults }
-    ensures out_cause { EndsBy Cut.Output result → Rose (O.seen out.old).faults (O.seen out.new).faults }
-    ensures out_sure { (told : List ℕ) → (S.seen input.old).told ≡ Some (drop opened.now.size told)
-        → documents_within document_limit answer_limit told
-        ≡ doc opened.now.size opened.now.document.tree
-        (documents_within answer_limit document_limit (drop opened.now.size told))
-        → size_of (course_of (pairs (J.pairing judge.old)) opened.now.number opened.now.taken told).outputs
-        ≤ (O.seen out.old).assured → EndsBy Cut.Output result → ⊥ }
-    ensures entropy_later { (N.seen entropy.old).faults ≤ (N.seen entropy.new).faults }
-    ensures entropy_cause { EndsBy Cut.Entropy result
-        → Rose (N.seen entropy.old).faults (N.seen entropy.new).faults }
-    ensures entropy_sure { (told : List ℕ) → (S.seen input.old).told ≡ Some (drop opened.now.size told)
-        → documents_within document_limit answer_limit told
-        ≡ doc opened.now.size opened.now.document.tree
-        (documents_within answer_limit document_limit (drop opened.now.size told))
-        → draws_of (course_of (pairs (J.pairing judge.old)) opened.now.number opened.now.taken told).outputs
-        ≤ (N.seen entropy.old).assured → EndsBy Cut.Entropy result → ⊥ }
+    ensures took { TookBehind two_documents first.now.size first.now.number (S.seen input.old).taken
+        (S.seen input.new).taken result }
+    ensures did { TurnDid (pairs (J.pairing judge.old)) first.now.number first.now.taken
+        (HasRead (pairs (J.pairing judge.old)) first.now.size first.now.document.tree (S.seen input.old))
+        (devices (S.seen input.old) (O.seen out.old) (N.seen entropy.old))
+        (devices (S.seen input.new) (O.seen out.new) (N.seen entropy.new)) result }
     ensures undrawn { DrawsNone (J.pairing judge.old).comes
         → (EndsBy Cut.Entropy result → ⊥) × DrawsNone (J.pairing judge.new).comes }
 {
-    let number = opened.number;
-    let begun = opened.taken + opened.size as u64;
+    let number = first.number;
+    let begun = first.taken + first.size as u64;
     if STREAM_LIMIT <= begun {
-        return Turn::Ended {
-            number: number + 1,
-            why: Why::Finished(Finish::Limit(Bound::Stream)),
-        };
+        return ended(number + 1, Why::Finished(Finish::Limit(Bound::Stream)));
     }
     match next_document(alloc, input, ANSWER_LIMIT) {
         Next::Framed(bytes) => match check_bson(&bytes) {
-            Ok(answer) => match judge.answer(alloc, &opened.document, &answer) {
+            Ok(answer) => match judge.answer(alloc, &first.document, &answer) {
                 Checked::Passes => {
-                    let judged = judge.judge(alloc, &opened.document, entropy);
-                    match write_judged(judged, out) {
-                        Ok(()) => Turn::Wrote {
-                            bytes: opened.size + bytes.len(),
-                            documents: 2,
-                        },
-                        Err(why) => Turn::Ended { number, why },
-                    }
+                    let judged = judge.judge(alloc, &first.document, entropy);
+                    turn_of(
+                        write_judged(judged, out),
+                        number,
+                        first.size + bytes.len(),
+                        2,
+                    )
                 }
-                Checked::Refused(reason, place) => Turn::Ended {
-                    number: number + 1,
-                    why: Why::Finished(Finish::Refused(reason, place)),
-                },
-                Checked::Memory => Turn::Ended {
-                    number,
-                    why: Why::Cut(Cut::Memory),
-                },
+                Checked::Refused(reason, place) => refused(number + 1, reason, place),
+                Checked::Memory => ended(number, Why::Cut(Cut::Memory)),
             },
-            Err(fault) => Turn::Ended {
-                number: number + 1,
-                why: Why::Finished(Finish::Malformed(fault)),
-            },
+            Err(fault) => ended(number + 1, Why::Finished(Finish::Malformed(fault))),
         },
-        Next::Nothing => {
-            let place = Place::from_vec(Vec::new(alloc));
-            Turn::Ended {
-                number,
-                why: Why::Finished(Finish::Refused(judge.missing(), place)),
-            }
-        }
-        Next::Over => Turn::Ended {
-            number: number + 1,
-            why: Why::Finished(Finish::Limit(Bound::Document)),
-        },
-        Next::Faulty(fault) => Turn::Ended {
-            number: number + 1,
-            why: Why::Finished(Finish::Malformed(fault)),
-        },
-        Next::Failed => Turn::Ended {
-            number: number + 1,
-            why: Why::Cut(Cut::Input),
-        },
-        Next::Memory => Turn::Ended {
-            number,
-            why: Why::Cut(Cut::Memory),
-        },
+        Next::Nothing => refused(number, judge.missing(), Place::from_vec(Vec::new(alloc))),
+        Next::Stops(why) => ended(number + 1, why),
     }
 }

@@ -1,17 +1,26 @@
 //! The loop of every verb that reads the input.
 
-ghost use Rattle.std.specs.Prelude.{true, ◌≡◌, ◌^◌, ◌<◌, ◌≤◌, List, ℕ, Some};
-ghost use Rattle.fle_outside.specs.Counts.{Rose};
+ghost use Rattle.std.specs.Prelude.{true, ◌≡◌, ◌^◌, ◌<◌, ◌≤◌, length};
+ghost use Rattle.bson_tree.specs.Spelling.{doc_bytes};
 ghost use Rattle.fle_outside.specs.Seen.{FolderSeen};
 ghost use Rattle.fle_stream.specs.Acted.{Acted, AreAny, objects};
-ghost use Rattle.fle_stream.specs.Plan.{draws_of, size_of};
-ghost use Rattle.fle_stream.specs.Task.{Task, course_of, pace_of, reads_input, spans_of};
-ghost use Rattle.fle_stream.specs.Turn.{EndsBy, EndsOfStream, IsOfStream, Progresses, TurnOf, TurnTook};
+ghost use Rattle.fle_stream.specs.Task.{Task, pace_of, reads_input};
+ghost use Rattle.fle_stream.specs.Turn.{EndsBy, EndsOfStream, IsOfStream, Progresses, TookBehind, TurnTook, turn_by};
+ghost use Rattle.fle_stream.specs.Turned.{Has, HasRead, TurnDid, devices};
 
 use crate::end::End;
-use crate::why::{Cut, Why};
+use crate::next::{Next, next_document};
+use crate::why::{Bound, Cut, Finish, Number, Why};
+use bson_codec::{RawDoc, check_bson};
+use bson_tree::Place;
 use fle_outside::{Entropy, Sink, Source};
 use std::alloc::Global;
+
+/// A document is begun only where fewer bytes than this were taken before: 2^40.
+pub(crate) const STREAM_LIMIT: u64 = 1_099_511_627_776;
+
+/// The largest first document of a turn, in bytes.
+const DOCUMENT_LIMIT: u32 = 16_777_216;
 
 /// What one turn of a verb did.
 #[derive(Drop)]
@@ -32,6 +41,44 @@ pub enum Turn {
     },
 }
 
+/// A turn that ended the run at the document of this number.
+pub(crate) fn ended(number: u64, why: Why) -> Turn
+    ensures by { result ≡ Turn.Ended number why }
+{
+    Turn::Ended { number, why }
+}
+
+/// A turn that ended the run since the document of this number is refused, for a reason, at a place.
+pub(crate) fn refused(number: u64, reason: Number, place: Place) -> Turn
+    ensures by { result ≡ Turn.Ended number (Why.Finished (Finish.Refused reason place)) }
+{
+    ended(number, Why::Finished(Finish::Refused(reason, place)))
+}
+
+/// What a turn did that wrote an output of so many bytes of the input and so many documents from this number on, or why
+/// it wrote none.
+pub(crate) fn turn_of(wrote: Result<(), Why>, number: u64, bytes: usize, documents: u64) -> Turn
+    ensures by { result ≡ turn_by number bytes documents wrote }
+{
+    match wrote {
+        Ok(()) => Turn::Wrote { bytes, documents },
+        Err(why) => Turn::Ended { number, why },
+    }
+}
+
+/// The first document of a turn.
+#[derive(Drop)]
+pub struct First<'a> {
+    /// The document.
+    pub document: RawDoc<'a>,
+    /// Its bytes.
+    pub size: usize,
+    /// Its number in the input.
+    pub number: u64,
+    /// The bytes of the input that were taken before it.
+    pub taken: u64,
+}
+
 /// A verb that reads the input, and writes one output a turn.
 pub trait Verb {
     /// What a run comes to, which documents one turn reads, and how many bytes they have at most.
@@ -43,44 +90,80 @@ pub trait Verb {
     /// That no turn draws a block.
     ghost quiet: { Self → Type 0 };
 
-    /// Reads what makes one output, and writes it.
-    fn turn<S: Source, O: Sink, N: Entropy>(
+    /// Goes on with a turn whose first document was read: reads what else it needs, and writes the output.
+    fn go_on<S: Source, O: Sink, N: Entropy>(
         &mut self,
         alloc: Global,
-        number: u64,
-        taken: u64,
+        first: &First<'_>,
         input: &mut S,
         out: &mut O,
         entropy: &mut N,
     ) -> Turn
         requires ready { ready self.old }
-        requires some { 0 < number }
-        requires small { number < 2 ^ 41 }
+        requires short { length (doc_bytes first.now.document.tree) ≤ 2 ^ 24 }
+        requires whole { first.now.document.start ≡ 0 }
+        requires begun { first.now.taken < 2 ^ 40 }
+        requires least { 5 ≤ first.now.size }
+        requires most { first.now.size ≤ 2 ^ 24 }
+        requires small { first.now.number < 2 ^ 41 }
         ensures ready { ready self.new }
         ensures same { task self.new ≡ task self.old }
-        ensures progress { Progresses (pace_of (task self.old)) taken result }
+        ensures progress { Progresses (pace_of (task self.old)) first.now.taken result }
         ensures kind { EndsOfStream result }
-        ensures turn { (told : List ℕ) → (S.seen input.old).told ≡ Some told
-            → TurnOf (course_of (task self.old)) (spans_of (task self.old)) number taken told (S.seen input.new).told
-            (N.seen entropy.old) (N.seen entropy.new) (O.seen out.old) (O.seen out.new) result }
-        ensures took { TurnTook (pace_of (task self.old)) number (S.seen input.old).taken (S.seen input.new).taken
-            result }
-        ensures in_later { (S.seen input.old).faults ≤ (S.seen input.new).faults }
-        ensures in_cause { EndsBy Cut.Input result → Rose (S.seen input.old).faults (S.seen input.new).faults }
-        ensures in_sure { (S.seen input.old).assured ≡ true
-            → (EndsBy Cut.Input result → ⊥) × ((S.seen input.new).assured ≡ true) }
-        ensures out_later { (O.seen out.old).faults ≤ (O.seen out.new).faults }
-        ensures out_cause { EndsBy Cut.Output result → Rose (O.seen out.old).faults (O.seen out.new).faults }
-        ensures out_sure { (told : List ℕ) → (S.seen input.old).told ≡ Some told
-            → size_of (course_of (task self.old) number taken told).outputs ≤ (O.seen out.old).assured
-            → EndsBy Cut.Output result → ⊥ }
-        ensures entropy_later { (N.seen entropy.old).faults ≤ (N.seen entropy.new).faults }
-        ensures entropy_cause { EndsBy Cut.Entropy result
-            → Rose (N.seen entropy.old).faults (N.seen entropy.new).faults }
-        ensures entropy_sure { (told : List ℕ) → (S.seen input.old).told ≡ Some told
-            → draws_of (course_of (task self.old) number taken told).outputs ≤ (N.seen entropy.old).assured
-            → EndsBy Cut.Entropy result → ⊥ }
+        ensures took { TookBehind (pace_of (task self.old)) first.now.size first.now.number (S.seen input.old).taken
+            (S.seen input.new).taken result }
+        ensures did { TurnDid (task self.old) first.now.number first.now.taken
+            (HasRead (task self.old) first.now.size first.now.document.tree (S.seen input.old))
+            (devices (S.seen input.old) (O.seen out.old) (N.seen entropy.old))
+            (devices (S.seen input.new) (O.seen out.new) (N.seen entropy.new)) result }
         ensures undrawn { quiet self.old → (EndsBy Cut.Entropy result → ⊥) × quiet self.new };
+}
+
+/// Takes one turn of a verb: reads its first document, with which the verb goes on.
+fn take_turn<T: Verb, S: Source, O: Sink, N: Entropy>(
+    alloc: Global,
+    verb: &mut T,
+    number: u64,
+    taken: u64,
+    input: &mut S,
+    out: &mut O,
+    entropy: &mut N,
+) -> Turn
+    requires ready { T.ready verb.old }
+    requires reads { reads_input (T.task verb.old) ≡ true }
+    requires some { 0 < number }
+    requires small { number < 2 ^ 41 }
+    ensures ready { T.ready verb.new }
+    ensures same { T.task verb.new ≡ T.task verb.old }
+    ensures progress { Progresses (pace_of (T.task verb.old)) taken result }
+    ensures kind { EndsOfStream result }
+    ensures took { TurnTook (pace_of (T.task verb.old)) number (S.seen input.old).taken (S.seen input.new).taken
+        result }
+    ensures did { TurnDid (T.task verb.old) number taken (Has (S.seen input.old))
+        (devices (S.seen input.old) (O.seen out.old) (N.seen entropy.old))
+        (devices (S.seen input.new) (O.seen out.new) (N.seen entropy.new)) result }
+    ensures undrawn { T.quiet verb.old → (EndsBy Cut.Entropy result → ⊥) × T.quiet verb.new }
+{
+    if STREAM_LIMIT <= taken {
+        return ended(number, Why::Finished(Finish::Limit(Bound::Stream)));
+    }
+    match next_document(alloc, input, DOCUMENT_LIMIT) {
+        Next::Framed(bytes) => match check_bson(&bytes) {
+            Ok(document) => {
+                let size = bytes.len();
+                let first = First {
+                    document,
+                    size,
+                    number,
+                    taken,
+                };
+                verb.go_on(alloc, &first, input, out, entropy)
+            }
+            Err(fault) => ended(number, Why::Finished(Finish::Malformed(fault))),
+        },
+        Next::Nothing => ended(number, Why::Finished(Finish::Done)),
+        Next::Stops(why) => ended(number, why),
+    }
 }
 
 /// Takes turns of a verb until one ends the run.
@@ -104,7 +187,7 @@ pub fn run_turns<T: Verb, S: Source, O: Sink, N: Entropy>(
     let mut taken: u64 = 0;
     let mut number: u64 = 1;
     loop {
-        match verb.turn(alloc, number, taken, input, out, entropy) {
+        match take_turn(alloc, verb, number, taken, input, out, entropy) {
             Turn::Wrote { bytes, documents } => {
                 taken += bytes as u64;
                 number += documents;

@@ -10,10 +10,10 @@ use Rattle.fle_words.specs.Words.{encrypt_words, form_of, is_verb, keygen_words,
 use Rattle.fle_words.specs.Words.{show_words, verb_form}
 
 -- a word that isn't empty
-filled : (n : ℕ) → 0 < n → (n == 0) ≡ false
+pub filled : (n : ℕ) → 0 < n → (n == 0) ≡ false
 filled n some = grind (arith, nat_tests)
 
-some_of : (n : ℕ) → (n == 0) ≡ false → 0 < n
+pub some_of : (n : ℕ) → (n == 0) ≡ false → 0 < n
 some_of n filled = grind (arith, nat_tests)
 
 -- the words of `encrypt` have its form
@@ -31,7 +31,7 @@ pub decrypt_form_is : (vault master : List ℕ) → 0 < length vault → 0 < len
 decrypt_form_is vault master v m = rw (filled (length vault) v) (rw (filled (length master) m) refl)
 
 -- the number of a form's verb; 0 where there is none
-abbrev kind : Option Form → ℕ
+abbrev pub kind : Option Form → ℕ
 kind None = 0
 kind (Some (mark db schemas)) = 1
 kind (Some show) = 2
@@ -44,33 +44,33 @@ kind (Some (demo db n)) = 8
 kind (Some (rewrap from to vault)) = 9
 
 -- there is no form, or one of this number
-abbrev Only : ℕ → Option Form → Type 0
+abbrev pub Only : ℕ → Option Form → Type 0
 Only n form = (kind form ≡ 0) ⊎ (kind form ≡ n)
 
 unless_refused : (n : ℕ) (refused : Bool) (form : Option Form) → Only n form → Only n (cond refused None form)
 unless_refused n true form only = inl refl
 unless_refused n false form only = only
 
-mark_only : (words : List (List ℕ)) → Only 1 (mark_words words)
+pub mark_only : (words : List (List ℕ)) → Only 1 (mark_words words)
 mark_only [] = inl refl
 mark_only (db ∷ []) = inl refl
 mark_only (db ∷ schemas ∷ []) = unless_refused 1 _ (Some (mark db schemas)) (inr refl)
 mark_only (db ∷ schemas ∷ c ∷ words) = inl refl
 
-show_only : (words : List (List ℕ)) → Only 2 (show_words words)
+pub show_only : (words : List (List ℕ)) → Only 2 (show_words words)
 show_only [] = inr refl
 show_only (word ∷ words) = inl refl
 
-keys_only : (words : List (List ℕ)) → Only 3 (keys_words words)
+pub keys_only : (words : List (List ℕ)) → Only 3 (keys_words words)
 keys_only [] = inl refl
 keys_only (vault ∷ []) = unless_refused 3 _ (Some (keys vault)) (inr refl)
 keys_only (vault ∷ b ∷ words) = inl refl
 
-keygen_only : (words : List (List ℕ)) → Only 4 (keygen_words words)
+pub keygen_only : (words : List (List ℕ)) → Only 4 (keygen_words words)
 keygen_only [] = inl refl
 keygen_only (master ∷ names) = unless_refused 4 _ (Some (keygen master names)) (inr refl)
 
-encrypt_only : (words : List (List ℕ)) → Only 5 (encrypt_words words)
+pub encrypt_only : (words : List (List ℕ)) → Only 5 (encrypt_words words)
 encrypt_only [] = inl refl
 encrypt_only (a ∷ []) = inl refl
 encrypt_only (a ∷ b ∷ []) = inl refl
@@ -78,7 +78,7 @@ encrypt_only (a ∷ b ∷ c ∷ []) = inl refl
 encrypt_only (a ∷ b ∷ c ∷ d ∷ []) = unless_refused 5 _ (Some (encrypt a b c d)) (inr refl)
 encrypt_only (a ∷ b ∷ c ∷ d ∷ e ∷ words) = inl refl
 
-encrypt_with_only : (words : List (List ℕ)) → Only 6 (encrypt_with_words words)
+pub encrypt_with_only : (words : List (List ℕ)) → Only 6 (encrypt_with_words words)
 encrypt_with_only [] = inl refl
 encrypt_with_only (a ∷ []) = inl refl
 encrypt_with_only (a ∷ b ∷ []) = inl refl
@@ -86,7 +86,7 @@ encrypt_with_only (a ∷ b ∷ c ∷ []) = inl refl
 encrypt_with_only (a ∷ b ∷ c ∷ d ∷ []) = unless_refused 6 _ (Some (encrypt_with a b c d)) (inr refl)
 encrypt_with_only (a ∷ b ∷ c ∷ d ∷ e ∷ words) = inl refl
 
-decrypt_only : (words : List (List ℕ)) → Only 7 (decrypt_words words)
+pub decrypt_only : (words : List (List ℕ)) → Only 7 (decrypt_words words)
 decrypt_only [] = inl refl
 decrypt_only (a ∷ []) = inl refl
 decrypt_only (a ∷ b ∷ []) = unless_refused 7 _ (Some (decrypt a b)) (inr refl)
@@ -96,13 +96,13 @@ counted_only : (db : List ℕ) (n : Option ℕ) → Only 8 (counted_form db n)
 counted_only db None = inl refl
 counted_only db (Some n) = inr refl
 
-demo_only : (words : List (List ℕ)) → Only 8 (demo_words words)
+pub demo_only : (words : List (List ℕ)) → Only 8 (demo_words words)
 demo_only [] = inl refl
 demo_only (a ∷ []) = inl refl
 demo_only (a ∷ b ∷ []) = unless_refused 8 _ (counted_form a (count_in b)) (counted_only a (count_in b))
 demo_only (a ∷ b ∷ c ∷ words) = inl refl
 
-rewrap_only : (words : List (List ℕ)) → Only 9 (rewrap_words words)
+pub rewrap_only : (words : List (List ℕ)) → Only 9 (rewrap_words words)
 rewrap_only [] = inl refl
 rewrap_only (a ∷ []) = inl refl
 rewrap_only (a ∷ b ∷ []) = inl refl
@@ -110,44 +110,49 @@ rewrap_only (a ∷ b ∷ c ∷ []) = unless_refused 9 _ (Some (rewrap a b c)) (i
 rewrap_only (a ∷ b ∷ c ∷ d ∷ words) = inl refl
 
 -- a verb whose forms have another number isn't the one
-abbrev Differs : ℕ → Form → Type 0
+abbrev pub Differs : ℕ → Form → Type 0
 Differs n form = (0 ≡ kind (Some form) → ⊥) × (n ≡ kind (Some form) → ⊥)
 
 not_this : (n : ℕ) (own : Option Form) (form : Form) → Only n own → Differs n form → own ≡ Some form → ⊥
 not_this n own form (inl none) differs is = differs.0 (sym none ∙ ap kind is)
 not_this n own form (inr this) differs is = differs.1 (sym this ∙ ap kind is)
 
-passed : (n : ℕ) (this : Bool) (own others : Option Form) (form : Form) → Only n own → Differs n form
+pub passed : (n : ℕ) (this : Bool) (own others : Option Form) (form : Form) → Only n own → Differs n form
     → cond this own others ≡ Some form → others ≡ Some form
 passed n true own others form only differs is = absurd (not_this n own form only differs is)
 passed n false own others form only differs is = is
 
 -- the verb is this one, or one behind it
-taken : (this : Bool) (own others : Option Form) (form : Form) → cond this own others ≡ Some form
+pub taken : (this : Bool) (own others : Option Form) (form : Form) → cond this own others ≡ Some form
     → ((this ≡ true) × (own ≡ Some form)) ⊎ (others ≡ Some form)
 taken true own others form is = inl (refl, is)
 taken false own others form is = inr is
 
-none_of : (a b : Bool) → (a || b) ≡ false → (a ≡ false) × (b ≡ false)
+pub none_of : (a b : Bool) → (a || b) ≡ false → (a ≡ false) × (b ≡ false)
 none_of false b is = (refl, is)
 none_of true b is = absurd cc
 
-accepted : (refused : Bool) (own form : Form) → cond refused None (Some own) ≡ Some form
+pub accepted : (refused : Bool) (own form : Form) → cond refused None (Some own) ≡ Some form
     → (refused ≡ false) × (Some own ≡ Some form)
 accepted true own form is = absurd cc
 accepted false own form is = (refl, is)
 
 -- the words of a form behind its verb
-abbrev words_of : Option Form → List (List ℕ)
+abbrev pub words_of : Option Form → List (List ℕ)
 words_of (Some (encrypt db vault schemas master)) = db ∷ vault ∷ schemas ∷ master ∷ []
+words_of (Some (encrypt_with db vault schemas master)) = db ∷ vault ∷ schemas ∷ master ∷ []
 words_of (Some (decrypt vault master)) = vault ∷ master ∷ []
+words_of (Some (rewrap from to vault)) = from ∷ to ∷ vault ∷ []
 words_of _ = []
 
 -- what is asked of them
-abbrev Fits : Option Form → Type 0
+abbrev pub Fits : Option Form → Type 0
 Fits (Some (encrypt db vault schemas master)) =
     (0 < length db) × (length db ≤ 63) × (0 < length vault) × (0 < length schemas) × (0 < length master)
+Fits (Some (encrypt_with db vault schemas master)) =
+    (0 < length db) × (length db ≤ 63) × (0 < length vault) × (0 < length schemas) × (0 < length master)
 Fits (Some (decrypt vault master)) = (0 < length vault) × (0 < length master)
+Fits (Some (rewrap from to vault)) = (0 < length from) × (0 < length to) × (0 < length vault)
 Fits _ = Unit {0}
 
 fit_encrypt : (words : List (List ℕ)) (form : Form) → encrypt_words words ≡ Some form
@@ -182,7 +187,7 @@ fit_decrypt (a ∷ b ∷ []) form is =
     (ap words_of made.1, subst Fits made.1 fits)
 fit_decrypt (a ∷ b ∷ c ∷ words) form is = absurd cc
 
-not_none : (form : Form) → None ≡ Some form → ⊥
+pub not_none : (form : Form) → None ≡ Some form → ⊥
 not_none form is = absurd cc
 
 -- the words behind a verb whose form is that of `encrypt`

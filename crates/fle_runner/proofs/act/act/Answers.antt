@@ -7,20 +7,18 @@ use Rattle.fle_stream.specs.declared.why.Finish.TheVariants as finishes
 use Rattle.fle_runner.specs.Keygen.{IsOfKeygen}
 use Rattle.fle_runner.specs.Keys.{IsOfKeys, IsOfText}
 use Rattle.fle_runner.specs.Rewrap.{IsOfRewrap}
-use Rattle.fle_runner.proofs.Asked.{acts_asked, asks_asked, by_decrypt, by_demo, by_encrypt, by_encrypt_with}
+use Rattle.fle_runner.proofs.Asked.{by_decrypt, by_demo, by_encrypt, by_encrypt_with}
 use Rattle.fle_runner.proofs.Asked.{by_keygen, by_keys, by_mark, by_none, by_rewrap, by_show, ends_asked}
-use Rattle.fle_runner.proofs.VerbEnds.{stream_reads, text_reads, unasked}
+use Rattle.fle_runner.proofs.Promises.{does_form, does_none}
+use Rattle.fle_runner.proofs.VerbEnds.{stream_reads, text_reads}
 use Rattle.fle_runner.proofs.act.act.Goals as goal
 
 pub returns-in-Nothing : goal.returns-in-Nothing
 returns-in-Nothing g c =
     let asked = sym c.in-Nothing.ensures.asked in
     rw c.unread.ensures.unread (record {
-      run = acts_asked c.args.request.time asked (acts_fails finishes.Words);
-      unformed = λ _. refl;
-      formed = λ _. asked;
+      does = does_none c.args.request.time asked (acts_fails finishes.Words) refl (asks_none _ refl);
       unread = λ _. refl;
-      asked = asks_asked asked (asks_none _ refl);
       untouched = λ _. (refl, refl, refl);
       verb = ends_asked asked (by_none refl refl);
     })
@@ -30,11 +28,8 @@ returns-in-Mark g c =
     let asked = sym c.in-Mark.ensures.asked in
     let ends = c.mark.ensures in
     record {
-      run = acts_asked c.args.request.time asked (ends.run _);
-      unformed = λ none. absurd (unasked asked none);
-      formed = λ at. absurd (ends.formed at);
+      does = does_form c.args.request.time asked (ends.run _) ends.formed ends.asked;
       unread = λ at. absurd (ends.formed at);
-      asked = asks_asked asked ends.asked;
       untouched = λ none. ((ends.untouched none).0, (ends.untouched none).1, refl);
       verb = ends_asked asked (by_mark _ refl ends.formed ends.undrawn);
     }
@@ -45,11 +40,8 @@ returns-in-Show g c =
     let ends = c.show.ensures in
     let run = ends.run (g.F.Folder.seen c.args.files.now) (g.N.Entropy.seen c.args.entropy.now) in
     record {
-      run = acts_asked c.args.request.time asked run;
-      unformed = λ none. absurd (unasked asked none);
-      formed = λ at. absurd (subst IsOfStream at ends.kind);
+      does = does_form c.args.request.time asked run (λ at. subst IsOfStream at ends.kind) (asks_none _ refl);
       unread = λ at. absurd (subst IsOfStream at ends.kind);
-      asked = asks_asked asked (asks_none _ refl);
       untouched = λ none. absurd (stream_reads _ ends.kind none);
       verb = ends_asked asked (by_show _ refl refl ends.kind ends.undrawn run.in_cause);
     }
@@ -60,11 +52,8 @@ returns-in-Keys g c =
     let ends = c.keys.ensures in
     let run = ends.run (g.S.Source.seen c.args.input.now) (g.N.Entropy.seen c.args.entropy.now) in
     record {
-      run = acts_asked c.args.request.time asked run;
-      unformed = λ none. absurd (unasked asked none);
-      formed = λ at. absurd (subst IsOfKeys at ends.kind);
+      does = does_form c.args.request.time asked run (λ at. subst IsOfKeys at ends.kind) ends.asked;
       unread = λ at. absurd (subst IsOfKeys at ends.kind);
-      asked = asks_asked asked ends.asked;
       untouched = λ none. (refl, ends.untouched none, refl);
       verb = ends_asked asked (by_keys _ refl refl ends.kind run.folder_cause);
     }
@@ -75,11 +64,8 @@ returns-in-Keygen g c =
     let ends = c.keygen.ensures in
     let run = ends.run (g.S.Source.seen c.args.input.now) in
     record {
-      run = acts_asked c.args.request.time asked run;
-      unformed = λ none. absurd (unasked asked none);
-      formed = λ at. absurd (subst IsOfKeygen at ends.kind);
+      does = does_form c.args.request.time asked run (λ at. subst IsOfKeygen at ends.kind) ends.asked;
       unread = λ at. absurd (subst IsOfKeygen at ends.kind);
-      asked = asks_asked asked ends.asked;
       untouched = λ none. (refl, (ends.untouched none).0, (ends.untouched none).1);
       verb = ends_asked asked (by_keygen _ refl ends.kind run.folder_cause ends.eight_assured ends.none_or_eight);
     }
@@ -89,11 +75,8 @@ returns-in-Encrypt g c =
     let asked = sym c.in-Encrypt.ensures.asked in
     let ends = c.encrypt.ensures in
     record {
-      run = acts_asked c.args.request.time asked (ends.run);
-      unformed = λ none. absurd (unasked asked none);
-      formed = λ at. absurd (ends.formed at);
+      does = does_form c.args.request.time asked ends.run ends.formed ends.asked;
       unread = λ at. absurd (ends.formed at);
-      asked = asks_asked asked ends.asked;
       untouched = ends.untouched;
       verb = ends_asked asked (by_encrypt _ ends.formed);
     }
@@ -103,11 +86,8 @@ returns-in-EncryptWith g c =
     let asked = sym c.in-EncryptWith.ensures.asked in
     let ends = c.encrypt_with.ensures in
     record {
-      run = acts_asked c.args.request.time asked (ends.run);
-      unformed = λ none. absurd (unasked asked none);
-      formed = λ at. absurd (ends.formed at);
+      does = does_form c.args.request.time asked ends.run ends.formed ends.asked;
       unread = λ at. absurd (ends.formed at);
-      asked = asks_asked asked ends.asked;
       untouched = ends.untouched;
       verb = ends_asked asked (by_encrypt_with _ ends.formed);
     }
@@ -117,11 +97,8 @@ returns-in-Decrypt g c =
     let asked = sym c.in-Decrypt.ensures.asked in
     let ends = c.decrypt.ensures in
     record {
-      run = acts_asked c.args.request.time asked (ends.run _);
-      unformed = λ none. absurd (unasked asked none);
-      formed = λ at. absurd (ends.formed at);
+      does = does_form c.args.request.time asked (ends.run _) ends.formed ends.asked;
       unread = λ at. absurd (ends.formed at);
-      asked = asks_asked asked ends.asked;
       untouched = λ none. ((ends.untouched none).0, (ends.untouched none).1, refl);
       verb = ends_asked asked (by_decrypt _ refl ends.formed ends.undrawn);
     }
@@ -131,11 +108,9 @@ returns-in-Demo g c =
     let asked = sym c.in-Demo.ensures.asked in
     let ends = c.demo.ensures in
     record {
-      run = acts_asked c.args.request.time asked (ends.run _ _ _);
-      unformed = λ none. absurd (unasked asked none);
-      formed = λ at. absurd (subst IsOfText at ends.kind);
+      does = does_form c.args.request.time asked (ends.run _ _ _) (λ at. subst IsOfText at ends.kind)
+          (asks_none _ refl);
       unread = λ at. absurd (subst IsOfText at ends.kind);
-      asked = asks_asked asked (asks_none _ refl);
       untouched = λ none. absurd (text_reads _ ends.kind none);
       verb = ends_asked asked (by_demo _ refl refl refl ends.kind);
     }
@@ -146,11 +121,8 @@ returns-in-Rewrap g c =
     let ends = c.rewrap.ensures in
     let run = ends.run (g.S.Source.seen c.args.input.now) in
     record {
-      run = acts_asked c.args.request.time asked run;
-      unformed = λ none. absurd (unasked asked none);
-      formed = λ at. absurd (subst IsOfRewrap at ends.kind);
+      does = does_form c.args.request.time asked run (λ at. subst IsOfRewrap at ends.kind) ends.asked;
       unread = λ at. absurd (subst IsOfRewrap at ends.kind);
-      asked = asks_asked asked ends.asked;
       untouched = λ none. (refl, (ends.untouched none).0, (ends.untouched none).1);
       verb = ends_asked asked (by_rewrap _ refl ends.kind run.folder_cause ends.unwritten ends.undrawn);
     }

@@ -1,5 +1,6 @@
 -- What stands behind the length: read, ended, or failed on the way.
-use Rattle.std.proofs.Common.{◌≡◌, length, ◌++◌, arith}
+use Rattle.std.proofs.Common.{◌≡◌, length, ◌++◌, arith, refl}
+use Rattle.fle_stream.specs.Streams.{faulty}
 use Rattle.std.proofs.lemmas.List.{take_at}
 use Rattle.fle_stream.proofs.Bodies.{size_of_head, unread_body, failed_body, ended_body, ended_by, framed}
 use Rattle.fle_stream.proofs.next.next_body.Goals as goal
@@ -25,10 +26,12 @@ returns-in-Ended-clause-next g c = λ other told is.
     c.requires.least c.requires.most c.requires.small in
     let long : length c.fill_document.new.document ≡ c.args.size =
     omega (arith, c.fill_document.auto.document, c.deref_mut.ensures.len, c.in-Ok.ensures.len) in
-    ended_by c.args.limit other (c.args.head.now ++ told) _ c.in-Ended.n c.short.result c.short.ensures.short
+    let ended = ended_by c.args.limit other (c.args.head.now ++ told) _ c.in-Ended.n c.short.result
+    c.short.ensures.short
     (ended_body c.args.limit other
     (c.args.head.now ++ told) c.fill_document.new.document _ c.args.size c.in-Ended.n size
-    (c.in-Ended.ensures.bytes told is) (omega (arith, long, c.in-Ended.ensures.within)))
+    (c.in-Ended.ensures.bytes told is) (omega (arith, long, c.in-Ended.ensures.within))) in
+    (faulty ended.0 c.short.result, ended.1, refl, ended.2)
 
 pub returns-in-Whole-clause-next : goal.returns-in-Whole-clause-next
 returns-in-Whole-clause-next g c = λ other told is.

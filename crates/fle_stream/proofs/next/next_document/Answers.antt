@@ -2,7 +2,7 @@
 use Rattle.std.proofs.Common.{ℕ, ◌<◌, List, drop, refl, ap, ◌∙◌, subst, arith}
 use Rattle.std.specs.Int.{from_le_bytes, w32}
 use Rattle.bson_codec.specs.Reading.{signed_below}
-use Rattle.fle_stream.specs.Streams.{stated}
+use Rattle.fle_stream.specs.Streams.{faulty, over, stated}
 use Rattle.fle_stream.specs.Next.{NextIs}
 use Rattle.fle_stream.proofs.Streams.{none_left, low_length, over_limit, stated_low, stated_ok}
 use Rattle.fle_stream.proofs.Bodies.{head_read, failed_head, ended_head, ended_by, all_read}
@@ -13,9 +13,10 @@ returns-in-Err-clause-next g c = λ other told is.
     let read = head_read told c.fill_piece.new.piece _
     (from_le_bytes w32 c.fill_piece.new.piece) c.fill_piece.auto.piece refl (c.in-Whole.ensures.bytes told is) in
     let says = stated_low (from_le_bytes w32 c.fill_piece.new.piece) c.in-Err.fault c.in-Err.ensures.stated in (
-      4,
+      faulty 4 c.in-Err.fault,
       rw says.fault (low_length c.args.limit other told read.four (ap (λ
           (m : ℕ). signed_below m 5) read.says ∙ says.below)),
+      refl,
       read.left,
     )
 
@@ -25,8 +26,10 @@ returns-in-Ok-clause-next g c = λ other told is.
     (from_le_bytes w32 c.fill_piece.new.piece) c.fill_piece.auto.piece refl (c.in-Whole.ensures.bytes told is) in
     let says = stated_ok (from_le_bytes w32 c.fill_piece.new.piece) c.in-Ok.size c.in-Ok.ensures.stated in
     let above : c.args.limit < stated told = omega (arith, read.says, says.same, c.if-limit-size.true) in (
+      over,
       over_limit c.args.limit other told read.four (ap (λ
           (m : ℕ). signed_below m 5) read.says ∙ says.plain) above,
+      refl,
       read.left,
     )
 
@@ -44,10 +47,11 @@ returns-in-Ended-eq0-clause-next g c = λ other told is.
 
 pub returns-in-Ended-clause-next : goal.returns-in-Ended-clause-next
 returns-in-Ended-clause-next g c = λ other told is.
-    ended_by c.args.limit other told _ c.in-Ended.n c.short.result c.short.ensures.short
+    let ended = ended_by c.args.limit other told _ c.in-Ended.n c.short.result c.short.ensures.short
     (ended_head c.args.limit other told c.fill_piece.new.piece _ c.in-Ended.n (c.in-Ended.ensures.bytes told is)
     (omega arith)
-    (omega (arith, c.in-Ended.ensures.within, c.fill_piece.auto.piece)))
+    (omega (arith, c.in-Ended.ensures.within, c.fill_piece.auto.piece))) in
+    (faulty ended.0 c.short.result, ended.1, refl, ended.2)
 
 pub returns-in-Ok-2-clause-next : goal.returns-in-Ok-2-clause-next
 returns-in-Ok-2-clause-next g c = λ other told is.

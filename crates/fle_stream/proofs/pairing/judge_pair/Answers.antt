@@ -1,376 +1,205 @@
 -- What stands behind the first document says what the turn does.
-use Rattle.std.proofs.Common.{◌+◌, [], drop, length, ◌∙◌, ap, refl, subst, sym, arith}
-use Rattle.fle_outside.proofs.Drawings.{draws_none}
-use Rattle.fle_stream.specs.Outcome.{Outcome}
+use Rattle.std.proofs.Common.{◌≡◌, ◌∙◌, ◌+◌, ◌≤◌, ℕ, [], drop, length, ap, arith, refl, subst, sym}
+use Rattle.bson_tree.specs.Tree.{Items}
+use Rattle.fle_outside.specs.Filling.{RoseBy}
+use Rattle.fle_stream.specs.Next.{IsOfNext}
 use Rattle.fle_stream.specs.Pairs.{Pairing, answer_limit, paired}
-use Rattle.fle_stream.specs.Run.{LastStep}
-use Rattle.fle_stream.specs.Streams.{Docs, doc, document_limit, documents_within, nothing, over, faulty}
-use Rattle.fle_stream.specs.Task.{course_of, pairs, spans_of}
-use Rattle.fle_stream.specs.declared.why.Finish.TheVariants as finishes
+use Rattle.fle_stream.specs.Plan.{DrawsNone}
+use Rattle.fle_stream.specs.Streams.{Docs, document_limit, documents_within, nothing, faulty}
+use Rattle.fle_stream.specs.Task.{two_documents}
+use Rattle.fle_stream.specs.Turn.{Progresses}
+use Rattle.fle_stream.specs.declared.turning.Turn.TheVariants as turns
 use Rattle.fle_stream.specs.declared.why.Bound.TheVariants as bounds
-use Rattle.fle_stream.proofs.Bodies.{read_ok, read_fault}
-use Rattle.fle_stream.proofs.Judgings.{step_finished, step_memory, memory_none, past}
-use Rattle.fle_stream.proofs.Opens.{among_blocks, among_bytes, took_again, took_none, took_second, took_whole}
-use Rattle.fle_stream.proofs.Paired.{next_pair}
-use Rattle.fle_stream.proofs.PairTurns.{answer_end, bad_answer, cut_behind, handed_both, late_answer, left_behind}
-use Rattle.fle_stream.proofs.PairTurns.{passes, told_as, within_two}
-use Rattle.fle_stream.proofs.Turned.{finished_no, input_not_entropy, input_not_output, memory_not_entropy}
-use Rattle.fle_stream.proofs.Turned.{memory_not_input, memory_not_output, none_more}
-use Rattle.fle_stream.proofs.Writings.{stopped, stops_as, wrote}
+use Rattle.fle_stream.specs.declared.why.Finish.TheVariants as finishes
+use Rattle.fle_stream.proofs.Bodies.{read_fault, read_ok}
+use Rattle.fle_stream.proofs.Exits.{did_finish, did_memory, did_stop, did_write, next_kind, write_kind}
+use Rattle.fle_stream.proofs.Exits.{write_progress, write_took, write_undrawn}
+use Rattle.fle_stream.proofs.Fronts.{rose_size}
+use Rattle.fle_stream.proofs.Judgings.{past}
+use Rattle.fle_stream.proofs.Opens.{took_again, took_none, took_second, took_whole}
+use Rattle.fle_stream.proofs.PairExits.{Opened, front_pair, pair_ends, pair_refused, pair_stops}
+use Rattle.fle_stream.proofs.PairTurns.{late_answer, left_behind, passes, told_as, within_two}
+use Rattle.fle_stream.proofs.Turned.{finished_no, memory_not_entropy, none_more}
 use Rattle.fle_stream.proofs.pairing.judge_pair.Goals as goal
 
 pub returns-then-begun-ge-STREAM_LIMIT : goal.returns-then-begun-ge-STREAM_LIMIT
-returns-then-begun-ge-STREAM_LIMIT g c = record {
-  ready = c.requires.ready;
-  same = refl;
-  progress = tt;
-  kind = tt;
-  turn = λ told is first.
-      let w : Pairing = g.J.PairJudge.pairing c.args.judge.now in
-      step_finished _ c.args.opened.now.number told _ _ _ _ _ (finishes.Limit bounds.Stream) (c.args.opened.now.number
-      + 1) c.args.opened.now.size
-      (ap (λ (docs : Docs). paired w c.args.opened.now.number c.args.opened.now.taken docs) first
-      ∙ late_answer w c.args.opened.now.number c.args.opened.now.taken c.args.opened.now.size
-      c.args.opened.now.document.tree
-      (documents_within answer_limit document_limit (drop c.args.opened.now.size told))
-      c.requires.begun c.if-begun-ge-STREAM_LIMIT.true c.requires.opened)
-      is (draws_none _);
-  took = took_second c.args.opened.now.number _ _ (took_none _);
-  in_later = none_more _;
-  in_cause = λ at. absurd (finished_no _ _ at);
-  in_sure = λ sure. (λ at. finished_no _ _ at, sure);
-  out_later = none_more _;
-  out_cause = λ at. absurd (finished_no _ _ at);
-  out_sure = λ told is first enough at. finished_no _ _ at;
-  entropy_later = none_more _;
-  entropy_cause = λ at. absurd (finished_no _ _ at);
-  entropy_sure = λ told is first enough at. finished_no _ _ at;
-  undrawn = λ quiet. (λ at. finished_no _ _ at, quiet);
-}
-
-pub returns-in-Ok-write_judged-clause-turn : goal.returns-in-Ok-write_judged-clause-turn
-returns-in-Ok-write_judged-clause-turn g c = λ told is first.
+returns-then-begun-ge-STREAM_LIMIT g c =
     let w : Pairing = g.J.PairJudge.pairing c.args.judge.now in
-    let n = c.args.opened.now.size in
-    let m = c.len.result in
-    let next = c.in-Framed.ensures.next document_limit (drop n told) is in
-    let document = rw c.deref.ensures.value at c.in-Ok.ensures.exact in
-    let read = read_ok answer_limit document_limit (drop n told) c.in-Framed.bytes.items _ m c.in-Ok.answer.tree
-    (omega (arith, c.len.ensures, c.in-Framed.bytes.ok)) next.0 next.1 document in
-    let comes = next_pair w c.args.opened.now.number c.args.opened.now.taken n m c.args.opened.now.document.tree
-    c.in-Ok.answer.tree told
-    c.requires.begun c.if-begun-ge-STREAM_LIMIT.false first read.stands c.requires.opened
-    (passes _ c.in-Passes.ensures.checked) in
-    wrote (w.comes c.args.opened.now.document.tree) (course_of (pairs w)) c.args.opened.now.number 2
-    c.args.opened.now.taken (n + m) told _ _ _ _ _ _ comes
-    (left_behind n m told _ read.left)
-    (c.in-Ok-write_judged.ensures.wrote _ _ _ c.judge-judged.ensures.judged)
+    let first = c.args.first.now in
+    rw c.ended.ensures.by (record {
+      ready = c.requires.ready;
+      same = refl;
+      progress = tt;
+      kind = tt;
+      took = took_second _ _ _ (took_none _);
+      did = did_finish (finishes.Limit bounds.Stream) (λ told shows. record {
+        used = first.size;
+        is = ap (λ (docs : Docs). paired w first.number first.taken docs) shows.stands
+            ∙ late_answer w first.number first.taken first.size first.document.tree
+            (documents_within answer_limit document_limit (drop first.size told)) c.requires.begun
+            c.if-begun-ge-STREAM_LIMIT.true c.requires.opened;
+        left = shows.left;
+      }) (none_more _) (λ a. a);
+      undrawn = λ quiet. (λ at. finished_no _ _ at, quiet);
+    })
 
-pub returns-in-Passes-clause-turn : goal.returns-in-Passes-clause-turn
-returns-in-Passes-clause-turn g c = λ told is first.
+pub returns-in-Passes : goal.returns-in-Passes
+returns-in-Passes g c =
     let w : Pairing = g.J.PairJudge.pairing c.args.judge.now in
-    let n = c.args.opened.now.size in
-    let m = length c.in-Framed.bytes.items in
-    let next = c.in-Framed.ensures.next document_limit (drop n told) is in
-    let document = rw c.deref.ensures.value at c.in-Ok.ensures.exact in
-    let read = read_ok answer_limit document_limit (drop n told) c.in-Framed.bytes.items _ m c.in-Ok.answer.tree
-    refl next.0 next.1 document in
-    let comes = next_pair w c.args.opened.now.number c.args.opened.now.taken n m c.args.opened.now.document.tree
-    c.in-Ok.answer.tree told
-    c.requires.begun c.if-begun-ge-STREAM_LIMIT.false first read.stands c.requires.opened
-    (passes _ c.in-Passes.ensures.checked) in
-    let says = c.in-Err-write_judged.ensures.wrote _ _ _ c.judge-judged.ensures.judged in
-    subst (λ (o : Outcome). LastStep o c.args.opened.now.number told (g.S.Source.seen c.next_document.new.source).told
-    (spans_of (pairs w) told) (g.N.Entropy.seen c.args.entropy.now) (g.N.Entropy.seen c.judge-judged.new.entropy)
-    (g.O.Sink.seen c.args.out.now) (g.O.Sink.seen c.write_judged.new.out) c.args.opened.now.number
-    c.in-Err-write_judged.why) (sym comes)
-    (stopped (w.comes c.args.opened.now.document.tree) c.in-Err-write_judged.why _ c.args.opened.now.number 2 (n + m)
-    _ told _ _ _ _ _
-    (within_two n m c.args.opened.now.document.tree c.in-Ok.answer.tree told _ first read.stands) (left_behind n m
-    told _ read.left) says)
-
-pub returns-in-Passes-clause-out_sure : goal.returns-in-Passes-clause-out_sure
-returns-in-Passes-clause-out_sure g c = λ told is first enough.
-    let w : Pairing = g.J.PairJudge.pairing c.args.judge.now in
-    let n = c.args.opened.now.size in
-    let m = length c.in-Framed.bytes.items in
-    let next = c.in-Framed.ensures.next document_limit (drop n told) is in
-    let document = rw c.deref.ensures.value at c.in-Ok.ensures.exact in
-    let read = read_ok answer_limit document_limit (drop n told) c.in-Framed.bytes.items _ m c.in-Ok.answer.tree
-    refl next.0 next.1 document in
-    let comes = next_pair w c.args.opened.now.number c.args.opened.now.taken n m c.args.opened.now.document.tree
-    c.in-Ok.answer.tree told
-    c.requires.begun c.if-begun-ge-STREAM_LIMIT.false first read.stands c.requires.opened
-    (passes _ c.in-Passes.ensures.checked) in
-    let says = c.in-Err-write_judged.ensures.wrote _ _ _ c.judge-judged.ensures.judged in
-    (stops_as (w.comes c.args.opened.now.document.tree) c.in-Err-write_judged.why _ _ _ _ says).out_sure
-    (among_bytes (w.comes c.args.opened.now.document.tree) c.args.opened.now.number 2 (n + m) _ _ _ comes enough)
-
-pub returns-in-Passes-clause-entropy_sure : goal.returns-in-Passes-clause-entropy_sure
-returns-in-Passes-clause-entropy_sure g c = λ told is first enough.
-    let w : Pairing = g.J.PairJudge.pairing c.args.judge.now in
-    let n = c.args.opened.now.size in
-    let m = length c.in-Framed.bytes.items in
-    let next = c.in-Framed.ensures.next document_limit (drop n told) is in
-    let document = rw c.deref.ensures.value at c.in-Ok.ensures.exact in
-    let read = read_ok answer_limit document_limit (drop n told) c.in-Framed.bytes.items _ m c.in-Ok.answer.tree
-    refl next.0 next.1 document in
-    let comes = next_pair w c.args.opened.now.number c.args.opened.now.taken n m c.args.opened.now.document.tree
-    c.in-Ok.answer.tree told
-    c.requires.begun c.if-begun-ge-STREAM_LIMIT.false first read.stands c.requires.opened
-    (passes _ c.in-Passes.ensures.checked) in
-    let says = c.in-Err-write_judged.ensures.wrote _ _ _ c.judge-judged.ensures.judged in
-    (stops_as (w.comes c.args.opened.now.document.tree) c.in-Err-write_judged.why _ _ _ _ says).entropy_sure
-    (among_blocks (w.comes c.args.opened.now.document.tree) c.args.opened.now.number 2 (n + m) _ _ _ comes enough)
+    let first = c.args.first.now in
+    let tree : Items = first.document.tree in
+    let framed = c.in-Framed.ensures in
+    let m : ℕ = c.len.result in
+    let long : m ≡ length c.in-Framed.bytes.items = omega (arith, c.len.ensures, c.in-Framed.bytes.ok) in
+    let o : Opened w first.taken first.size tree =
+    record { begun = c.requires.begun; behind = c.if-begun-ge-STREAM_LIMIT.false; opens = c.requires.opened } in
+    let judged = c.judge-judged.ensures in
+    let says = c.write_judged.ensures.wrote _ _ _ judged.judged in
+    let rose = rose_size _ _ _ _ long framed.took in
+    let least : 5 ≤ m = omega (arith, long, framed.sound.0) in
+    let most : m ≤ 48000000 = omega (arith, long, framed.sound.1) in
+    let goes : Progresses two_documents first.taken (turns.Wrote (first.size + m) 2) = (
+      omega (arith, c.requires.begun),
+      omega arith,
+      omega arith,
+      omega (arith, c.requires.least, least),
+      omega (arith, c.requires.most, most),
+      omega (arith, c.requires.most, most),
+    ) in
+    rw c.turn_of.ensures.by (record {
+      ready = judged.ready;
+      same = judged.same;
+      progress = write_progress two_documents first.taken first.number 2 (first.size + m) c.write_judged.result goes;
+      kind = write_kind first.number 2 (first.size + m) _ _ _ _ (w.comes tree) c.write_judged.result says;
+      took = write_took two_documents first.size first.number _ _ 2 (first.size + m) c.write_judged.result
+          (omega arith) (omega (arith, rose.0), omega (arith, rose.1)) (omega arith) (omega (arith, rose.0))
+          (omega (arith, rose.1, most));
+      did = did_write (w.comes tree) 2 (first.size + m) c.write_judged.result (λ told shows.
+          let next = framed.next document_limit (drop first.size told) shows.left in
+          let document = rw c.deref.ensures.value at c.in-Ok.ensures.exact in
+          front_pair w first.number first.taken first.size tree o m c.in-Ok.answer.tree told _ shows
+          (read_ok answer_limit document_limit (drop first.size told) c.in-Framed.bytes.items _ m c.in-Ok.answer.tree
+          long next.0 next.1 document) (passes _ c.in-Passes.ensures.checked))
+          framed.later (λ a. (framed.sure a).1) says;
+      undrawn = λ quiet. (
+        write_undrawn first.number 2 (first.size + m) _ _ _ _ (w.comes tree) c.write_judged.result says (quiet tree),
+        subst (λ (u : Pairing). DrawsNone u.comes) (sym judged.same) quiet,
+      );
+    })
 
 pub returns-in-Refused : goal.returns-in-Refused
-returns-in-Refused g c = record {
-  ready = c.requires.ready;
-  same = refl;
-  progress = tt;
-  kind = tt;
-  turn = λ told is first.
-      let w : Pairing = g.J.PairJudge.pairing c.args.judge.now in
-      let n = c.args.opened.now.size in
-      let m = length c.in-Framed.bytes.items in
-      let next = c.in-Framed.ensures.next document_limit (drop n told) is in
-      let document = rw c.deref.ensures.value at c.in-Ok.ensures.exact in
-      let read = read_ok answer_limit document_limit (drop n told) c.in-Framed.bytes.items _ m c.in-Ok.answer.tree
-      refl next.0 next.1 document in
-      step_finished _ c.args.opened.now.number told _ _ _ _ _ (finishes.Refused c.in-Refused.reason
-      c.in-Refused.place) (c.args.opened.now.number + 1) (n + m)
-      (ap (λ (docs : Docs). paired w c.args.opened.now.number c.args.opened.now.taken docs)
-      (first ∙ ap (λ (docs : Docs). doc n c.args.opened.now.document.tree docs) read.stands)
-      ∙ bad_answer w c.args.opened.now.number c.args.opened.now.taken n m c.args.opened.now.document.tree
-      c.in-Ok.answer.tree _ c.in-Refused.reason
-      c.in-Refused.place c.requires.begun c.if-begun-ge-STREAM_LIMIT.false c.requires.opened
-      c.in-Refused.ensures.checked)
-      (left_behind n m told _ read.left) (draws_none _);
-  took = took_second c.args.opened.now.number _ _ (took_whole answer_limit _ _ _ c.in-Framed.ensures.took
-      c.in-Framed.ensures.sound.1);
-  in_later = c.in-Framed.ensures.later;
-  in_cause = λ at. absurd (finished_no _ _ at);
-  in_sure = λ sure. (λ at. finished_no _ _ at, (c.in-Framed.ensures.sure sure).1);
-  out_later = none_more _;
-  out_cause = λ at. absurd (finished_no _ _ at);
-  out_sure = λ told is first enough at. finished_no _ _ at;
-  entropy_later = none_more _;
-  entropy_cause = λ at. absurd (finished_no _ _ at);
-  entropy_sure = λ told is first enough at. finished_no _ _ at;
-  undrawn = λ quiet. (λ at. finished_no _ _ at, quiet);
-}
+returns-in-Refused g c =
+    let w : Pairing = g.J.PairJudge.pairing c.args.judge.now in
+    let first = c.args.first.now in
+    let framed = c.in-Framed.ensures in
+    let o : Opened w first.taken first.size first.document.tree =
+    record { begun = c.requires.begun; behind = c.if-begun-ge-STREAM_LIMIT.false; opens = c.requires.opened } in
+    rw c.refused.ensures.by (record {
+      ready = c.requires.ready;
+      same = refl;
+      progress = tt;
+      kind = tt;
+      took = took_second _ _ _ (took_whole answer_limit _ _ _ framed.took framed.sound.1);
+      did = did_finish (finishes.Refused c.in-Refused.reason c.in-Refused.place) (λ told shows.
+          let next = framed.next document_limit (drop first.size told) shows.left in
+          let document = rw c.deref.ensures.value at c.in-Ok.ensures.exact in
+          pair_refused w first.number first.taken first.size first.document.tree o
+          (length c.in-Framed.bytes.items) c.in-Ok.answer.tree told _ c.in-Refused.reason c.in-Refused.place shows
+          (read_ok answer_limit document_limit (drop first.size told) c.in-Framed.bytes.items _
+          (length c.in-Framed.bytes.items) c.in-Ok.answer.tree refl next.0 next.1 document)
+          c.in-Refused.ensures.checked)
+          framed.later (λ a. (framed.sure a).1);
+      undrawn = λ quiet. (λ at. finished_no _ _ at, quiet);
+    })
 
 pub returns-in-Ok : goal.returns-in-Ok
-returns-in-Ok g c = record {
-  ready = c.requires.ready;
-  same = refl;
-  progress = tt;
-  kind = tt;
-  turn = λ told is first.
-      let w : Pairing = g.J.PairJudge.pairing c.args.judge.now in
-      let n = c.args.opened.now.size in
-      let m = length c.in-Framed.bytes.items in
-      let next = c.in-Framed.ensures.next document_limit (drop n told) is in
-      let document = rw c.deref.ensures.value at c.in-Ok.ensures.exact in
-      let read = read_ok answer_limit document_limit (drop n told) c.in-Framed.bytes.items _ m c.in-Ok.answer.tree
-      refl next.0 next.1 document in
-      let o : Outcome = paired w c.args.opened.now.number c.args.opened.now.taken (documents_within document_limit
-      answer_limit told) in
-      step_memory o c.args.opened.now.number told _ _ _ _ _ c.args.opened.now.number [] (memory_none o.outputs)
-      (past (n + m) _ told _ (within_two n m c.args.opened.now.document.tree c.in-Ok.answer.tree told _ first
-      read.stands)
-      (left_behind n m told _ read.left))
-      (draws_none _);
-  took = took_again c.args.opened.now.number _ _ (took_whole answer_limit _ _ _ c.in-Framed.ensures.took
-      c.in-Framed.ensures.sound.1);
-  in_later = c.in-Framed.ensures.later;
-  in_cause = λ at. absurd (memory_not_input at);
-  in_sure = λ sure. (λ at. memory_not_input at, (c.in-Framed.ensures.sure sure).1);
-  out_later = none_more _;
-  out_cause = λ at. absurd (memory_not_output at);
-  out_sure = λ told is first enough at. memory_not_output at;
-  entropy_later = none_more _;
-  entropy_cause = λ at. absurd (memory_not_entropy at);
-  entropy_sure = λ told is first enough at. memory_not_entropy at;
-  undrawn = λ quiet. (λ at. memory_not_entropy at, quiet);
-}
+returns-in-Ok g c =
+    let first = c.args.first.now in
+    let framed = c.in-Framed.ensures in
+    let m = length c.in-Framed.bytes.items in
+    rw c.ended-in-Memory.ensures.by (record {
+      ready = c.requires.ready;
+      same = refl;
+      progress = tt;
+      kind = tt;
+      took = took_again _ _ _ (took_whole answer_limit _ _ _ framed.took framed.sound.1);
+      did = did_memory (λ told shows.
+          let next = framed.next document_limit (drop first.size told) shows.left in
+          let document = rw c.deref.ensures.value at c.in-Ok.ensures.exact in
+          let read = read_ok answer_limit document_limit (drop first.size told) c.in-Framed.bytes.items _ m
+          c.in-Ok.answer.tree refl next.0 next.1 document in
+          past (first.size + m) _ told _ (within_two first.size m first.document.tree c.in-Ok.answer.tree told _
+          shows.stands read.stands) (left_behind first.size m told _ read.left))
+          framed.later (λ a. (framed.sure a).1);
+      undrawn = λ quiet. (λ at. memory_not_entropy at, quiet);
+    })
 
 pub returns-in-Framed : goal.returns-in-Framed
-returns-in-Framed g c = record {
-  ready = c.requires.ready;
-  same = refl;
-  progress = tt;
-  kind = tt;
-  turn = λ told is first.
-      let w : Pairing = g.J.PairJudge.pairing c.args.judge.now in
-      let n = c.args.opened.now.size in
-      let m = length c.in-Framed.bytes.items in
-      let next = c.in-Framed.ensures.next document_limit (drop n told) is in
-      let document = rw c.deref.ensures.value at c.in-Err.ensures.exact in
-      let read = read_fault answer_limit document_limit (drop n told) c.in-Framed.bytes.items c.in-Err.fault next.0
-      document in
-      step_finished _ c.args.opened.now.number told _ _ _ _ _ (finishes.Malformed c.in-Err.fault)
-      (c.args.opened.now.number + 1) (n + m)
-      (ap (λ (docs : Docs). paired w c.args.opened.now.number c.args.opened.now.taken docs)
-      (first ∙ ap (λ (docs : Docs). doc n c.args.opened.now.document.tree docs) read)
-      ∙ answer_end w c.args.opened.now.number c.args.opened.now.taken n c.args.opened.now.document.tree (faulty m
-      c.in-Err.fault)
-      c.requires.begun c.if-begun-ge-STREAM_LIMIT.false c.requires.opened)
-      (left_behind n m told _ next.1) (draws_none _);
-  took = took_second c.args.opened.now.number _ _ (took_whole answer_limit _ _ _ c.in-Framed.ensures.took
-      c.in-Framed.ensures.sound.1);
-  in_later = c.in-Framed.ensures.later;
-  in_cause = λ at. absurd (finished_no _ _ at);
-  in_sure = λ sure. (λ at. finished_no _ _ at, (c.in-Framed.ensures.sure sure).1);
-  out_later = none_more _;
-  out_cause = λ at. absurd (finished_no _ _ at);
-  out_sure = λ told is first enough at. finished_no _ _ at;
-  entropy_later = none_more _;
-  entropy_cause = λ at. absurd (finished_no _ _ at);
-  entropy_sure = λ told is first enough at. finished_no _ _ at;
-  undrawn = λ quiet. (λ at. finished_no _ _ at, quiet);
-}
+returns-in-Framed g c =
+    let w : Pairing = g.J.PairJudge.pairing c.args.judge.now in
+    let first = c.args.first.now in
+    let framed = c.in-Framed.ensures in
+    let m = length c.in-Framed.bytes.items in
+    let o : Opened w first.taken first.size first.document.tree =
+    record { begun = c.requires.begun; behind = c.if-begun-ge-STREAM_LIMIT.false; opens = c.requires.opened } in
+    rw c.ended-in-Err.ensures.by (record {
+      ready = c.requires.ready;
+      same = refl;
+      progress = tt;
+      kind = tt;
+      took = took_second _ _ _ (took_whole answer_limit _ _ _ framed.took framed.sound.1);
+      did = did_finish (finishes.Malformed c.in-Err.fault) (λ told shows.
+          let next = framed.next document_limit (drop first.size told) shows.left in
+          let document = rw c.deref.ensures.value at c.in-Err.ensures.exact in record {
+            used = first.size + m;
+            is = pair_ends w first.number first.taken first.size first.document.tree o told (faulty m c.in-Err.fault)
+                shows (read_fault answer_limit document_limit (drop first.size told) c.in-Framed.bytes.items
+                c.in-Err.fault next.0 document);
+            left = left_behind first.size m told _ next.1;
+          }) framed.later (λ a. (framed.sure a).1);
+      undrawn = λ quiet. (λ at. finished_no _ _ at, quiet);
+    })
 
 pub returns-in-Nothing : goal.returns-in-Nothing
-returns-in-Nothing g c = record {
-  ready = c.requires.ready;
-  same = refl;
-  progress = tt;
-  kind = tt;
-  turn = λ told is first.
-      let w : Pairing = g.J.PairJudge.pairing c.args.judge.now in
-      let n = c.args.opened.now.size in
-      let next = c.in-Nothing.ensures.next document_limit (drop n told) is in
-      step_finished _ c.args.opened.now.number told _ _ _ _ _ _ c.args.opened.now.number n
-      (ap (λ (docs : Docs). paired w c.args.opened.now.number c.args.opened.now.taken docs)
-      (first ∙ ap (λ (docs : Docs). doc n c.args.opened.now.document.tree docs) next.0)
-      ∙ answer_end w c.args.opened.now.number c.args.opened.now.taken n c.args.opened.now.document.tree nothing
-      c.requires.begun c.if-begun-ge-STREAM_LIMIT.false c.requires.opened
-      ∙ told_as _ c.missing.result [] c.from_vec-place.result c.args.opened.now.number n (sym c.missing.ensures.missing)
-      (sym (c.from_vec-place.ensures.same ∙ c.new.ensures.items)))
-      next.1 (draws_none _);
-  took = took_again c.args.opened.now.number _ _ c.in-Nothing.ensures.took;
-  in_later = c.in-Nothing.ensures.later;
-  in_cause = λ at. absurd (finished_no _ _ at);
-  in_sure = λ sure. (λ at. finished_no _ _ at, (c.in-Nothing.ensures.sure sure).1);
-  out_later = none_more _;
-  out_cause = λ at. absurd (finished_no _ _ at);
-  out_sure = λ told is first enough at. finished_no _ _ at;
-  entropy_later = none_more _;
-  entropy_cause = λ at. absurd (finished_no _ _ at);
-  entropy_sure = λ told is first enough at. finished_no _ _ at;
-  undrawn = λ quiet. (λ at. finished_no _ _ at, quiet);
-}
-
-pub returns-in-Over : goal.returns-in-Over
-returns-in-Over g c = record {
-  ready = c.requires.ready;
-  same = refl;
-  progress = tt;
-  kind = tt;
-  turn = λ told is first.
-      let w : Pairing = g.J.PairJudge.pairing c.args.judge.now in
-      let n = c.args.opened.now.size in
-      let next = c.in-Over.ensures.next document_limit (drop n told) is in
-      step_finished _ c.args.opened.now.number told _ _ _ _ _ (finishes.Limit bounds.Document)
-      (c.args.opened.now.number + 1) (n + 4)
-      (ap (λ (docs : Docs). paired w c.args.opened.now.number c.args.opened.now.taken docs)
-      (first ∙ ap (λ (docs : Docs). doc n c.args.opened.now.document.tree docs) next.0)
-      ∙ answer_end w c.args.opened.now.number c.args.opened.now.taken n c.args.opened.now.document.tree over
-      c.requires.begun c.if-begun-ge-STREAM_LIMIT.false c.requires.opened)
-      (left_behind n 4 told _ next.1) (draws_none _);
-  took = took_second c.args.opened.now.number _ _ c.in-Over.ensures.took;
-  in_later = c.in-Over.ensures.later;
-  in_cause = λ at. absurd (finished_no _ _ at);
-  in_sure = λ sure. (λ at. finished_no _ _ at, (c.in-Over.ensures.sure sure).1);
-  out_later = none_more _;
-  out_cause = λ at. absurd (finished_no _ _ at);
-  out_sure = λ told is first enough at. finished_no _ _ at;
-  entropy_later = none_more _;
-  entropy_cause = λ at. absurd (finished_no _ _ at);
-  entropy_sure = λ told is first enough at. finished_no _ _ at;
-  undrawn = λ quiet. (λ at. finished_no _ _ at, quiet);
-}
-
-pub returns-in-Faulty : goal.returns-in-Faulty
-returns-in-Faulty g c = record {
-  ready = c.requires.ready;
-  same = refl;
-  progress = tt;
-  kind = tt;
-  turn = λ told is first.
-      let w : Pairing = g.J.PairJudge.pairing c.args.judge.now in
-      let n = c.args.opened.now.size in
-      let next = c.in-Faulty.ensures.next document_limit (drop n told) is in
-      step_finished _ c.args.opened.now.number told _ _ _ _ _ (finishes.Malformed c.in-Faulty.fault)
-      (c.args.opened.now.number + 1) (n + next.0)
-      (ap (λ (docs : Docs). paired w c.args.opened.now.number c.args.opened.now.taken docs)
-      (first ∙ ap (λ (docs : Docs). doc n c.args.opened.now.document.tree docs) next.1)
-      ∙ answer_end w c.args.opened.now.number c.args.opened.now.taken n c.args.opened.now.document.tree (faulty next.0
-      c.in-Faulty.fault)
-      c.requires.begun c.if-begun-ge-STREAM_LIMIT.false c.requires.opened)
-      (left_behind n next.0 told _ next.2) (draws_none _);
-  took = took_second c.args.opened.now.number _ _ c.in-Faulty.ensures.took;
-  in_later = c.in-Faulty.ensures.later;
-  in_cause = λ at. absurd (finished_no _ _ at);
-  in_sure = λ sure. (λ at. finished_no _ _ at, (c.in-Faulty.ensures.sure sure).1);
-  out_later = none_more _;
-  out_cause = λ at. absurd (finished_no _ _ at);
-  out_sure = λ told is first enough at. finished_no _ _ at;
-  entropy_later = none_more _;
-  entropy_cause = λ at. absurd (finished_no _ _ at);
-  entropy_sure = λ told is first enough at. finished_no _ _ at;
-  undrawn = λ quiet. (λ at. finished_no _ _ at, quiet);
-}
-
-pub returns-in-Failed : goal.returns-in-Failed
-returns-in-Failed g c = record {
-  ready = c.requires.ready;
-  same = refl;
-  progress = tt;
-  kind = tt;
-  turn = λ told is first.
-      let w : Pairing = g.J.PairJudge.pairing c.args.judge.now in
-      cut_behind (paired w c.args.opened.now.number c.args.opened.now.taken (documents_within document_limit
-      answer_limit told)) c.args.opened.now.size
-      c.args.opened.now.document.tree told _ _ _ _ c.args.opened.now.number first
-      (c.in-Failed.ensures.next document_limit (drop c.args.opened.now.size told) is) (draws_none _);
-  took = took_second c.args.opened.now.number _ _ c.in-Failed.ensures.took;
-  in_later = c.in-Failed.ensures.later;
-  in_cause = λ _. c.in-Failed.ensures.cause refl;
-  in_sure = λ sure. (λ _. (c.in-Failed.ensures.sure sure).0 refl, (c.in-Failed.ensures.sure sure).1);
-  out_later = none_more _;
-  out_cause = λ at. absurd (input_not_output at);
-  out_sure = λ told is first enough at. input_not_output at;
-  entropy_later = none_more _;
-  entropy_cause = λ at. absurd (input_not_entropy at);
-  entropy_sure = λ told is first enough at. input_not_entropy at;
-  undrawn = λ quiet. (λ at. input_not_entropy at, quiet);
-}
+returns-in-Nothing g c =
+    let w : Pairing = g.J.PairJudge.pairing c.args.judge.now in
+    let first = c.args.first.now in
+    let none = c.in-Nothing.ensures in
+    let o : Opened w first.taken first.size first.document.tree =
+    record { begun = c.requires.begun; behind = c.if-begun-ge-STREAM_LIMIT.false; opens = c.requires.opened } in
+    rw c.refused-in-Nothing.ensures.by (record {
+      ready = c.requires.ready;
+      same = refl;
+      progress = tt;
+      kind = tt;
+      took = took_again _ _ _ none.took;
+      did = did_finish (finishes.Refused c.missing.result c.from_vec.result) (λ told shows.
+          let next = none.next document_limit (drop first.size told) shows.left in record {
+            used = first.size;
+            is = pair_ends w first.number first.taken first.size first.document.tree o told nothing shows next.0
+                ∙ told_as w.missing c.missing.result [] c.from_vec.result first.number first.size
+                (sym c.missing.ensures.missing) (sym (c.from_vec.ensures.same ∙ c.new.ensures.items));
+            left = next.1;
+          }) none.later (λ a. (none.sure a).1);
+      undrawn = λ quiet. (λ at. finished_no _ _ at, quiet);
+    })
 
 pub returns : goal.returns
-returns g c = record {
-  ready = c.requires.ready;
-  same = refl;
-  progress = tt;
-  kind = tt;
-  turn = λ told is first.
-      let w : Pairing = g.J.PairJudge.pairing c.args.judge.now in
-      let o : Outcome = paired w c.args.opened.now.number c.args.opened.now.taken (documents_within document_limit
-      answer_limit told) in
-      step_memory o c.args.opened.now.number told _ _ _ _ _ c.args.opened.now.number [] (memory_none o.outputs)
-      (handed_both c.args.opened.now.size c.args.opened.now.document.tree told _ first
-      (c.in-Memory.ensures.next document_limit (drop c.args.opened.now.size told) is))
-      (draws_none _);
-  took = took_again c.args.opened.now.number _ _ c.in-Memory.ensures.took;
-  in_later = c.in-Memory.ensures.later;
-  in_cause = λ at. absurd (memory_not_input at);
-  in_sure = λ sure. (λ at. memory_not_input at, (c.in-Memory.ensures.sure sure).1);
-  out_later = none_more _;
-  out_cause = λ at. absurd (memory_not_output at);
-  out_sure = λ told is first enough at. memory_not_output at;
-  entropy_later = none_more _;
-  entropy_cause = λ at. absurd (memory_not_entropy at);
-  entropy_sure = λ told is first enough at. memory_not_entropy at;
-  undrawn = λ quiet. (λ at. memory_not_entropy at, quiet);
-}
+returns g c =
+    let w : Pairing = g.J.PairJudge.pairing c.args.judge.now in
+    let first = c.args.first.now in
+    let stops = c.in-Stops.ensures in
+    let o : Opened w first.taken first.size first.document.tree =
+    record { begun = c.requires.begun; behind = c.if-begun-ge-STREAM_LIMIT.false; opens = c.requires.opened } in
+    rw c.ended-in-Stops.ensures.by (record {
+      ready = c.requires.ready;
+      same = refl;
+      progress = tt;
+      kind = next_kind c.in-Stops.why stops.sound;
+      took = took_second _ _ _ stops.took;
+      did = did_stop c.in-Stops.why stops.sound (λ told shows.
+          pair_stops w first.number first.taken first.size first.document.tree o told _ _ _ c.in-Stops.why stops.sound
+          shows (stops.next document_limit (drop first.size told) shows.left))
+          stops.later stops.cause stops.sure;
+      undrawn = λ quiet. (λ at. subst IsOfNext at stops.sound, quiet);
+    })

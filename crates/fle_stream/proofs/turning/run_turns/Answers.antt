@@ -1,6 +1,6 @@
 -- Each turn writes one more output, or ends the run.
-use Rattle.std.proofs.Common.{refl, ◌∙◌, arith, drop}
-use Rattle.fle_stream.specs.Task.{course_of, pace_of, spans_of}
+use Rattle.std.proofs.Common.{refl, ◌∙◌, ap, arith, drop}
+use Rattle.fle_stream.specs.Task.{course_of, pace_of, reads_input, spans_of}
 use Rattle.fle_stream.proofs.Acts.{course_blocks, course_bytes, did_turns, ends_reads, folder_no, reads_one}
 use Rattle.fle_stream.proofs.Turnings.{begins, goes, grows, reaches, stops, room_left, supply_left}
 use Rattle.fle_stream.proofs.turning.run_turns.Goals as goal
@@ -23,6 +23,9 @@ loop-bytes-init g c = record {
       (g.O.Sink.seen c.args.out.now) is;
 }
 
+pub take_turn-requires-clause-reads : goal.take_turn-requires-clause-reads
+take_turn-requires-clause-reads g c = ap reads_input c.loop-bytes.invariant.same ∙ c.requires.reads
+
 pub loop-bytes-preserved : goal.loop-bytes-preserved
 loop-bytes-preserved g c =
     let before = c.loop-bytes.invariant in
@@ -37,14 +40,14 @@ loop-bytes-preserved g c =
       same = c.in-Wrote.ensures.same ∙ before.same;
       least = omega (arith, before.least, c.in-Wrote.ensures.took.0);
       most = omega (arith, before.most, more, c.in-Wrote.ensures.took.1, wrote.4);
-      in_later = omega (arith, before.in_later, c.in-Wrote.ensures.in_later);
-      out_later = omega (arith, before.out_later, c.in-Wrote.ensures.out_later);
-      entropy_later = omega (arith, before.entropy_later, c.in-Wrote.ensures.entropy_later);
-      sure = λ assured. (c.in-Wrote.ensures.in_sure (before.sure assured)).1;
+      in_later = omega (arith, before.in_later, c.in-Wrote.ensures.did.in_later);
+      out_later = omega (arith, before.out_later, c.in-Wrote.ensures.did.out_later);
+      entropy_later = omega (arith, before.entropy_later, c.in-Wrote.ensures.did.entropy_later);
+      sure = λ assured. (c.in-Wrote.ensures.did.in_sure (before.sure assured)).1;
       quiet = λ quiet. (c.in-Wrote.ensures.undrawn (before.quiet quiet)).1;
       going = λ told is.
           let going = before.going told is in
-          let step = rw before.same at (c.in-Wrote.ensures.turn (drop c.loop-bytes.taken told) going.here) in
+          let step = rw before.same at (c.in-Wrote.ensures.did.course (drop c.loop-bytes.taken told) going.here) in
           goes going step;
     }
 
@@ -59,7 +62,7 @@ returns-in-Ended-clause-run g c = λ files.
     record {
       did = λ all told _ is.
           let going = before.going told is in
-          let last = rw before.same at (ends.turn (drop c.loop-bytes.taken told) going.here) in
+          let last = rw before.same at (ends.did.course (drop c.loop-bytes.taken told) going.here) in
           did_turns task c.requires.reads ends.kind (stops (spans_of task) going ends.kind last);
       unread = λ all told _ none. absurd (reads_one task c.requires.reads none);
       placed = λ all _. ends_reads task c.requires.reads _ ends.kind;
@@ -68,18 +71,18 @@ returns-in-Ended-clause-run g c = λ files.
         omega (arith, before.most, took.2, far),
       );
       numbered = λ _. omega (arith, before.some, took.0);
-      in_cause = λ at. omega (arith, before.in_later, ends.in_cause at);
-      in_sure = λ assured at. (ends.in_sure (before.sure assured)).0 at;
+      in_cause = λ at. omega (arith, before.in_later, ends.did.in_cause at);
+      in_sure = λ assured at. (ends.did.in_sure (before.sure assured)).0 at;
       folder_cause = λ at. absurd (folder_no _ ends.kind at);
       folder_sure = λ _ at. folder_no _ ends.kind at;
-      out_cause = λ at. omega (arith, before.out_later, ends.out_cause at);
+      out_cause = λ at. omega (arith, before.out_later, ends.did.out_cause at);
       out_sure = λ all told _ over enough at.
           let going = before.going told (over c.requires.reads) in
-          let sure = rw before.same at (ends.out_sure (drop c.loop-bytes.taken told) going.here) in
+          let sure = rw before.same at (ends.did.out_sure (drop c.loop-bytes.taken told) going.here) in
           sure (room_left going (course_bytes task told enough)) at;
-      entropy_cause = λ at. omega (arith, before.entropy_later, ends.entropy_cause at);
+      entropy_cause = λ at. omega (arith, before.entropy_later, ends.did.entropy_cause at);
       entropy_sure = λ all told _ over enough at.
           let going = before.going told (over c.requires.reads) in
-          let sure = rw before.same at (ends.entropy_sure (drop c.loop-bytes.taken told) going.here) in
+          let sure = rw before.same at (ends.did.entropy_sure (drop c.loop-bytes.taken told) going.here) in
           sure (supply_left going (course_blocks task told enough)) at;
     }
