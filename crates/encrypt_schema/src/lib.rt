@@ -17,6 +17,7 @@
 #![tactic(auto)]
 
 mod command;
+pub mod laws;
 mod path;
 mod schema;
 
@@ -34,3 +35,4 @@ pub use schema::distinct::FEW;
 pub use schema::faults::{InfoFault, InfoKind, SchemaFault};
 pub use schema::names::is_named;
 pub use schema::policy::{Algorithm, KeyRef, Policy, TypeSet};
+pub use schema::shared_names::SharedNames;

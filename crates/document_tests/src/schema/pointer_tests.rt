@@ -5,7 +5,7 @@ use crate::schema::test_documents::{
     within,
 };
 use bson_tree::{Bytes, Names};
-use encrypt_schema::{InfoFault, InfoKind, Infos, KeyRef, Rows, SchemaFault};
+use encrypt_schema::{InfoFault, InfoKind, Infos, KeyRef, Rows, SchemaFault, SharedNames};
 use std::alloc::Global;
 
 /// `encrypt` in the schema of the field `a`.
@@ -39,7 +39,7 @@ fn pointer(alloc: Global, names: &[&[u8]]) -> Option<KeyRef> {
     for name in names {
         all.push(Bytes::from_slice(alloc, name).ok()?).ok()?;
     }
-    Some(KeyRef::Pointer(all))
+    Some(KeyRef::Pointer(SharedNames::new(alloc, all).ok()?))
 }
 
 /// Whether the rule of this number has this key.

@@ -58,7 +58,14 @@ pub has_key : (i : ℕ) (rows : List Row) (policy : Policy) (key : KeyRef)
     → (policy_at i rows).key ≡ key
 has_key i rows policy key there same = key_found i rows policy there ∙ same_key policy.key key (sym same)
 
-pub ruleset same_keys = (has_key, same_key, key_found)
+-- under the key of a rule whose key is the same a policy says the same
+pub under_same : (rows : List Row) (i : ℕ) (first policy made : Policy)
+    → Some first ≡ option_map (λ (row : Row). row.policy) (slice_get rows i)
+    → (policy_at i rows).key ≡ policy.key
+    → made ≡ record { algorithm = policy.algorithm; key = first.key; types = policy.types } → made ≡ policy
+under_same rows i first policy made there same under =
+    under ∙ ap (λ (key : KeyRef). record { algorithm = policy.algorithm; key = key; types = policy.types })
+    (sym (key_found i rows first there) ∙ same)
 
 -- rules of one key have one target
 pub shared_span : (rows : List Row) (root : Option At) (i j : ℕ) (name : Span)

@@ -8,6 +8,7 @@ ghost use Rattle.encrypt_schema.specs.Views.Stated.{is_spelled, key_stated, poin
 
 use crate::schema::policy::KeyRef;
 use crate::schema::separated::first_part;
+use crate::schema::shared_names::SharedNames;
 use bson_tree::{Bytes, Names};
 use fle_outside::Memory;
 use std::alloc::Global;
@@ -39,7 +40,10 @@ impl<'a> StatedKey<'a> {
     {
         match self {
             StatedKey::Id(id) => Ok(KeyRef::Id(id)),
-            StatedKey::Pointer(text) => Ok(KeyRef::Pointer(pointer_names(alloc, text)?)),
+            StatedKey::Pointer(text) => {
+                let names = pointer_names(alloc, text)?;
+                Ok(KeyRef::Pointer(SharedNames::new(alloc, names)?))
+            }
         }
     }
 }

@@ -1,13 +1,15 @@
 //! What a rule says of a field: the algorithm, the key and the types, as the MongoDB Client Side
 //! Encryption specification names them.
 
-ghost use Rattle.std.specs.Prelude.{◌≡◌, ◌≤◌, ◌==◌, length};
+ghost use Rattle.std.specs.Prelude.{◌≡◌, ◌≤◌, ◌==◌, length, IfOk};
 ghost use Rattle.std.specs.List.{list_any};
 ghost use Rattle.encrypt_schema.specs.Language.Policies.{are_types_of, is_same_key, is_same_policy};
 ghost use Rattle.encrypt_schema.specs.Paths.Classes.{is_same_path};
 
 use crate::schema::names::is_named;
-use bson_tree::{Bytes, Names};
+use crate::schema::shared_names::SharedNames;
+use bson_tree::Bytes;
+use fle_outside::Memory;
 use std::marker::Model;
 
 /// How a value is sealed.
@@ -26,7 +28,7 @@ pub enum KeyRef {
     Id([u8; 16]),
     /// The key with the alternate name that stands in the stored document at this path, the names of a JSON pointer
     /// (RFC 6901).
-    Pointer(Names),
+    Pointer(SharedNames),
 }
 
 impl KeyRef {
@@ -40,6 +42,19 @@ impl KeyRef {
                 are_same(names.as_slice(), others.as_slice())
             }
             _ => false,
+        }
+    }
+
+    /// The same key; the names of a pointer get another owner and aren't copied.
+    pub(crate) fn share(&self) -> Result<KeyRef, Memory>
+        ensures same { IfOk result (λ key. key ≡ self.now) }
+    {
+        match self {
+            KeyRef::Id(id) => Ok(KeyRef::Id(*id)),
+            KeyRef::Pointer(names) => match names.clone() {
+                Ok(names) => Ok(KeyRef::Pointer(names)),
+                Err(_) => Err(Memory),
+            },
         }
     }
 }
@@ -122,4 +137,17 @@ impl Policy {
             && self.types.is_subset(&other.types)
             && other.types.is_subset(&self.types)
     }
+}
+
+/// The same policy under this key, of which it becomes another owner.
+pub(crate) fn under_key(policy: Policy, key: &KeyRef) -> Result<Policy, Memory>
+    ensures under { IfOk result (λ p. p
+        ≡ record { algorithm = policy.algorithm; key = key.now; types = policy.types }) }
+{
+    let key = key.share()?;
+    Ok(Policy {
+        algorithm: policy.algorithm,
+        key,
+        types: policy.types,
+    })
 }
