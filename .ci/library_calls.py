@@ -4,6 +4,10 @@ import ctypes
 from reference.bson import spell
 
 NOTHING = b"\xa5"  # what stands at `out` before a call
+LETTERS = {"fle_open": b"o", "fle_seal": b"s", "fle_unseal": b"u", "fle_mark": b"m", "fle_keys_wanted": b"k",
+           "fle_keys_wanted_open": b"d", "fle_info_wanted": b"i",
+           "fle_seal_value": b"v", "fle_value_keys_wanted": b"w"}
+VALUES = "fle_seal_value", "fle_value_keys_wanted"
 
 
 class Slot(ctypes.Structure):
@@ -12,10 +16,10 @@ class Slot(ctypes.Structure):
 
 class Answer(ctypes.Structure):
     _fields_ = [("status", ctypes.c_uint32), ("reason", ctypes.c_uint32), ("file", ctypes.c_uint32),
-                ("place", ctypes.c_size_t), ("length", ctypes.c_size_t)]
+                ("place", ctypes.c_size_t), ("length", ctypes.c_size_t), ("random", ctypes.c_size_t)]
 
     def numbers(self):
-        return self.status, self.reason, self.file, self.place, self.length
+        return self.status, self.reason, self.file, self.place, self.length, self.random
 
 
 class Need(ctypes.Structure):
@@ -27,17 +31,22 @@ class Library:
 
     def __init__(self, path):
         self.calls, self.slot = ctypes.CDLL(path), Slot()
-        for name in ("fle_open", "fle_seal", "fle_unseal"):
+        for name in LETTERS:
             getattr(self.calls, name).restype = Answer
         self.calls.fle_needed.restype = Need
         self.said, self.told = bytearray(), bytearray()
 
     def call(self, name, arguments, room=None):
-        self.said += {"fle_open": b"o", "fle_seal": b"s", "fle_unseal": b"u"}[name]
+        self.said += LETTERS[name]
         words = [ctypes.byref(self.slot)]
-        for argument in arguments:
+        for number, argument in enumerate(arguments):
             self.said += len(argument).to_bytes(8, "little") + argument
+            if name in VALUES and number == 0:  # two flags: by a name, random
+                words.append(ctypes.c_bool(argument[0]))
+                continue
             words += [argument, ctypes.c_size_t(len(argument))]
+            if name == "fle_seal_value" and number == 1:
+                words.append(ctypes.c_bool(arguments[0][1]))
         out = ctypes.create_string_buffer(NOTHING * (room or 0), room or 1)
         if room is not None:
             self.said += room.to_bytes(8, "little")
@@ -79,4 +88,4 @@ def expect(came, numbers, written, room, what):
 
 def refusal(elements, refused):
     place, reason = refused
-    return 1, reason, 0, offset_of(elements, place), 0
+    return 1, reason, 0, offset_of(elements, place), 0, 0

@@ -6,10 +6,10 @@
  *     library stay SIDE CALLS FILES           seals so often: the most memory in KB after 1,000 calls and after all,
  *                                             and ns a call
  *
- * FILES are DB DRAWN KEY INFO MASTER COMMAND REPLY. DB is a name, DRAWN how many random bytes the command draws, the
- * others are paths: a key document, a collection info, a master key of 96 bytes, a command, and its marking reply,
- * which libmongocrypt asks for where ours marks. The sides are `fle` and, where it was compiled with LIBMONGOCRYPT,
- * `libmongocrypt`; the calls are open, first, seal and unseal. Before, each side opens what it and the other sealed. */
+ * FILES are DB KEY INFO MASTER COMMAND REPLY. DB is a name, the others are paths: a key document, a collection info, a
+ * master key of 96 bytes, a command, and its marking reply, which libmongocrypt asks for where ours marks. The sides
+ * are `fle` and, where it was compiled with LIBMONGOCRYPT, `libmongocrypt`; the calls are open, first, seal and unseal.
+ * Before, each side opens what it and the other sealed. */
 #define _GNU_SOURCE
 #include <stdio.h>
 #include <stdlib.h>
@@ -35,7 +35,8 @@ typedef struct {
 } subject;
 
 static const char *db;
-static bytes key, info, master, command, reply, blocks, sealed, out;
+static bytes key, info, master, command, reply, sealed, out;
+static uint8_t *blocks;
 static size_t room, begun;
 static fle_slot kept = FLE_SLOT, *opened;
 
@@ -55,6 +56,8 @@ static bytes file_of(const char *path) {
 
 /* ---- contrib/c */
 
+enum { FEW = 256, SPARE = 4096 }; /* random bytes, and room beside twice a command, that a call begins with */
+
 static size_t done(fle_answer answer) {
     if (answer.status != FLE_DONE) die("a call came to another end");
     return answer.length;
@@ -64,10 +67,20 @@ static void open_in(fle_slot *slot) {
     done(fle_open(slot, (const uint8_t *)db, strlen(db), key.at, key.size, info.at, info.size, master.at, master.size));
 }
 
-/* The random bytes that the command draws are asked of the system for each call. */
+/* With what fle.h says to begin with, and where that is too little once more with what is told. The random bytes are
+ * asked of the system for each call. */
 static void seal_in(fle_slot *slot) {
-    if (blocks.size && getrandom(blocks.at, blocks.size, 0) != (ssize_t)blocks.size) die("no random bytes");
-    out.size = done(fle_seal(slot, command.at, command.size, blocks.at, blocks.size, out.at, room));
+    size_t random = FEW, size = 2 * command.size + SPARE;
+    for (bool again = false;; again = true) {
+        if (getrandom(blocks, random, 0) != (ssize_t)random) die("no random bytes");
+        fle_answer answer = fle_seal(slot, command.at, command.size, blocks, random, out.at, size);
+        bool more = answer.status == FLE_ENTROPY || answer.status == FLE_NO_ROOM;
+        if (!more || again) {
+            out.size = done(answer);
+            return;
+        }
+        random = answer.random, size = answer.length;
+    }
 }
 
 static void open_one(void) {
@@ -198,13 +211,13 @@ static void look_at_answers(void) {
 
 static void begin(char **files, size_t opens) {
     db = files[0];
-    key = file_of(files[2]), info = file_of(files[3]), master = file_of(files[4]);
-    command = file_of(files[5]), reply = file_of(files[6]);
-    blocks.size = strtoul(files[1], NULL, 10);
-    room = fle_needed(command.size).room;
-    blocks.at = malloc(blocks.size + 1), sealed.at = malloc(room), out.at = malloc(room);
+    key = file_of(files[1]), info = file_of(files[2]), master = file_of(files[3]);
+    command = file_of(files[4]), reply = file_of(files[5]);
+    fle_need need = fle_needed(command.size);
+    room = need.room + 2 * command.size + SPARE;
+    blocks = malloc(need.random + FEW), sealed.at = malloc(room), out.at = malloc(room);
     opened = calloc(opens + 1, sizeof *opened);
-    if (!blocks.at || !sealed.at || !out.at || !opened) die("no memory");
+    if (!blocks || !sealed.at || !out.at || !opened) die("no memory");
     open_in(&kept);
 #ifdef LIBMONGOCRYPT
     handle = new_handle();
@@ -274,13 +287,13 @@ static void stay(void (*call)(void), long calls) {
 }
 
 int main(int argc, char **argv) {
-    if (argc == 12 && !strcmp(argv[1], "times")) {
+    if (argc == 11 && !strcmp(argv[1], "times")) {
         begin(argv + 5, atol(argv[4]));
         times(argv[2], atol(argv[3]), atol(argv[4]));
-    } else if (argc == 12 && !strcmp(argv[1], "count")) {
+    } else if (argc == 11 && !strcmp(argv[1], "count")) {
         begin(argv + 5, atol(argv[4]));
         for (long i = 0; i < atol(argv[4]); i++) call_of(argv[2], argv[3])();
-    } else if (argc == 11 && !strcmp(argv[1], "stay")) {
+    } else if (argc == 10 && !strcmp(argv[1], "stay")) {
         begin(argv + 4, 0);
         stay(call_of(argv[2], "seal"), atol(argv[3]));
     } else {

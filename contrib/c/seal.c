@@ -1,7 +1,7 @@
-/* seal DB KEYS INFOS MASTER < COMMAND: seals one command in process, opens it again and compares; writes the sealed one.
- * The status is that of the call that came to another end than FLE_DONE, or as the program's: 2 for other words, 5 where
- * a file can't be read, 6 where the output can't be written, 7 for want of random bytes, 8 for want of memory. It is 1
- * too where the command doesn't come back. But with 0, and perhaps a front with 6, nothing is written. */
+/* seal DB KEYS INFOS MASTER < COMMAND: seals one command in process, opens it again and compares; writes the sealed
+ * one. The status is that of the call that came to another end than FLE_DONE, or as the program's: 2 for other words, 5
+ * where a file can't be read, 6 where the output can't be written, 7 for want of random bytes, 8 for want of memory. It
+ * is 1 too where the command doesn't come back. But with 0, and perhaps a front with 6, nothing is written. */
 #define _GNU_SOURCE
 #include <errno.h>
 #include <stdio.h>
@@ -12,6 +12,8 @@
 #include "fle.h"
 
 enum { WORDS = 2, READ = 5, WRITE = 6 };
+/* What fle.h says to begin with: so many random bytes, and so much room beside twice the command's. */
+enum { FEW = 256, SPARE = 4096 };
 
 typedef struct {
     uint8_t *at;
@@ -60,6 +62,20 @@ static size_t done(fle_answer answer) {
     exit((int)answer.status);
 }
 
+/* A command sealed: by a call with few random bytes, or else by a second one, with what the first says it wants. */
+static bytes seal(fle_slot *slot, bytes command) {
+    size_t random = FEW, size = 2 * command.size + SPARE;
+    for (bool again = false;; again = true) {
+        uint8_t *blocks = random_bytes(random), *out = room(size);
+        fle_answer answer = fle_seal(slot, command.at, command.size, blocks, random, out, size);
+        free(blocks);
+        bool more = answer.status == FLE_ENTROPY || answer.status == FLE_NO_ROOM;
+        if (again || !more) return (bytes){out, done(answer)};
+        free(out);
+        random = answer.random, size = answer.length;
+    }
+}
+
 /* Writes bytes to standard output, whole; the process ends where they can't be written. */
 static void write_all(const uint8_t *at, size_t size) {
     if (fwrite(at, 1, size, stdout) != size || fclose(stdout)) exit(WRITE);
@@ -73,14 +89,13 @@ int main(int argc, char **argv) {
     fle_slot slot = FLE_SLOT;
     done(fle_open(&slot, (const uint8_t *)argv[1], strlen(argv[1]), keys.at, keys.size, infos.at, infos.size, master.at,
                   master.size));
-    fle_need need = fle_needed(command.size);
-    uint8_t *blocks = random_bytes(need.random), *sealed = room(need.room), *opened = room(need.room);
-    size_t length = done(fle_seal(&slot, command.at, command.size, blocks, need.random, sealed, need.room));
-    size_t again = done(fle_unseal(&slot, sealed, length, opened, need.room));
+    bytes sealed = seal(&slot, command);
+    uint8_t *opened = room(sealed.size);
+    size_t again = done(fle_unseal(&slot, sealed.at, sealed.size, opened, sealed.size));
     fle_close(&slot);
 
     int same = again == command.size && memcmp(opened, command.at, command.size) == 0;
-    if (same) write_all(sealed, length);
-    free(keys.at), free(infos.at), free(master.at), free(command.at), free(blocks), free(sealed), free(opened);
+    if (same) write_all(sealed.at, sealed.size);
+    free(keys.at), free(infos.at), free(master.at), free(command.at), free(sealed.at), free(opened);
     return same ? FLE_DONE : FLE_REFUSED;
 }

@@ -5,6 +5,10 @@
 // key. Then each command is a call of [Engine.Seal] before it is sent, each reply a call of [Engine.Unseal]. What isn't
 // sealed or opened as asked comes to an [Error], and to no bytes.
 //
+// Who asks servers for infos and keys has the filters from [Engine.InfoWanted], [Engine.KeysWanted] and
+// [Engine.KeysWantedToOpen]; [Engine.Mark] answers as a marking service does. [Engine.SealValue] seals one value under
+// a key that is named, whatever the rules: explicit encryption.
+//
 // Which values are sealed, and the bytes that come out, the library says, which is proved; this package carries bytes
 // to it and back, and is tested. Like the library it wipes no memory.
 package fle
@@ -22,8 +26,8 @@ import (
 	"sync"
 )
 
-// What a call that seals is handed at first, as fle.h says: few random bytes, which are enough for 16 values of the
-// random algorithm, and room for twice a command and some spare bytes; longest is what the library writes at most.
+// What a call is handed at first, as fle.h says: few random bytes, which are enough for 16 values of the random
+// algorithm, and room for twice a command and some spare bytes; longest is what the library writes at most.
 const (
 	few     = 256
 	spare   = 4096
@@ -60,25 +64,9 @@ func Open(db string, keys, infos, master []byte) (*Engine, error) {
 // An [Error] has status [Refused], [Malformed], [Limit], [EntropyFault], [Memory] or [NotOpen].
 func (engine *Engine) Seal(command []byte) ([]byte, error) {
 	command = append([]byte(nil), command...)
-	most := int(C.fle_needed(size(command)).random)
-	random, room := least(few, most), least(2*len(command)+spare, longest)
-	for {
-		blocks := make([]byte, random)
-		if _, err := rand.Read(blocks); err != nil {
-			return nil, &Error{Status: EntropyFault, cause: err}
-		}
-		answer, sealed := engine.write(room, func(out []byte) C.fle_answer {
-			return C.fle_seal(&engine.slot, at(command), size(command), at(blocks), size(blocks), at(out), size(out))
-		})
-		switch {
-		case answer.status == C.FLE_DONE:
-			return sealed, nil
-		case answer.status == C.FLE_ENTROPY && random < most:
-			random = most
-		default:
-			return nil, ended(answer, command)
-		}
-	}
+	return engine.draw(few, roomFor(command), command, func(blocks, out []byte) C.fle_answer {
+		return C.fle_seal(&engine.slot, at(command), size(command), at(blocks), size(blocks), at(out), size(out))
+	})
 }
 
 // Unseal gives a document, such as a reply, with each payload opened. It copies the document first.
@@ -104,6 +92,28 @@ func (engine *Engine) Close() error {
 	return nil
 }
 
+// draw makes a call that seals this document, with so many random bytes of crypto/rand and so much room; where these
+// are too few, it makes it once more with as many, and as much, as the call tells.
+func (engine *Engine) draw(
+	random, room int, document []byte, call func(blocks, out []byte) C.fle_answer,
+) ([]byte, error) {
+	for {
+		blocks := make([]byte, random)
+		if _, err := rand.Read(blocks); err != nil {
+			return nil, &Error{Status: EntropyFault, cause: err}
+		}
+		answer, sealed := engine.write(room, func(out []byte) C.fle_answer { return call(blocks, out) })
+		switch {
+		case answer.status == C.FLE_DONE:
+			return sealed, nil
+		case answer.status == C.FLE_ENTROPY && random < int(answer.random):
+			random, room = int(answer.random), int(answer.length)
+		default:
+			return nil, ended(answer, document)
+		}
+	}
+}
+
 // write makes a call with so much room; where it asks for more, which it does with nothing written, once more with as
 // much as that. Bytes come with the status done alone.
 func (engine *Engine) write(room int, call func(out []byte) C.fle_answer) (C.fle_answer, []byte) {
@@ -124,6 +134,11 @@ func (engine *Engine) inTurn(call func(out []byte) C.fle_answer, out []byte) C.f
 	engine.turn.Lock()
 	defer engine.turn.Unlock()
 	return call(out)
+}
+
+// roomFor is the room that a call has at first for what it makes of a document.
+func roomFor(document []byte) int {
+	return least(2*len(document)+spare, longest)
 }
 
 func least(one, other int) int {

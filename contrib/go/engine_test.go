@@ -166,6 +166,23 @@ func TestACommandIsNotWrittenTo(t *testing.T) {
 	}
 }
 
+// calls are all that an engine answers with bytes, each made of a document.
+func calls(engine *Engine) []func([]byte) ([]byte, error) {
+	return []func([]byte) ([]byte, error){
+		engine.Seal, engine.Unseal, engine.KeysWantedToOpen,
+		func(command []byte) ([]byte, error) { return engine.Mark("hr", command) },
+		func(command []byte) ([]byte, error) { return engine.InfoWanted("hr", command) },
+		func(command []byte) ([]byte, error) {
+			filter, _, err := engine.KeysWanted("hr", command)
+			return filter, err
+		},
+		func([]byte) ([]byte, error) { return engine.KeyWanted(ByName("none")) },
+		func([]byte) ([]byte, error) {
+			return engine.SealValue(ByName("hr-key"), Random, document(text("v", secret)))
+		},
+	}
+}
+
 func TestClosedEngines(t *testing.T) {
 	closed, command := opened(t, "people.schemas.bson"), file(t, "insert.bson")
 	for range [2]int{} {
@@ -174,7 +191,7 @@ func TestClosedEngines(t *testing.T) {
 		}
 	}
 	for _, engine := range []*Engine{closed, new(Engine)} {
-		for _, call := range []func([]byte) ([]byte, error){engine.Seal, engine.Unseal} {
+		for _, call := range calls(engine) {
 			bytesOf, err := call(command)
 			if told := refusal(t, bytesOf, err); !reflect.DeepEqual(told, &Error{Status: NotOpen}) {
 				t.Error(told)
@@ -218,6 +235,29 @@ func TestGoroutinesTakeTurns(t *testing.T) {
 				}
 			}
 		}(people[number])
+	}
+	all.Wait()
+}
+
+// Calls of all sorts on one engine: each answers as it does alone.
+func TestCallsOfAllSortsTakeTurns(t *testing.T) {
+	engine, command := opened(t, "people.schemas.bson"), file(t, "insert.bson")
+	var all sync.WaitGroup
+	for number, call := range calls(engine) {
+		wanted, err := call(command)
+		if err != nil {
+			t.Fatal(err)
+		}
+		all.Add(1)
+		go func(number int, call func([]byte) ([]byte, error)) {
+			defer all.Done()
+			for turn := 0; turn < 50; turn++ {
+				bytesOf, err := call(command)
+				if err != nil || len(bytesOf) != len(wanted) || number < 7 && !bytes.Equal(bytesOf, wanted) {
+					t.Errorf("call %d answers otherwise beside others: %v", number, err)
+				}
+			}
+		}(number, call)
 	}
 	all.Wait()
 }

@@ -17,6 +17,7 @@ const (
 	Memory       Status = 8  // no memory could be had
 	Limit        Status = 9  // the document has more than 16,777,216 bytes, or its sealed form above 48,000,000
 	NotOpen      Status = 11 // the engine was closed, or never opened
+	NoId         Status = 12 // a key is named by an id that hasn't 16 bytes
 )
 
 // String is the name of the status.
@@ -101,6 +102,8 @@ func (told *Error) Error() string {
 		return fmt.Sprintf("fle: %v: %s in document %d of %s", told.Status, told.Reason, told.Place, told.File)
 	case Limit:
 		return fmt.Sprintf("fle: %v: %s", told.Status, told.Reason)
+	case NoId:
+		return fmt.Sprintf("fle: %v: the id of a key has 16 bytes", told.Status)
 	case Words:
 		return fmt.Sprintf("fle: %v: the name of the database has no byte, or more than 63", told.Status)
 	}

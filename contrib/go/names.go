@@ -20,6 +20,7 @@ var names = map[string]map[uint32]string{
 		// made from errors.tsv: call
 		10: "NoRoom",
 		11: "NotOpen",
+		12: "NoId",
 		// end
 	},
 	"reason": {

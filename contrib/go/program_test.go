@@ -78,6 +78,50 @@ func TestDeterministicValuesAreSealedAsByTheProgram(t *testing.T) {
 	}
 }
 
+// The example commands, each with infos that have rules for its collection.
+var underRules = map[string]string{
+	"insert.bson": "people.schemas.bson", "find.bson": "people.schemas.json", "delete.bson": "people.schemas.bson",
+	"insert-staff.bson": "staff.schemas.bson", "update.bson": "staff.schemas.json", "ping.bson": "people.schemas.bson",
+	"insert-scores.bson": "scores.schemas.json", "insert-clients.bson": "clients.schemas.json",
+}
+
+func TestMarkingRepliesAreTheProgramsOwn(t *testing.T) {
+	for command, infos := range underRules {
+		wanted, line := program(t, file(t, command), "mark", "hr", infos)
+		reply, err := opened(t, infos).Mark("hr", file(t, command))
+		if line != "" || err != nil || !bytes.Equal(reply, wanted) {
+			t.Errorf("%s is marked otherwise: %s, %v", command, line, err)
+		}
+	}
+}
+
+// A value that is sealed by itself has the payload that it has in a command which the program sealed.
+func TestValuesAreSealedAsByTheProgram(t *testing.T) {
+	words := []string{"encrypt", "hr", "keys.bson", "people.schemas.bson", "EXAMPLE-ONLY.master"}
+	command, line := program(t, file(t, "insert.bson"), words...)
+	engine, plain := opened(t, "people.schemas.bson"), document(text("ssn", secret))
+	for _, key := range []Key{ByID(idOf(vault(t)[0])), ByName("hr-key")} {
+		bytesOf, err := engine.SealValue(key, Deterministic, plain)
+		if line != "" || err != nil || !bytes.Contains(command, bytesOf[4:len(bytesOf)-1]) {
+			t.Errorf("a value is sealed otherwise: %s, %v", line, err)
+		}
+	}
+}
+
+func TestTheProgramOpensValues(t *testing.T) {
+	engine, plain := opened(t, "people.schemas.bson"), document(text("v", secret))
+	for _, algorithm := range []Algorithm{Deterministic, Random} {
+		bytesOf, err := engine.SealValue(ByName("audit"), algorithm, plain)
+		if err != nil {
+			t.Fatal(err)
+		}
+		again, line := program(t, bytesOf, "decrypt", "keys.bson", "EXAMPLE-ONLY.master")
+		if line != "" || !bytes.Equal(again, plain) {
+			t.Errorf("a value comes back otherwise: %s", line)
+		}
+	}
+}
+
 // A refusal has the status and the reason of the program's line, and the fields that fle-explain finds for it.
 func TestRefusalsAreTheProgramsOwn(t *testing.T) {
 	for _, one := range refused {

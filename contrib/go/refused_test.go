@@ -92,6 +92,7 @@ func TestMessages(t *testing.T) {
 		{Error{Status: Limit, Reason: "Output"}, "Limit: Output"},
 		{Error{Status: Words}, "Words: the name of the database has no byte, or more than 63"},
 		{Error{Status: NotOpen}, "NotOpen"},
+		{Error{Status: NoId}, "NoId: the id of a key has 16 bytes"},
 		{Error{Status: 99}, "number 99"},
 	} {
 		if said := one.told.Error(); said != "fle: "+one.said {

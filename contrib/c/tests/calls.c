@@ -3,7 +3,9 @@
  * A call is a letter and its arguments; an argument of bytes is a length of eight bytes, the lowest first, and so many
  * bytes; room is a length alone.
  *   o db keys infos master    s command blocks room    u document room    c    n size
- * Behind each but c: five numbers of eight bytes (for n two), and as many bytes as there was room, A5 before the call.
+ *   m db command room    k db command room    d document room (the keys of a document)    i db command room
+ *   v how key document blocks room    w how key room: how is two bytes, by a name (1) or by an id, random (1) or not
+ * Behind each but c: six numbers of eight bytes (for n two), and as many bytes as there was room, A5 before the call.
  *
  * With a number of slots each call is made on so many at once, on each by a thread of its own, which ends before the
  * next call: so a slot is opened by one thread, sealed under by another, and closed by a third. All have to answer
@@ -61,6 +63,7 @@ static void put(size_t n) {
 
 static void tell(fle_answer answer, bytes out) {
     put(answer.status), put(answer.reason), put(answer.file), put(answer.place), put(answer.length);
+    put(answer.random);
     if (out.size) fwrite(out.at, 1, out.size, stdout);
 }
 
@@ -75,6 +78,19 @@ static void *make(void *of) {
         t->answer = fle_seal(&t->slot, in[0].at, in[0].size, in[1].at, in[1].size, out.at, out.size);
     } else if (t->letter == 'u') {
         t->answer = fle_unseal(&t->slot, in[0].at, in[0].size, out.at, out.size);
+    } else if (t->letter == 'm') {
+        t->answer = fle_mark(&t->slot, in[0].at, in[0].size, in[1].at, in[1].size, out.at, out.size);
+    } else if (t->letter == 'k') {
+        t->answer = fle_keys_wanted(&t->slot, in[0].at, in[0].size, in[1].at, in[1].size, out.at, out.size);
+    } else if (t->letter == 'v') {
+        t->answer = fle_seal_value(&t->slot, in[0].at[0], in[1].at, in[1].size, in[0].at[1], in[2].at, in[2].size,
+                                   in[3].at, in[3].size, out.at, out.size);
+    } else if (t->letter == 'w') {
+        t->answer = fle_value_keys_wanted(&t->slot, in[0].at[0], in[1].at, in[1].size, out.at, out.size);
+    } else if (t->letter == 'i') {
+        t->answer = fle_info_wanted(&t->slot, in[0].at, in[0].size, in[1].at, in[1].size, out.at, out.size);
+    } else if (t->letter == 'd') {
+        t->answer = fle_keys_wanted_open(&t->slot, in[0].at, in[0].size, out.at, out.size);
     } else {
         fle_close(&t->slot);
     }
@@ -101,15 +117,21 @@ static void make_at_once(turn *turns, size_t slots) {
 static bool alike(const turn *a, const turn *b) {
     const fle_answer *x = &a->answer, *y = &b->answer;
     return x->status == y->status && x->reason == y->reason && x->file == y->file && x->place == y->place &&
-           x->length == y->length && memcmp(a->out.at, b->out.at, a->out.size) == 0;
+           x->length == y->length && x->random == y->random && memcmp(a->out.at, b->out.at, a->out.size) == 0;
+}
+
+/* How many arguments of bytes a call has. */
+static int arguments_of(int letter) {
+    if (letter == 'o' || letter == 'v') return 4;
+    return letter == 'c' ? 0 : letter == 'u' || letter == 'd' ? 1 : 2;
 }
 
 /* Reads a call's arguments, makes it on each slot, and tells the first one's answer, which is that of all. */
 static void run(turn *turns, size_t slots, bool threads, int letter) {
-    const int arguments = letter == 'o' ? 4 : letter == 's' ? 2 : letter == 'u' ? 1 : 0;
+    const int arguments = arguments_of(letter);
     bytes in[4];
     for (int i = 0; i < arguments; i++) in[i] = argument();
-    const size_t size = letter == 's' || letter == 'u' ? number() : 0;
+    const size_t size = letter == 'o' || letter == 'c' ? 0 : number();
     for (size_t i = 0; i < slots; i++) {
         turns[i].letter = letter, turns[i].in = in, turns[i].out = room(size);
         memset(&turns[i].answer, 0, sizeof turns[i].answer);

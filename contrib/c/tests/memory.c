@@ -1,7 +1,8 @@
-/* memory DB KEYS INFOS MASTER < COMMAND: makes each call over and over, with memory that ends at its first allocation,
- * at its second, and so on, until the call comes through. Before that each answers FLE_MEMORY and writes nothing:
- * fle_open leaves an empty slot, though an engine was there, fle_seal and fle_unseal leave the engine, which answers next
- * as it should. Ends with 0, or with a line that says what was otherwise. Linked with --wrap=malloc,--wrap=realloc. */
+/* memory DB KEYS INFOS MASTER NAME < COMMAND: makes each call over and over, with memory that ends at its first
+ * allocation, at its second, and so on, until the call comes through. Before that each answers FLE_MEMORY and writes
+ * nothing: fle_open leaves an empty slot, though an engine was there, the others leave the engine, which answers next
+ * as it should. Calls that ask for keys are those of an engine without any; a value is sealed under the key of NAME.
+ * Ends with 0, or with a line that says what was otherwise. Linked with --wrap=malloc,--wrap=realloc. */
 #include <stdio.h>
 #include <stdlib.h>
 #include <string.h>
@@ -33,12 +34,15 @@ void *__wrap_malloc(size_t size) { return ends() ? NULL : __real_malloc(size); }
 
 void *__wrap_realloc(void *at, size_t size) { return ends() ? NULL : __real_realloc(at, size); }
 
-static bytes db, keys, infos, master, command, sealed, out;
+static bytes db, keys, infos, master, command, name, sealed, out;
 static uint8_t blocks[ROOM];
+static const uint8_t value[] = "\x0c\0\0\0\x10v\0\1\0\0\0"; /* {v: 1} */
 static fle_slot slot = FLE_SLOT;
+static bool keyless; /* whether engines are opened without keys */
 
 static fle_answer open_engine(void) {
-    return fle_open(&slot, db.at, db.size, keys.at, keys.size, infos.at, infos.size, master.at, master.size);
+    return fle_open(&slot, db.at, db.size, keys.at, keyless ? 0 : keys.size, infos.at, infos.size, master.at,
+                    master.size);
 }
 
 static fle_answer seal(void) {
@@ -46,6 +50,30 @@ static fle_answer seal(void) {
 }
 
 static fle_answer unseal(void) { return fle_unseal(&slot, sealed.at, sealed.size, out.at, ROOM); }
+
+static fle_answer mark(void) {
+    return fle_mark(&slot, db.at, db.size, command.at, command.size, out.at, ROOM);
+}
+
+static fle_answer ask_info(void) {
+    return fle_info_wanted(&slot, db.at, db.size, command.at, command.size, out.at, ROOM);
+}
+
+static fle_answer ask_keys(void) {
+    return fle_keys_wanted(&slot, db.at, db.size, command.at, command.size, out.at, ROOM);
+}
+
+static fle_answer ask_to_open(void) {
+    return fle_keys_wanted_open(&slot, sealed.at, sealed.size, out.at, ROOM);
+}
+
+static fle_answer ask_for_key(void) {
+    return fle_value_keys_wanted(&slot, true, name.at, name.size, out.at, ROOM);
+}
+
+static fle_answer seal_value(void) {
+    return fle_seal_value(&slot, true, name.at, name.size, true, value, sizeof value, blocks, 16, out.at, ROOM);
+}
 
 static void want(bool holds, const char *what, size_t allocations) {
     if (holds) return;
@@ -101,6 +129,22 @@ static void try_call(fle_answer (*call)(void), const bytes *wanted) {
     }
 }
 
+/* What a call writes with plenty of memory, which is some byte. */
+static void make(fle_answer (*call)(void), bytes *made) {
+    want(open_engine().status == FLE_DONE, "fle_open with plenty", 0);
+    const fle_answer answer = call();
+    want(answer.status == FLE_DONE && answer.length > 0, "a call with plenty", 0);
+    made->size = answer.length;
+    memcpy(made->at, out.at, made->size);
+}
+
+/* The same call with ever more allocations. */
+static void try_made(fle_answer (*call)(void)) {
+    static bytes made;
+    make(call, &made);
+    try_call(call, &made);
+}
+
 static void read_all(FILE *file, bytes *all) {
     all->size = file ? fread(all->at, 1, ROOM, file) : ROOM;
     if (all->size == ROOM) exit(5);
@@ -108,20 +152,19 @@ static void read_all(FILE *file, bytes *all) {
 }
 
 int main(int count, char **words) {
-    if (count != 5) return 2;
-    db.size = strlen(words[1]);
-    memcpy(db.at, words[1], db.size);
+    if (count != 6) return 2;
+    db.size = strlen(words[1]), name.size = strlen(words[5]);
+    memcpy(db.at, words[1], db.size), memcpy(name.at, words[5], name.size);
     read_all(fopen(words[2], "rb"), &keys), read_all(fopen(words[3], "rb"), &infos);
     read_all(fopen(words[4], "rb"), &master), read_all(stdin, &command);
 
-    want(open_engine().status == FLE_DONE, "fle_open with plenty", 0);
-    const fle_answer answer = seal();
-    want(answer.status == FLE_DONE, "fle_seal with plenty", 0);
-    sealed.size = answer.length;
-    memcpy(sealed.at, out.at, sealed.size);
+    make(seal, &sealed);
     try_open();
     try_call(seal, &sealed);
     try_call(unseal, &command);
+    try_made(mark), try_made(ask_info), try_made(seal_value);
+    keyless = true;
+    try_made(ask_keys), try_made(ask_to_open), try_made(ask_for_key);
     fle_close(&slot);
     return 0;
 }

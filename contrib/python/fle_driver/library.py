@@ -14,7 +14,7 @@ from .process import Bytes
 from .walk import place_at
 
 FOUND = "libfle.so.0"
-FEW = 256  # random bytes that a call is handed at first: enough for 16 values
+FEW, SPARE = 256, 4096  # what a call is handed at first: random bytes for 16 values, and room beside twice a document
 
 
 class Call(enum.IntEnum):
@@ -34,21 +34,14 @@ class Answer(ctypes.Structure):
     """What a call answers, as contrib/c/fle.h has it."""
 
     _fields_ = [("status", ctypes.c_uint32), ("reason", ctypes.c_uint32), ("file", ctypes.c_uint32),
-                ("place", ctypes.c_size_t), ("length", ctypes.c_size_t)]
-
-
-class Need(ctypes.Structure):
-    """What a command may want at most."""
-
-    _fields_ = [("room", ctypes.c_size_t), ("random", ctypes.c_size_t)]
+                ("place", ctypes.c_size_t), ("length", ctypes.c_size_t), ("random", ctypes.c_size_t)]
 
 
 SLOT = ctypes.POINTER(Slot)
 BYTES = ctypes.c_char_p, ctypes.c_size_t
 # What each call answers, and what it takes: with an argument too few it isn't called.
 FORMS = {"fle_open": (Answer, (SLOT, *BYTES * 4)), "fle_seal": (Answer, (SLOT, *BYTES * 3)),
-         "fle_unseal": (Answer, (SLOT, *BYTES * 2)), "fle_close": (None, (SLOT,)),
-         "fle_needed": (Need, (ctypes.c_size_t,))}
+         "fle_unseal": (Answer, (SLOT, *BYTES * 2)), "fle_close": (None, (SLOT,))}
 
 
 def loaded() -> Optional[ctypes.CDLL]:
@@ -107,36 +100,26 @@ class Engine:
         return opened
 
     def seal(self, command: Bytes) -> bytes:
-        """A command, sealed with random bytes of the system; with more of them where it draws more than a few."""
-        whole = bytes(command)
-        need = self._calls.fle_needed(len(whole))
-        answer = self._answer(self._calls.fle_seal, [whole, os.urandom(min(FEW, need.random))], whole)
-        if answer is None:
-            answer = self._answer(self._calls.fle_seal, [whole, os.urandom(need.random)], whole, True)
-        assert answer is not None
-        return answer
+        """A command, sealed with random bytes of the system."""
+        return self._answer(self._calls.fle_seal, bytes(command), True, FEW)
 
     def unseal(self, document: Bytes) -> bytes:
         """A document, opened."""
-        whole = bytes(document)
-        answer = self._answer(self._calls.fle_unseal, [whole], whole, True)
-        assert answer is not None
-        return answer
+        return self._answer(self._calls.fle_unseal, bytes(document), False, 0)
 
-    def _answer(self, call: Any, arguments: Sequence[bytes], document: bytes, enough: bool = False) -> Optional[bytes]:
-        """What a call writes; None where it draws more blocks than these. With too little room nothing is written, and
-        the same call is made again."""
-        room = 2 * len(document) + 4096
+    def _answer(self, call: Any, document: bytes, draws: bool, random: int) -> bytes:
+        """What a call writes. With too few random bytes or too little room it writes nothing, and is made once more
+        with as much as it tells."""
+        room, again = 2 * len(document) + SPARE, False
         while True:
             out = ctypes.create_string_buffer(room)
+            arguments = [document, os.urandom(random)] if draws else [document]
             answer = self._opened().call(call, arguments, out)
             if answer.status == 0:
                 return out.raw[:answer.length]
-            if answer.status == Status.EntropyFault and not enough:
-                return None
-            if answer.status != Call.NoRoom:
+            if again or answer.status not in (Status.EntropyFault, Call.NoRoom):
                 raise self._end(answer, document)
-            room = answer.length
+            random, room, again = answer.random, answer.length, True
 
     def _end(self, answer: Answer, document: bytes) -> Ended:
         """What a call raises: the same as a process that says so in its line."""

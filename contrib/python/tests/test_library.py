@@ -11,7 +11,7 @@ from pathlib import Path
 from unittest import mock
 
 from fle_driver import Closed, FaultyFile, FileFault, Fle, InputFault, Limit, Reason, Refused
-from fle_driver.library import FORMS, FOUND, Answer, Need, Part, loaded
+from fle_driver.library import FORMS, FOUND, SPARE, Answer, Part, loaded
 from fle_driver.walk import place_at
 
 from .samples import FILES, KEYS, MASTER, PERSON, SCHEMAS, binary, element, insert, integer, spelled, string
@@ -122,16 +122,36 @@ class Files(unittest.TestCase):
             self.assertEqual(self.told(master=none)[0], str(none))
 
 
+@unittest.skipUnless(loaded(), "no libfle.so.0 that the system finds")
+class Handed(unittest.TestCase):
+    def test_random_bytes_are_few_and_then_those_told(self):
+        with Fle(*FILES) as fle:
+            for count, wanted in ((0, [256]), (16, [256]), (17, [256, 17 * 16]), (300, [256, 300 * 16])):
+                command = insert(PERSON, *[spelled(string("salary", "the same"))] * count)
+                with mock.patch("os.urandom", wraps=os.urandom) as drawn:
+                    sealed = fle.encrypt(command)
+                    self.assertEqual([call[0][0] for call in drawn.call_args_list], wanted)
+                    self.assertEqual(fle.decrypt(sealed), command)
+                    self.assertEqual(drawn.call_count, len(wanted))
+
+    def test_more_room_than_the_first(self):
+        command = insert(*(spelled(string("ssn", str(number))) for number in range(400)))
+        with Fle(*FILES) as fle:
+            sealed = fle.encrypt(command)
+            self.assertGreater(len(sealed), 2 * len(command) + SPARE)
+            self.assertEqual(fle.decrypt(sealed), command)
+
+
 class Calls:
     """A library that takes each call with all its arguments, and answers nothing."""
 
     def __getattr__(self, name):
-        answer, arguments = FORMS[name]
+        _, arguments = FORMS[name]
 
         def call(*words):
             if len(words) != len(arguments):
                 raise AssertionError(f"{name} called with {len(words)} of {len(arguments)} arguments")
-            return Need(64, 64) if answer is Need else Answer()
+            return Answer()
         return call
 
 

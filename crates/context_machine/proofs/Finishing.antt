@@ -1,8 +1,10 @@
 -- What is ready: what is known of a command once it is sealed, or a block couldn't be drawn, and of a document once it
 -- is opened, or isn't.
-use Rattle.std.proofs.Common.{◌≡◌, ◌∙◌, ◌++◌, ℕ, List, Result, Ok, Err, drop, length, take}
+use Rattle.std.proofs.Common.{◌≡◌, ◌∙◌, ◌++◌, ◌≤◌, ℕ, List, Result, Ok, Err, drop, length, take}
 use Rattle.std.proofs.Common.{ap, arith, refl, subst, sym, take_at}
+use Rattle.std.proofs.lemmas.List.{length-take}
 use Rattle.bson_codec.specs.Borrowed.{At}
+use Rattle.bson_tree.specs.Spelling.{doc_bytes}
 use Rattle.data_key.specs.declared.key_doc.KeyDoc.{KeyDoc}
 use Rattle.fle_outside.specs.Seen.{EntropySeen}
 use Rattle.doc_rewrite.specs.Keys.{GivesLongIds, Table, key_by_id, key_in}
@@ -92,6 +94,15 @@ opens_as document kept table now bytes n r d is made same whole =
       whole.0,
       ap (λ (y : OpenedDone). y.bytes) made ∙ same ∙ whole.2,
     )
+
+-- it has at most as many bytes as the document
+pub short_as : (document : At) (kept : List KeyDoc) (table : Table) (now bytes : List ℕ) (n : ℕ)
+    (r : OpensWith) (d : OpenedDone) → record { document = document; kept = kept; table = table } ≡ r
+    → d ≡ record { document = document; kept = kept; table = table; bytes = bytes } → bytes ≡ take n now
+    → n ≤ length (doc_bytes document.tree) → length d.bytes ≤ length (doc_bytes r.document.tree)
+short_as document kept table now bytes n r d is made same few =
+    subst (λ (x : OpensWith). length d.bytes ≤ length (doc_bytes x.document.tree)) is
+    (omega (arith, few, ap (λ (y : OpenedDone). length y.bytes) made, ap length same, length-take n now))
 
 -- it isn't opened
 pub stays_as : (document : At) (kept : List KeyDoc) (table : Table) (now : List ℕ) (spot : Spot)

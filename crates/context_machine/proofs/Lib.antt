@@ -16,6 +16,7 @@ pub mod EqualNeeds
 pub mod FoundKeys
 mod ByIds
 pub mod Vaults
+mod Unmet
 mod EqualOutputs
 pub mod Keyed
 pub mod Alike

@@ -7,8 +7,10 @@ use Rattle.bson_tree.specs.Spelling.{doc_bytes}
 use Rattle.command_marker.specs.Commands.{Command}
 use Rattle.encrypt_schema.specs.declared.command.marks.Mark.{Mark}
 use Rattle.doc_rewrite.specs.Plans.{Planned, StandsFor}
-use Rattle.doc_rewrite.specs.Sites.{Site, grown, sites_of}
+use Rattle.doc_rewrite.specs.Sites.{Site, draws_of, grown, sites_of}
 use Rattle.encrypt_schema.specs.Commands.Targets.{rows_in}
+use Rattle.encrypt_schema.specs.Commands.Visits.{roles}
+use Rattle.encrypt_schema.specs.Language.Row.{Row}
 use Rattle.encrypt_schema.specs.Language.Collection.{Collection}
 use Rattle.doc_rewrite.specs.Keys.{Table, key_in}
 use Rattle.doc_rewrite.specs.Sealing.{HasKeys}
@@ -110,3 +112,18 @@ clear_plan info command plan none sites size stands most = record {
   stands = stands;
   most = most;
 }
+
+-- the values of its marks are those of a marked command
+pub marked_values : (info : Option Collection) (command : At) (marked : Command) (rows : List Row) (ms : List Mark)
+    → marked ≡ record { rows = rows_in info; command = command } → rows ≡ marked.rows
+    → ms ≡ roles marked.rows marked.command.start marked.command.tree
+    → sites_of rows command ms ≡ values_of info command
+marked_values info command marked rows ms is ruled marks =
+    ap (λ (rs : List Row). sites_of rs command ms) ruled
+    ∙ (ap (sites_of marked.rows command) marks
+    ∙ ap (λ (m : Command). sites_of m.rows command (roles m.rows m.command.start m.command.tree)) is)
+
+-- without an info no block is drawn
+pub clear_draws : (info : Option Collection) (command : At) → info ≡ None → 0 ≡ draws_of (values_of info command)
+clear_draws info command none =
+    ap draws_of (no_values command ∙ ap (λ (o : Option Collection). values_of o command) (sym none))

@@ -1,5 +1,6 @@
 -- MongoDB `find` and `listCollections`: the filters by which a caller looks for what a context needs
 use Rattle.std.specs.Prelude.{ℕ, ◌+◌, List, [], ◌∷◌, codes, decimal, length, map}
+use Rattle.bson_tree.specs.Spelling.{doc_bytes}
 use Rattle.bson_tree.specs.Tree.{Tree, Items, leaf, node, no_items, item}
 use Rattle.bson_codec.specs.Layout.{string_bytes, binary_bytes}
 use Rattle.payload6.specs.Needs.{Need, Id, Name}
@@ -34,6 +35,11 @@ unfoldable pub key_filter : List (List ℕ) → List (List ℕ) → Items
 key_filter ids names = item (codes "$or") (node 0x04
     (item (codes "0") (node 0x03 (among (codes "_id") (map uuid ids)))
     (item (codes "1") (node 0x03 (among (codes "keyAltNames") (map text names))) no_items))) no_items
+
+-- the bytes of the filter of the keys that are needed; no byte where none is
+abbrev pub filter_of : List NeedAt → List ℕ
+filter_of [] = []
+filter_of (n ∷ ns) = doc_bytes (key_filter (ids_of (n ∷ ns)) (names_of (n ∷ ns)))
 
 -- how the code writes them: what one of the two lists has
 abbrev pub listed : Choice → List NeedAt → List Tree

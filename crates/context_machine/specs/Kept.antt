@@ -38,6 +38,16 @@ abbrev pub lacking : List KeyDoc → List NeedAt → ℕ
 lacking kept [] = 0
 lacking kept (n ∷ ns) = (if is_met n.need kept then 0 else 1) + lacking kept ns
 
+-- a need before others, unless it is met
+abbrev pub unless_met : Bool → NeedAt → List NeedAt → List NeedAt
+unless_met true n ns = ns
+unless_met false n ns = n ∷ ns
+
+-- the needs that no key of these meets
+abbrev pub unmet : List KeyDoc → List NeedAt → List NeedAt
+unmet keys [] = []
+unmet keys (n ∷ ns) = unless_met (is_met n.need keys) n (unmet keys ns)
+
 -- one key after another
 abbrev pub all_fed : List NeedAt → List KeyDoc → List KeyDoc → List KeyDoc
 all_fed needs kept [] = kept

@@ -6,9 +6,9 @@ ghost use Rattle.doc_rewrite.specs.Finding.{found_at};
 ghost use Rattle.doc_rewrite.specs.Founds.{payloads_of};
 ghost use Rattle.doc_rewrite.specs.Opened.{first_wrong, misshapen};
 ghost use Rattle.doc_rewrite.specs.Opening.{room_to_open};
-ghost use Rattle.context_machine.specs.Asks.{key_filter};
+ghost use Rattle.context_machine.specs.Asks.{filter_of, key_filter};
 ghost use Rattle.context_machine.specs.Decrypting.{IsMisshapen};
-ghost use Rattle.context_machine.specs.Kept.{fed};
+ghost use Rattle.context_machine.specs.Kept.{fed, unmet};
 ghost use Rattle.context_machine.specs.Needs.{first_needs, ids_of, needs_seen};
 ghost use Rattle.context_machine.specs.Rings.{AreOpened, by_ids, needs_in, ring};
 ghost use Rattle.context_machine.specs.Tables.{KeysFail};
@@ -19,7 +19,7 @@ use crate::keys_asked::key_filter;
 use crate::need::NeedAt;
 use crate::opened_keys::{KeysStop, open_keys, open_keys_cached};
 use crate::payload_needs::PayloadNeeds;
-use crate::vault_keys::open_found;
+use crate::vault_keys::{filter_beside, open_found};
 use crate::wanted::Wanted;
 use bson_codec::RawDoc;
 use crypto_hooks::Block256;
@@ -98,6 +98,16 @@ impl<'a> DecryptNeedKeys<'a> {
             ≡ doc_bytes (key_filter (ids_of (first_needs (needs_in self.now.document))) [])) }
     {
         key_filter(alloc, self.wanted.needs())
+    }
+
+    /// The filter of those keys that a vault lacks, likewise; no byte where it lacks none. `Memory` where there is none
+    /// for it.
+    pub fn op_beside(&self, alloc: Global, keys: &Vault) -> Result<Vec<u8>, Memory>
+        ensures filter { IfOk result (λ out. out.items
+            ≡ filter_of (unmet keys.now (first_needs (needs_in self.now.document)))) }
+    {
+        let out = filter_beside(alloc, self.wanted.needs(), keys)?;
+        Ok(out)
     }
 
     /// The first payload that needs each key, in reading order.

@@ -1,6 +1,7 @@
 //! Opening a document, once its keys are there (libmongocrypt's state READY).
 
 ghost use Rattle.std.specs.Prelude.{◌≡◌, ◌≤◌, length, map, IfErr, IfOk};
+ghost use Rattle.bson_tree.specs.Spelling.{doc_bytes};
 ghost use Rattle.doc_rewrite.specs.Finding.{HasKeysFor, found_at};
 ghost use Rattle.doc_rewrite.specs.Founds.{payloads_of};
 ghost use Rattle.doc_rewrite.specs.Keys.{key_by_id};
@@ -61,7 +62,8 @@ impl<'a> DecryptReady<'a> {
         self.asked.document()
     }
 
-    /// Opens the document: the value of its original type in the place of each payload. It allocates nothing.
+    /// Opens the document: the value of its original type in the place of each payload. The opened document has at most
+    /// as many bytes as the document. It allocates nothing.
     ///
     /// Otherwise the first payload, in reading order, whose tag, padding or value is wrong.
     pub fn finalize<B: Block256>(self, hooks: &B) -> Result<DecryptDone<'a>, Spot>
@@ -74,6 +76,7 @@ impl<'a> DecryptReady<'a> {
         }) }
         ensures opened { IfOk result (λ d.
             OpensTo (ring_of (key_by_id self.entry.table.ids)) self.entry.document d.bytes) }
+        ensures short { IfOk result (λ d. length d.bytes ≤ length (doc_bytes self.entry.document.tree)) }
         ensures refused { IfErr result (StaysSealed (ring_of (key_by_id self.entry.table.ids)) self.entry.document) }
     {
         let DecryptReady {

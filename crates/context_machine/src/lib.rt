@@ -56,3 +56,4 @@ pub use opened_keys::KeysStop;
 pub use payload6::Need;
 pub use ready::Ready;
 pub use replying::ReplyStop;
+pub use vault_keys::{filter_beside, key_by};

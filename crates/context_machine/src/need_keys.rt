@@ -2,7 +2,8 @@
 
 ghost use Rattle.std.specs.Prelude.{◌≡◌, ◌<◌, ◌≤◌, length, option_copied, option_map, slice_get, IfErr, IfOk, OnErr};
 ghost use Rattle.bson_tree.specs.Spelling.{doc_bytes};
-ghost use Rattle.context_machine.specs.Asks.{key_filter};
+ghost use Rattle.context_machine.specs.Asks.{filter_of, key_filter};
+ghost use Rattle.context_machine.specs.Kept.{unmet};
 ghost use Rattle.context_machine.specs.Needs.{ids_of, names_of, needs_seen};
 ghost use Rattle.context_machine.specs.Ready.{IsPlanOf, IsReady, IsTooLong, StopsWaiting, finished, readied};
 ghost use Rattle.context_machine.specs.Ready.{sealed_size, values_of};
@@ -19,14 +20,14 @@ use crate::keys_asked;
 use crate::need::NeedAt;
 use crate::opened_keys::{KeysStop, open_keys, open_keys_cached};
 use crate::ready::Ready;
-use crate::vault_keys::open_found;
+use crate::vault_keys::{filter_beside, open_found};
 use crate::wanted::Wanted;
 use bson_codec::RawDoc;
 use bson_splice::TooLong;
 use command_marker::Marked;
 use crypto_hooks::Block256;
 use data_key::KeyDoc;
-use doc_rewrite::{KeyTable, Plan, plan_clear, plan_seal, seal_through};
+use doc_rewrite::{KeyTable, Plan, plan_clear, plan_seal, seal_through, sites_of};
 use encrypt_schema::Info;
 use fle_outside::{Entropy, Failed, Memory};
 use key_vault::{KeyCache, Vault};
@@ -98,6 +99,16 @@ impl<'a> NeedKeys<'a> {
             (names_of (wanted_of self.now.info self.now.command)))) }
     {
         keys_asked::key_filter(alloc, self.wanted.needs())
+    }
+
+    /// The filter of those keys that a vault lacks, likewise; no byte where it lacks none. `Memory` where there is none
+    /// for it.
+    pub fn op_beside(&self, alloc: Global, keys: &Vault) -> Result<Vec<u8>, Memory>
+        ensures filter { IfOk result (λ out. out.items
+            ≡ filter_of (unmet keys.now (wanted_of self.now.info self.now.command))) }
+    {
+        let out = filter_beside(alloc, self.wanted.needs(), keys)?;
+        Ok(out)
     }
 
     /// The first value of each need, in reading order.
@@ -230,6 +241,13 @@ impl<'a> NeedKeys<'a> {
         }
     }
 
+    /// How many random blocks are drawn as the command is sealed: one for each value of the random algorithm.
+    pub fn draws(&self) -> usize
+        ensures draws { result ≡ draws_of (values_of self.now.info self.now.command) }
+    {
+        draws_by(self.info, &self.command, &self.marked)
+    }
+
     /// Seals the command into as many bytes as it is sealed to, as `seal_through` does.
     pub(crate) fn seal_into<B: Block256, N: Entropy>(
         &self,
@@ -280,5 +298,16 @@ fn plan_of<'m>(
             Ok(plan) => Ok(plan),
             Err(TooLong) => Err(TooLong),
         },
+    }
+}
+
+/// How many random blocks are drawn for a command, by its marks; of one without marks nothing is sealed.
+fn draws_by<'m>(info: Option<&Info>, command: &RawDoc<'m>, marked: &'m Option<Marked<'m>>) -> usize
+    requires marked { IsMarked (option_copied info) command.now marked.now }
+    ensures draws { result ≡ draws_of (values_of (option_copied info.entry) command.now) }
+{
+    match marked {
+        Some(marked) => sites_of(command, marked.marks(), marked.rows()).draws(),
+        None => 0,
     }
 }

@@ -52,6 +52,20 @@ impl<'a> Ready<'a> {
         self.waited.command()
     }
 
+    /// How many bytes the sealed command has.
+    pub fn output_len(&self) -> usize
+        ensures size { result ≡ sealed_size self.now.info self.now.command }
+    {
+        self.out.len()
+    }
+
+    /// How many random blocks are drawn as the command is sealed: one for each value of the random algorithm.
+    pub fn draws(&self) -> usize
+        ensures draws { result ≡ draws_of (values_of self.now.info self.now.command) }
+    {
+        self.waited.draws()
+    }
+
     /// Seals the command: each of its values under the key of its rule, those of the random algorithm with a block
     /// each, drawn in reading order. `Failed` where a block couldn't be drawn: the state is given back as it was, and
     /// sealing it again draws all blocks anew. It allocates nothing.

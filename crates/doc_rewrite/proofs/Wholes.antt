@@ -2,7 +2,7 @@
 use Rattle.std.proofs.Common.{◌≡◌, ◌∙◌, ℕ, ◌+◌, ◌-◌, ◌*◌, ◌≤◌, Bool, true, false, Option, Some, None, Result, Ok}
 use Rattle.std.proofs.Common.{Err, List, [], ◌∷◌, ◌++◌, length, map, take, arith, refl, sym, ap, subst, length-take-le}
 use Rattle.std.proofs.lemmas.List.{take-append-le}
-use Rattle.std.specs.Prelude.{is_some, if◌then◌else◌}
+use Rattle.std.specs.Prelude.{IfOk, is_some, if◌then◌else◌}
 use Rattle.bson_tree.specs.Tree.{Tree, leaf, node, Items, no_items, item}
 use Rattle.bson_tree.specs.Spelling.{value_bytes, doc_bytes}
 use Rattle.bson_tree.specs.Filled.{fill_tree}
@@ -103,3 +103,9 @@ module _ (keys : Keyring) (d : At) (shaped : first_wrong misshapen (payloads_of 
         ap (take end) is ∙ take-append-le end front rest within ∙ w.1,
       )
   opens_all old front rest new (Err spot) size is w = refuses _ w
+
+-- it has at most as many bytes as what is opened
+pub opens_short : (keys : Keyring) (ps : List Place) (made old new : List ℕ) (most : ℕ) (r : Result ℕ Spot)
+    → OpensAs keys ps made old new 0 most r → IfOk r (λ n. n ≤ most)
+opens_short keys ps made old new most (Ok end) w = omega (arith, w.2)
+opens_short keys ps made old new most (Err spot) w = tt

@@ -7,6 +7,7 @@ pub mod Plans
 pub mod Ivs
 pub mod Sealing
 pub mod LastNames
+pub mod Alone
 pub mod Standing
 pub mod SealedTrees
 pub mod SealedCommand

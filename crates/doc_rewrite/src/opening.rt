@@ -1,6 +1,6 @@
 //! A document with its payloads opened, written into a slice.
 
-ghost use Rattle.std.specs.Prelude.{◌≡◌, ◌+◌, ◌<◌, ◌≤◌, ◌^◌, length, None};
+ghost use Rattle.std.specs.Prelude.{◌≡◌, ◌+◌, ◌<◌, ◌≤◌, ◌^◌, length, IfOk, None};
 ghost use Rattle.bson_tree.specs.Spelling.{doc_bytes, items_bytes, value_bytes};
 ghost use Rattle.bson_tree.specs.Tree.{leaf, tag_of};
 ghost use Rattle.doc_rewrite.specs.Finding.{HasKeysFor, IsFoundIn};
@@ -158,7 +158,7 @@ fn open_items<B: Block256>(
 }
 
 /// Writes the document to the front of `out` with each payload opened, the value of its original type in its place,
-/// and answers how many bytes that are. What a payload opens to isn't looked into.
+/// and answers how many bytes that are, at most as many as the document has. What a payload opens to isn't looked into.
 ///
 /// `found` is what `find_payloads` gives for the document, `keys` has the key of each of its ids, and `out` has the
 /// room that `found` tells, which is at most as many bytes as the document has. Otherwise the first payload, in
@@ -176,6 +176,7 @@ pub fn open_through<B: Block256>(
     requires room { room_to_open document.now found.now ≤ length out.old }
     ensures size { length out.new ≡ length out.old }
     ensures opened { OpensWhole (ring_of (key_by_id keys.now.ids)) document.now out.new result }
+    ensures short { IfOk result (λ n. n ≤ length (doc_bytes document.now.tree)) }
 {
     let bytes = document.bytes();
     if found.len() == 0 {

@@ -64,6 +64,7 @@ pub(crate) fn put_sealed<B: Block256>(
 ) -> usize
     requires hooks { B.answers hooks.now }
     requires room { at + 2 + length item.now.name + sealed_width (length (value_bytes item.now.tree)) ≤ length out.old }
+    ensures end { result ≡ at + 2 + length item.now.name + sealed_width (length (value_bytes item.now.tree)) }
     ensures size { length out.new ≡ length out.old }
     ensures within { result ≤ length out.new }
     ensures id { length label.now.key_id ≡ 16 }

@@ -1,16 +1,17 @@
 //! The values of a document that are to be sealed, read from its marks and their rules.
 
 ghost use Rattle.std.specs.Prelude.{◌≡◌, ◌+◌, ◌<◌, ◌^◌, ◌∷◌, [], drop, length, option_map, slice_get, IfSome};
-ghost use Rattle.std.specs.Prelude.{unwrap_or, MatchOption};
+ghost use Rattle.std.specs.Prelude.{◌≤◌, unwrap_or, MatchOption};
 ghost use Rattle.bson_splice.specs.Spans.{IsNextAt};
 ghost use Rattle.payload6.specs.Needs.{Name, need_seen};
 ghost use Rattle.doc_rewrite.specs.Keys.{IsLong};
 ghost use Rattle.doc_rewrite.specs.Plans.{AreRuled};
-ghost use Rattle.doc_rewrite.specs.Sites.{site_of as site_by, site_seen, sites_of as sites_by, spans_of};
+ghost use Rattle.doc_rewrite.specs.Sites.{draw, draws_of, site_of as site_by, site_seen, sites_of as sites_by};
+ghost use Rattle.doc_rewrite.specs.Sites.{spans_of};
 
 use crate::site::Site;
 use bson_codec::RawDoc;
-use encrypt_schema::{Mark, Marks, Rows};
+use encrypt_schema::{Algorithm, Mark, Marks, Rows};
 use payload6::{Need, need_of};
 use std::marker::Model;
 
@@ -115,6 +116,13 @@ impl<'a> Sites<'a> {
         }
     }
 
+    /// How many random blocks are drawn as they are sealed: one for each value of the random algorithm.
+    pub fn draws(&self) -> usize
+        ensures draws { result ≡ draws_of self.now }
+    {
+        draws_of(self)
+    }
+
     /// Where the value of this number begins.
     pub(crate) fn start(&self, i: usize) -> Option<usize>
         ensures start { result ≡ option_map (λ s. s.start) (slice_get self.now i) }
@@ -148,6 +156,31 @@ pub(crate) fn site_at<'a>(sites: &Sites<'a>, i: usize) -> Option<Site<'a>>
     ensures counted { IfSome result (λ s. i + 1 < 2 ^ 64) }
 {
     if i < sites.len() { sites.get(i) } else { None }
+}
+
+/// How many random blocks are drawn for these values.
+fn draws_of(sites: &Sites<'_>) -> usize
+    ensures draws { result ≡ draws_of sites.now }
+{
+    let mut blocks = 0;
+    for i in 0..sites.len() {
+        match site_at(sites, i) {
+            Some(site) => blocks += draw(site.algorithm),
+            None => unreachable!(),
+        }
+    }
+    blocks
+}
+
+/// How many random blocks are drawn for a value.
+fn draw(algorithm: Algorithm) -> usize
+    ensures draw { result ≡ draw algorithm }
+    ensures one { result ≤ 1 }
+{
+    match algorithm {
+        Algorithm::Deterministic => 0,
+        Algorithm::Random => 1,
+    }
 }
 
 /// Where the next site begins, those before `i` being behind.

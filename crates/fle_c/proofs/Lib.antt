@@ -2,3 +2,6 @@ pub mod Boxed
 pub mod Handed
 pub mod Judged
 pub mod Wants
+pub mod Randoms
+pub mod Roomy
+pub mod Wanted

@@ -2,3 +2,4 @@ pub mod Holding
 pub mod Blocks
 pub mod Telling
 pub mod Calls
+pub mod Values

@@ -1,5 +1,5 @@
--- What a call tells its caller: statuses, reasons, places and lengths.
-use Rattle.std.specs.Prelude.{◌≡◌, ℕ, List, ◌++◌, length, drop, nat_lt, if◌then◌else◌}
+-- What a call tells its caller: statuses, reasons, places, lengths and random bytes.
+use Rattle.std.specs.Prelude.{◌≡◌, ℕ, ◌-◌, ◌*◌, ◌/◌, ◌<◌, ◌^◌, List, ◌++◌, length, drop, nat_lt, if◌then◌else◌}
 use Rattle.bson_codec.specs.Fault.{kind_number}
 use Rattle.bson_codec.specs.declared.fault.BsonFault.{BsonFault}
 use Rattle.encrypt_schema.specs.Commands.Reasons.{reason_code}
@@ -12,23 +12,39 @@ use Rattle.fle_c.specs.declared.told.Told.{Told}
 
 -- a status that has nothing else to tell
 abbrev pub bare : ℕ → Told
-bare status = record { status = status; reason = 0; file = 0; place = 0; length = 0 }
+bare status = record { status = status; reason = 0; file = 0; place = 0; length = 0; random = 0 }
 
--- an output of so many bytes is written
-abbrev pub done : ℕ → Told
-done n = record { status = 0; reason = 0; file = 0; place = 0; length = n }
+-- a status with an output's length, and with the random bytes that it takes
+abbrev pub sized : ℕ → ℕ → ℕ → Told
+sized status n random =
+    record { status = status; reason = 0; file = 0; place = 0; length = n; random = random }
 
--- an output of so many bytes has too little room
-abbrev pub room_wanted : ℕ → Told
-room_wanted n = record { status = 10; reason = 0; file = 0; place = 0; length = n }
+-- an output of so many bytes is written, and so many random bytes were used
+abbrev pub done : ℕ → ℕ → Told
+done n random = sized 0 n random
+
+-- too few random bytes were handed in: an output of so many bytes wants so many
+abbrev pub random_wanted : ℕ → ℕ → Told
+random_wanted n random = sized 7 n random
+
+-- an output of so many bytes, which wants so many random bytes, has too little room
+abbrev pub room_wanted : ℕ → ℕ → Told
+room_wanted n random = sized 10 n random
 
 -- the limit of this number is passed
 abbrev pub passed : ℕ → Told
-passed limit = record { status = 9; reason = limit; file = 0; place = 0; length = 0 }
+passed limit = record { status = 9; reason = limit; file = 0; place = 0; length = 0; random = 0 }
 
 -- the bytes are no document
 abbrev pub malformed : BsonFault → Told
-malformed fault = record { status = 3; reason = kind_number fault.kind; file = 0; place = fault.offset; length = 0 }
+malformed fault = record {
+  status = 3;
+  reason = kind_number fault.kind;
+  file = 0;
+  place = fault.offset;
+  length = 0;
+  random = 0;
+}
 
 -- there is no engine
 abbrev pub fault_told : EngineFault → Told
@@ -39,38 +55,53 @@ fault_told (faults.File file fault document) = record {
   file = file;
   place = document;
   length = 0;
+  random = 0;
 }
 fault_told faults.Memory = bare 8
 
--- an output for which there is this room is told by its length, or by the length that is wanted
-abbrev pub made_told : List ℕ → List ℕ → Told
-made_told room output = if nat_lt (length room) (length output) then room_wanted (length output) else done (length
-    output)
+-- an output that takes so many random bytes, for which there is this room, is told by its length, or by the length
+-- that is wanted
+abbrev pub made_told : ℕ → List ℕ → List ℕ → Told
+made_told random room output =
+    if nat_lt (length room) (length output) then room_wanted (length output) random else done (length output) random
 
 -- an output that has room stands in front; else nothing is written
 abbrev pub made_out : List ℕ → List ℕ → List ℕ
 made_out room output = if nat_lt (length room) (length output) then room else output ++ drop (length output) room
 
--- what is told of an answer for which there is this room
-abbrev pub answer_told : List ℕ → Answer → Told
-answer_told room (answers.Made output) = made_told room output.items
-answer_told room (answers.Refused r) = record {
+-- what is told of an answer with so many random bytes, for which there is this room
+abbrev pub answer_told : ℕ → List ℕ → Answer → Told
+answer_told random room (answers.Made output) = made_told random room output.items
+answer_told random room (answers.Refused r) = record {
   status = 1;
   reason = reason_code r.reason;
   file = 0;
   place = r.at;
   length = 0;
+  random = 0;
 }
-answer_told room answers.TooLong = passed 2
-answer_told room answers.Undrawn = bare 7
-answer_told room answers.Memory = bare 8
+answer_told random room answers.TooLong = passed 2
+answer_told random room (answers.Undrawn wanted) = random_wanted wanted.size random
+answer_told random room answers.Memory = bare 8
 
 -- what is written there of an answer: a whole output, or nothing
 abbrev pub answer_out : List ℕ → Answer → List ℕ
 answer_out room (answers.Made output) = made_out room output.items
 answer_out room _ = room
 
--- an answer is told, and written as far as it may be
-pub record Shows (answer : Answer) (before after : List ℕ) (told : Told) : Type 0 where
-  pub numbers : told ≡ answer_told before answer
+-- an answer is told with so many random bytes, and written as far as it may be
+pub record Shows (random : ℕ) (answer : Answer) (before after : List ℕ) (told : Told) : Type 0 where
+  pub numbers : told ≡ answer_told random before answer
   pub out : after ≡ answer_out before answer
+
+-- the random bytes of an answer: of an output those that were used, by the number of bytes that were handed in and of
+-- those that are left; 16 for each block that is wanted where there were too few; else none
+abbrev pub random_of : Answer → ℕ → ℕ → ℕ
+random_of (answers.Made output) handed left = 16 * (handed / 16 - left / 16)
+random_of (answers.Undrawn wanted) handed left = 16 * wanted.draws
+random_of _ handed left = 0
+
+-- so many random bytes can be counted
+abbrev pub AreCounted : Answer → Type 0
+AreCounted (answers.Undrawn wanted) = 16 * wanted.draws < 2 ^ 64
+AreCounted _ = Unit {0}

@@ -7,7 +7,7 @@ ghost use Rattle.fle_outside.specs.Blocks.{DrawAssured, DrawCause, DrawTakes, Is
 use fle_outside::{Entropy, Failed};
 
 /// The bytes of a block.
-const BLOCK: usize = 16;
+pub(crate) const BLOCK: usize = 16;
 
 /// Blocks of 16 bytes, in order; what is left of the bytes behind the last whole one is none.
 #[derive(Drop)]
@@ -22,6 +22,13 @@ impl<'a> Blocks<'a> {
         ensures seen { handed_seen result.bytes.now result.faults ≡ handed_seen bytes.entry.now 0 }
     {
         Blocks { bytes, faults: 0 }
+    }
+
+    /// How many bytes are left.
+    pub fn left(&self) -> usize
+        ensures left { result ≡ length self.now.bytes.now }
+    {
+        self.bytes.len()
     }
 }
 
@@ -40,7 +47,7 @@ impl Entropy for Blocks<'_> {
 }
 
 /// 16 bytes as a block.
-fn as_block(bytes: &[u8]) -> [u8; 16]
+pub(crate) fn as_block(bytes: &[u8]) -> [u8; 16]
     requires long { length bytes.now ≡ 16 }
     ensures same { result ≡ bytes.now }
     ensures block { IsBlock result }

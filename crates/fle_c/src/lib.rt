@@ -3,7 +3,8 @@
 //! ```text
 //! fle_slot slot = {0};
 //! fle_answer answer = fle_open(&slot, db, 2, keys, n, infos, m, master, 96);
-//! answer = fle_seal(&slot, command, size, blocks, needed.random, out, needed.room);
+//! answer = fle_seal(&slot, command, size, blocks, 256, out, room);
+//! if (answer.status == 7 || answer.status == 10) .. once more, with answer.random bytes and answer.length of room ..
 //! fle_close(&slot);
 //! ```
 //!
@@ -16,7 +17,9 @@ ghost use Rattle.bson_tree.specs.Spelling.{doc_bytes};
 ghost use Rattle.bson_tree.specs.Tree.{Items};
 ghost use Rattle.context_machine.specs.Rings.{Finder};
 ghost use Rattle.encrypt_schema.specs.Language.Collection.{Collection};
-ghost use Rattle.fle_c.specs.Calls.{OpensAs, SealsAs, StaysIn, UnsealsAs, document_limit};
+ghost use Rattle.fle_c.specs.Calls.{MarksAs, OpensAs, SealsAs, StaysIn, UnsealsAs, WantsAs, WantsInfoAs};
+ghost use Rattle.fle_c.specs.Calls.{WantsToOpenAs, document_limit};
+ghost use Rattle.fle_c.specs.Values.{SealsValueAs, WantsValueKeyAs};
 ghost use Rattle.fle_engine.specs.Loading.{parts_in};
 ghost use Rattle.fle_engine.specs.Rulings.{makes};
 ghost use Rattle.fle_engine.specs.Sealing.{seal_ruling};
@@ -31,13 +34,15 @@ mod opening;
 mod parts;
 mod slot;
 mod told;
+mod values;
 
-use calls::{seal, unseal};
+use calls::{ask, ask_info, ask_to_open, mark, seal, unseal};
 use need::{Need, most_wanted};
 use opening::open;
 use slot::Slot;
 use std::alloc::Global;
 use told::Told;
+use values::{ask_for_key, seal_value};
 
 /// Opens an engine in a slot, by the bytes of three files as the program reads them; one that was there is freed first.
 #[unsafe(no_mangle)]
@@ -55,14 +60,14 @@ pub extern "C" fn fle_open(
     match open(alloc, db, keys, infos, master) {
         Ok(engine) => {
             slot.put(engine);
-            Told::done(0)
+            Told::done(0, 0)
         }
         Err(fault) => Told::fault(fault),
     }
 }
 
 /// Seals a command into `out`, with the blocks in these bytes, one for each value of the random algorithm in reading
-/// order.
+/// order. Where these are too few, or the room is, it tells how much of both is wanted.
 #[unsafe(no_mangle)]
 pub extern "C" fn fle_seal(
     alloc: Global,
@@ -82,7 +87,7 @@ pub extern "C" fn fle_seal(
     told
 }
 
-/// Opens a document into `out`.
+/// Opens a document of at most 48,000,000 bytes into `out`, where as many bytes of room are enough.
 #[unsafe(no_mangle)]
 pub extern "C" fn fle_unseal(
     alloc: Global,
@@ -92,11 +97,150 @@ pub extern "C" fn fle_unseal(
 ) -> Told
     ensures stays { StaysIn slot.old.kept.value slot.new.kept.value }
     ensures opened { UnsealsAs slot.old.kept.value document.now out.old out.new result }
+    ensures room { length document.now ≤ length out.old → result.status ≡ 10 → ⊥ }
 {
     let Some(mut engine) = slot.take(alloc) else {
         return Told::not_open();
     };
     let told = unseal(alloc, &mut engine, document, out);
+    slot.put(engine);
+    told
+}
+
+/// Writes the marking reply to a command into `out`, which is sent to this database, under the rules of the engine:
+/// neither its keys nor its master key are used.
+#[unsafe(no_mangle)]
+pub extern "C" fn fle_mark(
+    alloc: Global,
+    slot: &mut Slot,
+    db: &[u8],
+    command: &[u8],
+    out: &mut [u8],
+) -> Told
+    ensures stays { StaysIn slot.old.kept.value slot.new.kept.value }
+    ensures marked { MarksAs db.now slot.old.kept.value command.now out.old out.new result }
+{
+    let Some(engine) = slot.take(alloc) else {
+        return Told::not_open();
+    };
+    let told = mark(alloc, &engine, db, command, out);
+    slot.put(engine);
+    told
+}
+
+/// Writes the filter `{name: collection}` of the infos into `out` that a command needs, which is sent to this database;
+/// no byte where it passes.
+#[unsafe(no_mangle)]
+pub extern "C" fn fle_info_wanted(
+    alloc: Global,
+    slot: &mut Slot,
+    db: &[u8],
+    command: &[u8],
+    out: &mut [u8],
+) -> Told
+    ensures stays { StaysIn slot.old.kept.value slot.new.kept.value }
+    ensures asked { WantsInfoAs db.now slot.old.kept.value command.now out.old out.new result }
+{
+    let Some(engine) = slot.take(alloc) else {
+        return Told::not_open();
+    };
+    let told = ask_info(alloc, &engine, db, command, out);
+    slot.put(engine);
+    told
+}
+
+/// Writes the filter of the keys into `out` that a command needs, which is sent to this database, and that the engine
+/// lacks; no byte where it lacks none. The random bytes told are those that the command wants as it is sealed.
+#[unsafe(no_mangle)]
+pub extern "C" fn fle_keys_wanted(
+    alloc: Global,
+    slot: &mut Slot,
+    db: &[u8],
+    command: &[u8],
+    out: &mut [u8],
+) -> Told
+    ensures stays { StaysIn slot.old.kept.value slot.new.kept.value }
+    ensures asked { WantsAs db.now slot.old.kept.value command.now out.old out.new result }
+{
+    let Some(engine) = slot.take(alloc) else {
+        return Told::not_open();
+    };
+    let told = ask(alloc, &engine, db, command, out);
+    slot.put(engine);
+    told
+}
+
+/// Writes the filter of the keys into `out` that a document needs which is to be opened, and that the engine lacks; no
+/// byte where it lacks none.
+#[unsafe(no_mangle)]
+pub extern "C" fn fle_keys_wanted_open(
+    alloc: Global,
+    slot: &mut Slot,
+    document: &[u8],
+    out: &mut [u8],
+) -> Told
+    ensures stays { StaysIn slot.old.kept.value slot.new.kept.value }
+    ensures asked { WantsToOpenAs slot.old.kept.value document.now out.old out.new result }
+{
+    let Some(engine) = slot.take(alloc) else {
+        return Told::not_open();
+    };
+    let told = ask_to_open(alloc, &engine, document, out);
+    slot.put(engine);
+    told
+}
+
+/// Writes the filter of the key into `out` that an alternate name, or an id of 16 bytes, leads to, where the engine
+/// lacks it; else no byte.
+#[unsafe(no_mangle)]
+pub extern "C" fn fle_value_keys_wanted(
+    alloc: Global,
+    slot: &mut Slot,
+    named: bool,
+    key: &[u8],
+    out: &mut [u8],
+) -> Told
+    ensures stays { StaysIn slot.old.kept.value slot.new.kept.value }
+    ensures asked { WantsValueKeyAs slot.old.kept.value named key.now out.old out.new result }
+{
+    let Some(engine) = slot.take(alloc) else {
+        return Told::not_open();
+    };
+    let told = ask_for_key(alloc, &engine, named, key, out);
+    slot.put(engine);
+    told
+}
+
+/// Seals one value into `out`, that of a document of one element: under the key of an alternate name, or of an id of 16
+/// bytes, by the random algorithm with the first block in these bytes, or by the deterministic one.
+#[unsafe(no_mangle)]
+pub extern "C" fn fle_seal_value(
+    alloc: Global,
+    slot: &mut Slot,
+    named: bool,
+    key: &[u8],
+    random: bool,
+    document: &[u8],
+    blocks: &[u8],
+    out: &mut [u8],
+) -> Told
+    ensures stays { StaysIn slot.old.kept.value slot.new.kept.value }
+    ensures sealed { SealsValueAs slot.old.kept.value named key.now random document.now blocks.now out.old out.new
+        result }
+{
+    let Some(mut engine) = slot.take(alloc) else {
+        return Told::not_open();
+    };
+    let told = seal_value(
+        alloc,
+        &mut engine,
+        named,
+        key,
+        random,
+        document,
+        blocks,
+        out,
+    );
     slot.put(engine);
     told
 }
@@ -109,13 +253,16 @@ pub extern "C" fn fle_close(alloc: Global, slot: &mut Slot)
     let _ = slot.take(alloc);
 }
 
-/// How much room and how many random bytes a command of so many bytes may want, under any engine.
+/// How much room and how many random bytes a command of so many bytes may want, under any engine: at most 48,000,000
+/// bytes, and 16 for each of 666,666 values.
 #[unsafe(no_mangle)]
 pub extern "C" fn fle_needed(size: usize) -> Need
     ensures enough { (keys : Finder) (infos : List Collection) (db : List ℕ) (c : Items) (plan : Plan)
         → length (doc_bytes c) ≤ size → length (doc_bytes c) ≤ document_limit
         → seal_ruling keys infos db c ≡ makes plan
         → (plan.size ≤ result.room) × (16 * plan.draws ≤ result.random) }
+    ensures close { (result.room ≤ 48000000) × (result.random ≤ 16 * 666666)
+        × (result.room ≤ 45 * size) × (result.random ≤ 8 * size) }
 {
     most_wanted(size)
 }

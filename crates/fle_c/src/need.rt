@@ -13,6 +13,12 @@ ghost use Rattle.fle_stream.specs.Plan.{Plan};
 /// A command has at most this many bytes.
 const DOCUMENT_LIMIT: usize = 16_777_216;
 
+/// A sealed command has at most this many bytes.
+const OUTPUT_LIMIT: usize = 48_000_000;
+
+/// So many values are sealed in one of those at most, since each grows by 72 bytes or more.
+const MOST_VALUES: usize = 666_666;
+
 /// How much room and how many random bytes a command may want.
 #[repr(C)]
 #[derive(Clone, Copy, Drop)]
@@ -23,18 +29,22 @@ pub struct Need {
     pub random: usize,
 }
 
-/// What a command of so many bytes may want: a value takes at least two bytes beside its own, grows by at most 87, and
+/// What a command of so many bytes may want: a value takes at least two bytes beside its own, grows by 72 to 87, and
 /// draws a block of 16 at most.
 pub(crate) fn most_wanted(size: usize) -> Need
     ensures enough { (keys : Finder) (infos : List Collection) (db : List ℕ) (c : Items) (plan : Plan)
         → length (doc_bytes c) ≤ size → length (doc_bytes c) ≤ document_limit
         → seal_ruling keys infos db c ≡ makes plan
         → (plan.size ≤ result.room) × (16 * plan.draws ≤ result.random) }
+    ensures close { (result.room ≤ 48000000) × (result.random ≤ 16 * 666666)
+        × (result.room ≤ 45 * size) × (result.random ≤ 8 * size) }
 {
     let size = size.min(DOCUMENT_LIMIT);
     let values = size.saturating_sub(4) / 2;
+    let room = (size + 87 * values).min(OUTPUT_LIMIT);
+    let drawn = values.min(MOST_VALUES);
     Need {
-        room: size + 87 * values,
-        random: 16 * values,
+        room,
+        random: 16 * drawn,
     }
 }

@@ -1,12 +1,16 @@
 //! What a call tells its caller.
 
 ghost use Rattle.std.specs.Prelude.{◌≡◌, List, ℕ};
-ghost use Rattle.fle_c.specs.Telling.{Shows, answer_told, bare, done, fault_told, made_out, made_told, malformed};
-ghost use Rattle.fle_c.specs.Telling.{passed, room_wanted};
+ghost use Rattle.fle_c.specs.Telling.{AreCounted, Shows, answer_told, bare, done, fault_told, made_out, made_told};
+ghost use Rattle.fle_c.specs.Telling.{malformed, passed, random_of, random_wanted, room_wanted, sized};
 ghost use Rattle.fle_engine.specs.declared.answer.Answer.TheVariants as answers;
 
+use crate::blocks::BLOCK;
 use bson_codec::BsonFault;
 use fle_engine::{Answer, EngineFault, Refused};
+
+/// The status of a command for which fewer blocks were handed in than it draws.
+const NO_BLOCKS: u32 = 7;
 
 /// The status of a document whose answer has less room than it wants.
 const NO_ROOM: u32 = 10;
@@ -14,7 +18,10 @@ const NO_ROOM: u32 = 10;
 /// The status of a call at a slot that no engine is in.
 const NOT_OPEN: u32 = 11;
 
-/// What a call tells its caller: numbers of the program's line, and the length of an output.
+/// The status of a call that names a key by an id without 16 bytes.
+const NO_ID: u32 = 12;
+
+/// What a call tells its caller: numbers of the program's line, the length of an output, and its random bytes.
 #[repr(C)]
 #[derive(Clone, Copy, Drop)]
 pub struct Told {
@@ -26,8 +33,10 @@ pub struct Told {
     pub file: u32,
     /// Where: the offset of the refused value or of the fault, or the number of the faulty document.
     pub place: usize,
-    /// The bytes that were written, or are wanted.
+    /// The bytes that were written, or the room that is wanted.
     pub length: usize,
+    /// The random bytes that were used, or are wanted.
+    pub random: usize,
 }
 
 impl Told {
@@ -41,20 +50,36 @@ impl Told {
             file: 0,
             place: 0,
             length: 0,
+            random: 0,
         }
     }
 
-    /// An output of so many bytes is written.
-    pub(crate) fn done(length: usize) -> Told
-        ensures told { result ≡ done length }
+    /// A status with an output's length, and with the random bytes that it takes.
+    fn sized(status: u32, length: usize, random: usize) -> Told
+        ensures told { result ≡ sized status length random }
     {
         Told {
-            status: 0,
+            status,
             reason: 0,
             file: 0,
             place: 0,
             length,
+            random,
         }
+    }
+
+    /// An output of so many bytes is written, and so many random bytes were used.
+    pub(crate) fn done(length: usize, random: usize) -> Told
+        ensures told { result ≡ done length random }
+    {
+        Told::sized(0, length, random)
+    }
+
+    /// Too few random bytes were handed in: an output of so many bytes wants so many.
+    fn random_wanted(length: usize, random: usize) -> Told
+        ensures told { result ≡ random_wanted length random }
+    {
+        Told::sized(NO_BLOCKS, length, random)
     }
 
     /// No engine is in the slot.
@@ -64,17 +89,18 @@ impl Told {
         Told::bare(NOT_OPEN)
     }
 
-    /// An output of so many bytes has too little room.
-    fn room_wanted(length: usize) -> Told
-        ensures told { result ≡ room_wanted length }
+    /// The id of a key hasn't 16 bytes.
+    pub(crate) fn no_id() -> Told
+        ensures told { result ≡ bare 12 }
     {
-        Told {
-            status: NO_ROOM,
-            reason: 0,
-            file: 0,
-            place: 0,
-            length,
-        }
+        Told::bare(NO_ID)
+    }
+
+    /// An output of so many bytes, which wants so many random bytes, has too little room.
+    fn room_wanted(length: usize, random: usize) -> Told
+        ensures told { result ≡ room_wanted length random }
+    {
+        Told::sized(NO_ROOM, length, random)
     }
 
     /// The limit of this number is passed.
@@ -87,6 +113,7 @@ impl Told {
             file: 0,
             place: 0,
             length: 0,
+            random: 0,
         }
     }
 
@@ -100,6 +127,7 @@ impl Told {
             file: 0,
             place: fault.offset,
             length: 0,
+            random: 0,
         }
     }
 
@@ -119,6 +147,7 @@ impl Told {
                 file: file as u32,
                 place: document as usize,
                 length: 0,
+                random: 0,
             },
             EngineFault::Memory => Told::bare(8),
         }
@@ -126,7 +155,7 @@ impl Told {
 
     /// The document is refused.
     fn refused(refused: &Refused) -> Told
-        ensures told { (room : List ℕ) → result ≡ answer_told room (answers.Refused refused.now) }
+        ensures told { (random : ℕ) (room : List ℕ) → result ≡ answer_told random room (answers.Refused refused.now) }
     {
         Told {
             status: 1,
@@ -134,33 +163,49 @@ impl Told {
             file: 0,
             place: refused.at as usize,
             length: 0,
+            random: 0,
         }
     }
 }
 
-/// What became of a document; its output is written where it fits, and nothing else is.
-pub(crate) fn tell(answer: &Answer, out: &mut [u8]) -> Told
-    ensures shows { Shows answer.now out.old out.new result }
+/// What became of a document, with so many random bytes; its output is written where it fits, and nothing else is.
+pub(crate) fn tell(answer: &Answer, random: usize, out: &mut [u8]) -> Told
+    ensures shows { Shows random answer.now out.old out.new result }
 {
     match answer {
-        Answer::Made(output) => put(output, out),
+        Answer::Made(output) => put(output, random, out),
         Answer::Refused(refused) => Told::refused(refused),
         Answer::TooLong => Told::passed(2),
-        Answer::Undrawn => Told::bare(7),
+        Answer::Undrawn(wanted) => Told::random_wanted(wanted.size, random),
         Answer::Memory => Told::bare(8),
     }
 }
 
+/// The random bytes of an answer: of an output those that were used, by the number of bytes that were handed in and of
+/// those that are left; those that are wanted where there were too few; else none.
+pub(crate) fn random_of(answer: &Answer, handed: usize, left: usize) -> usize
+    requires counted { AreCounted answer.now }
+    ensures random { result ≡ random_of answer.now handed left }
+{
+    match answer {
+        Answer::Made(_) => BLOCK * (handed / BLOCK).saturating_sub(left / BLOCK),
+        Answer::Refused(_) => 0,
+        Answer::TooLong => 0,
+        Answer::Undrawn(wanted) => BLOCK * wanted.draws,
+        Answer::Memory => 0,
+    }
+}
+
 /// Writes an output into the front of `out`, where it fits.
-fn put(output: &[u8], out: &mut [u8]) -> Told
-    ensures told { result ≡ made_told out.old output.now }
+fn put(output: &[u8], random: usize, out: &mut [u8]) -> Told
+    ensures told { result ≡ made_told random out.old output.now }
     ensures out { out.new ≡ made_out out.old output.now }
 {
     let wanted = output.len();
     if out.len() < wanted {
-        return Told::room_wanted(wanted);
+        return Told::room_wanted(wanted, random);
     }
     let (front, _) = out.split_at_mut(wanted);
     front.copy_from_slice(output);
-    Told::done(wanted)
+    Told::done(wanted, random)
 }

@@ -2,6 +2,11 @@ pub mod Rulings
 pub mod Starts
 pub mod Replied
 pub mod Seals
+pub mod Unmade
 pub mod Unseals
+pub mod Filters
+mod Sent
+mod InfosAsked
+pub mod Explicits
 pub mod Loads
 pub mod Checks

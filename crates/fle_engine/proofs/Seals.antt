@@ -26,7 +26,6 @@ use Rattle.encrypt_schema.specs.Language.Collection.{Collection}
 use Rattle.encrypt_schema.specs.Language.Row.{Row}
 use Rattle.encrypt_schema.specs.declared.command.marks.Mark.{Mark}
 use Rattle.encrypt_schema.specs.declared.command.marks.MarkFault.{MarkFault}
-use Rattle.encrypt_schema.specs.declared.command.marks.MarkFault.TheVariants as faults
 use Rattle.fle_outside.specs.Blocks.{Block}
 use Rattle.fle_outside.specs.Seen.{EntropySeen}
 use Rattle.fle_outside.proofs.Drawings.{draws_none}
@@ -34,10 +33,11 @@ use Rattle.fle_stream.specs.Plan.{Plan}
 use Rattle.fle_engine.specs.Answers.{AnswerIs}
 use Rattle.fle_engine.specs.Rulings.{Ruling, StopsAs, Tells, at_front, by_refusal, makes, sized_plan}
 use Rattle.fle_engine.specs.Rulings.{too_long}
-use Rattle.fle_engine.specs.Sealing.{seal_contents, seal_ruling, seal_under, sealed_plan}
+use Rattle.fle_engine.specs.Sealing.{seal_contents, seal_ruling, seal_under, sealed_plan, wanted_by}
 use Rattle.fle_engine.specs.Starting.{StartsAs}
 use Rattle.fle_engine.specs.declared.answer.Answer.{Answer}
 use Rattle.fle_engine.specs.declared.answer.Answer.TheVariants as answers
+use Rattle.fle_engine.specs.declared.answer.Wanted.{Wanted}
 use Rattle.fle_engine.specs.declared.starting.Started.TheVariants as starts
 use Rattle.fle_engine.proofs.Rulings.{passed_with}
 
@@ -170,10 +170,13 @@ sealed_made keys info command table before after bytes output whole opened done 
     })) c before after (answers.Made output)) (front_is command whole) fits)
 
 pub sealed_short : (keys : Finder) (info : Option Collection) (command : At) (before after : EntropySeen)
-    → command.start ≡ 0 → FellShort before after (draws_of (values_of info command))
-    → AnswerIs (makes (sealing_of keys info command.tree)) command.tree before after answers.Undrawn
-sealed_short keys info command before after whole short =
-    subst (λ (ss : List Site). FellShort before after (draws_of ss)) (sites_at info command whole) short
+    (wanted : Wanted) → command.start ≡ 0 → FellShort before after (draws_of (values_of info command))
+    → wanted ≡ wanted_by info command
+    → AnswerIs (makes (sealing_of keys info command.tree)) command.tree before after (answers.Undrawn wanted)
+sealed_short keys info command before after wanted whole short is =
+    subst (λ (ss : List Site). FellShort before after (draws_of ss)
+    × (wanted ≡ record { size = length (doc_bytes command.tree) + grown ss; draws = draws_of ss }))
+    (sites_at info command whole) (short, is)
 
 -- ---- the state that is ready
 

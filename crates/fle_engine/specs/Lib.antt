@@ -3,6 +3,8 @@ pub mod Answers
 pub mod Starting
 pub mod Replies
 pub mod Sealing
+pub mod Asked
+pub mod Explicit
 pub mod Opening
 pub mod Loading
 pub mod Engines

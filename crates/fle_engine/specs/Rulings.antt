@@ -1,5 +1,5 @@
 -- What a command or a document comes to: an output, a refusal, or an output above the limit.
-use Rattle.std.specs.Prelude.{◌≡◌, ℕ, nat_lt, Option, Some, None, List, length, if◌then◌else◌}
+use Rattle.std.specs.Prelude.{◌≡◌, ℕ, nat_lt, Option, Some, None, List, length, bytes_eq, if◌then◌else◌}
 pub use Rattle.doc_rewrite.specs.Sites.{at_front}
 use Rattle.bson_tree.specs.Tree.{Items}
 use Rattle.context_machine.specs.Beginning.{first_value}
@@ -51,6 +51,14 @@ abbrev pub into_with : (List Row → Items → Ruling) → Option Collection →
 into_with accepted info c =
     if is_view info then refused (record { reason = reasons.View; at = first_value 0 c })
     else contents_with accepted (rows_in info) c
+
+-- a command that is sent to another database than an engine's own is refused
+abbrev pub wrong_db : List ℕ → List ℕ → Option Refusal
+wrong_db own db = if bytes_eq db own then None else Some (record { reason = reasons.WrongDb; at = 0 })
+
+-- what a command comes to that is sent to this database, under an engine of its own one
+abbrev pub sent_ruling : List ℕ → List ℕ → Ruling → Ruling
+sent_ruling own db v = by_refusal (wrong_db own db) v
 
 -- a fault of marking says that a command comes to this; want of memory may come at any time
 abbrev pub Tells : MarkFault → Ruling → Type 0

@@ -12,10 +12,19 @@ pub enum Answer {
     Refused(Refused),
     /// The output would have more than 48,000,000 bytes.
     TooLong,
-    /// A random block couldn't be drawn.
-    Undrawn,
+    /// A random block couldn't be drawn: fewer were to be had than this, which the command wants.
+    Undrawn(Wanted),
     /// There was no memory. It may come at any time, before a block is drawn.
     Memory,
+}
+
+/// What a command wants as it is sealed.
+#[derive(Clone, Copy, Drop)]
+pub struct Wanted {
+    /// The bytes of its sealed form.
+    pub size: usize,
+    /// The random blocks that are drawn: one for each value of the random algorithm.
+    pub draws: usize,
 }
 
 /// Why a document is refused, and where.

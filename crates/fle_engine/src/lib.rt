@@ -11,6 +11,7 @@
 #![tactic(auto)]
 
 mod answer;
+mod asking;
 mod checking;
 mod engine;
 pub mod laws;
@@ -20,9 +21,12 @@ mod opener;
 mod opening;
 mod refusing;
 mod sealing;
+mod sending;
+mod single;
 mod starting;
 
-pub use answer::{Answer, Refused};
+pub use answer::{Answer, Refused, Wanted};
+pub use asking::Asked;
 pub use checking::{Declined, Untaken};
 pub use engine::Engine;
 pub use loading::EngineFault;

@@ -1,10 +1,11 @@
 //! Documents opened: the lengths of their payloads, then their keys, then each payload.
 
-ghost use Rattle.std.specs.Prelude.{◌≡◌, None};
+ghost use Rattle.std.specs.Prelude.{◌≡◌, None, length};
+ghost use Rattle.bson_tree.specs.Spelling.{doc_bytes};
 ghost use Rattle.context_machine.specs.Rings.{AreOpened, by_ids, needs_in, ring};
 ghost use Rattle.doc_rewrite.specs.Founds.{payloads_of};
 ghost use Rattle.doc_rewrite.specs.Opened.{Keyring, first_wrong, misshapen};
-ghost use Rattle.fle_engine.specs.Answers.{AnswerIs};
+ghost use Rattle.fle_engine.specs.Answers.{AnswerIs, HasAtMost};
 ghost use Rattle.fle_engine.specs.Opening.{open_ruling};
 ghost use Rattle.fle_outside.specs.Seen.{EntropySeen};
 
@@ -30,6 +31,7 @@ pub fn open_document<B: Block256>(
     ensures answers { (e : EntropySeen)
         → AnswerIs (open_ruling (ring keys.now cache.old.master) document.entry.tree) document.entry.tree e e
         result }
+    ensures short { HasAtMost (length (doc_bytes document.entry.tree)) result }
 {
     match DecryptNeedKeys::begin(alloc, document.again()) {
         Ok(state) => open_shaped(alloc, state, keys, cache, hooks),
@@ -52,6 +54,7 @@ fn open_shaped<B: Block256>(
     ensures answers { (e : EntropySeen)
         → AnswerIs (open_ruling (ring keys.now cache.old.master) state.entry.document.tree)
         state.entry.document.tree e e result }
+    ensures short { HasAtMost (length (doc_bytes state.entry.document.tree)) result }
 {
     match state.done_from_vault(alloc, keys, cache, hooks) {
         Ok(state) => open_ready(alloc, state, hooks),
@@ -66,6 +69,7 @@ fn open_ready<B: Block256>(alloc: Global, state: DecryptReady<'_>, hooks: &B) ->
     ensures answers { (keys : Keyring) (e : EntropySeen)
         → AreOpened (by_ids keys) (needs_in state.entry.document) state.entry.table
         → AnswerIs (open_ruling keys state.entry.document.tree) state.entry.document.tree e e result }
+    ensures short { HasAtMost (length (doc_bytes state.entry.document.tree)) result }
 {
     let document = state.document().again();
     match state.finalize(hooks) {

@@ -9,10 +9,10 @@ ghost use Rattle.encrypt_schema.specs.Commands.Visits.{roles};
 ghost use Rattle.encrypt_schema.specs.Language.Row.{Row};
 ghost use Rattle.fle_engine.specs.Answers.{AnswerIs};
 ghost use Rattle.fle_engine.specs.Rulings.{at_front, makes};
-ghost use Rattle.fle_engine.specs.Sealing.{seal_contents, seal_ruling, seal_under, sealed_plan};
+ghost use Rattle.fle_engine.specs.Sealing.{seal_contents, seal_ruling, seal_under, sealed_plan, wanted_by};
 ghost use Rattle.fle_outside.specs.Seen.{EntropySeen};
 
-use crate::answer::Answer;
+use crate::answer::{Answer, Wanted};
 use crate::marker::Marker;
 use crate::opener::Opener;
 use crate::refusing::{refuse_fault, refuse_stop};
@@ -130,6 +130,16 @@ fn seal_ready<B: Block256, N: Entropy>(state: Ready<'_>, hooks: &B, entropy: &mu
 {
     match state.finalize(hooks, entropy) {
         Ok(done) => Answer::Made(done.into_bytes()),
-        Err((_, Failed)) => Answer::Undrawn,
+        Err((state, Failed)) => Answer::Undrawn(wanted_by(&state)),
+    }
+}
+
+/// What a command wants whose keys are there.
+fn wanted_by(state: &Ready<'_>) -> Wanted
+    ensures wanted { result ≡ wanted_by state.now.info state.now.command }
+{
+    Wanted {
+        size: state.output_len(),
+        draws: state.draws(),
     }
 }

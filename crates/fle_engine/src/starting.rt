@@ -39,7 +39,7 @@ pub fn start<'a>(
 }
 
 /// Looks at the fields of a command by themselves.
-fn begin<'a>(db: &'a [u8], command: &RawDoc<'a>) -> Result<Begun<'a>, MarkFault>
+pub(crate) fn begin<'a>(db: &'a [u8], command: &RawDoc<'a>) -> Result<Begun<'a>, MarkFault>
     ensures begun { BeginsAs (record { db = db.entry.now; command = command.now }) result }
 {
     EncryptStart::new(db, command.again()).begin()

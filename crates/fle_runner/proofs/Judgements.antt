@@ -12,6 +12,7 @@ use Rattle.fle_engine.specs.Rulings.{Ruling, makes, refused, too_long}
 use Rattle.fle_engine.specs.Sealing.{seal_ruling}
 use Rattle.fle_engine.specs.declared.answer.Answer.TheVariants as answers
 use Rattle.fle_engine.specs.declared.answer.Refused.{Refused}
+use Rattle.fle_engine.specs.declared.answer.Wanted.{Wanted}
 use Rattle.fle_files.specs.Numbers.{reason_number}
 use Rattle.fle_runner.specs.Decrypt.{decrypt_verdict}
 use Rattle.fle_runner.specs.Encrypt.{encrypt_verdict}
@@ -44,17 +45,17 @@ module _ (c : Items) (before after : EntropySeen) where
   too_long_as (refused r) is = absurd is
   too_long_as too_long is = is
 
-  pub undrawn_as : (v : Ruling) → AnswerIs v c before after answers.Undrawn
+  pub undrawn_as : (v : Ruling) (wanted : Wanted) → AnswerIs v c before after (answers.Undrawn wanted)
       → JudgeIs (as_verdict c v) before after judgements.Undrawn
-  undrawn_as (makes plan) is = record {
-    drawn = is.drawn;
-    fewer = is.fewer;
-    first = is.draws;
-    rose = is.rose;
-    unassured = is.unassured;
+  undrawn_as (makes plan) wanted is = record {
+    drawn = is.0.drawn;
+    fewer = is.0.fewer;
+    first = is.0.draws;
+    rose = is.0.rose;
+    unassured = is.0.unassured;
   }
-  undrawn_as (refused r) is = absurd is
-  undrawn_as too_long is = absurd is
+  undrawn_as (refused r) wanted is = absurd is
+  undrawn_as too_long wanted is = absurd is
 
   pub memory_as : (v : Ruling) → AnswerIs v c before after answers.Memory
       → JudgeIs (as_verdict c v) before after judgements.Memory

@@ -156,7 +156,7 @@ fn judgement(answer: Answer) -> Judged
             Judged::Refused(number_of_reason(refused.reason), refused.place)
         }
         Answer::TooLong => Judged::TooLong,
-        Answer::Undrawn => Judged::Undrawn,
+        Answer::Undrawn(_) => Judged::Undrawn,
         Answer::Memory => Judged::Memory,
     }
 }

@@ -5,8 +5,8 @@ use Rattle.doc_rewrite.specs.Finding.{found_at}
 use Rattle.doc_rewrite.specs.Founds.{payloads_of}
 use Rattle.doc_rewrite.specs.Keys.{key_by_id}
 use Rattle.doc_rewrite.specs.Opened.{ring_of}
-use Rattle.doc_rewrite.specs.Opening.{spared}
-use Rattle.doc_rewrite.proofs.Wholes.{found_keyed, opens_all, opens_none}
+use Rattle.doc_rewrite.specs.Opening.{document_opened, spared}
+use Rattle.doc_rewrite.proofs.Wholes.{found_keyed, opens_all, opens_none, opens_short}
 use Rattle.doc_rewrite.proofs.opening.open_through.Goals as goal
 
 pub returns-then-len-eq0-clause-opened : goal.returns-then-len-eq0-clause-opened
@@ -42,3 +42,13 @@ returns-clause-opened g c =
     opens_all (ring_of (key_by_id c.args.keys.now.ids)) c.args.document.now c.requires.found.shaped keyed
     c.split_at_mut-front.result.0.now c.open_document.new.out c.split_at_mut-front.result.1.now _
     c.open_document.result size refl c.open_document.ensures.opened
+
+pub returns-then-len-eq0-clause-short : goal.returns-then-len-eq0-clause-short
+returns-then-len-eq0-clause-short g c = omega (arith, c.put.ensures.end, ap length c.bytes-bytes.ensures.spelling)
+
+pub returns-clause-short : goal.returns-clause-short
+returns-clause-short g c =
+    let keys = ring_of (key_by_id c.args.keys.now.ids) in
+    opens_short keys (payloads_of c.args.document.now) (document_opened keys c.args.document.now)
+    c.split_at_mut-front.result.0.now c.open_document.new.out (length (doc_bytes c.args.document.now.tree))
+    c.open_document.result c.open_document.ensures.opened

@@ -1,10 +1,12 @@
 -- The keys are those that the vault has for the document's payloads.
-use Rattle.std.proofs.Common.{◌≡◌, ◌∙◌, ap, subst}
+use Rattle.std.proofs.Common.{◌≡◌, ◌∙◌, ap, length, subst}
 use Rattle.bson_codec.specs.Borrowed.{At}
+use Rattle.bson_tree.specs.Spelling.{doc_bytes}
 use Rattle.context_machine.specs.Rings.{ring}
-use Rattle.context_machine.specs.States.{Opens}
-use Rattle.fle_engine.specs.Answers.{AnswerIs}
+use Rattle.context_machine.specs.States.{Opens, OpensWith}
+use Rattle.fle_engine.specs.Answers.{AnswerIs, HasAtMost}
 use Rattle.fle_engine.specs.Opening.{open_ruling}
+use Rattle.fle_engine.proofs.Unmade.{stop_short}
 use Rattle.fle_engine.proofs.Unseals.{keyless_told, keys_open}
 use Rattle.fle_engine.proofs.opening.open_shaped.Goals as goal
 
@@ -23,3 +25,14 @@ returns-in-Err-clause-answers g c = λ e.
     subst (λ (x : At). AnswerIs v x.tree e e c.refuse_stop.result) here
     (c.refuse_stop.ensures.answers v e
     (keyless_told keys d c.in-Err.stop c.requires.whole c.requires.shaped c.in-Err.ensures.refused))
+
+pub returns-in-Ok-clause-short : goal.returns-in-Ok-clause-short
+returns-in-Ok-clause-short g c =
+    let here : c.in-Ok.state.document ≡ c.args.state.document =
+    ap (λ (x : OpensWith). x.document) c.in-Ok.ensures.ready in
+    subst (λ (x : At). HasAtMost (length (doc_bytes x.tree)) c.open_ready.result) here c.open_ready.ensures.short
+
+pub returns-in-Err-clause-short : goal.returns-in-Err-clause-short
+returns-in-Err-clause-short g c =
+    stop_short (length (doc_bytes c.args.state.document.tree)) _ c.in-Err.stop c.refuse_stop.result
+    c.refuse_stop.ensures.answers

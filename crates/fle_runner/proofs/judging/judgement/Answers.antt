@@ -21,7 +21,7 @@ returns-in-TooLong c = record {
 
 pub returns-in-Undrawn : goal.returns-in-Undrawn
 returns-in-Undrawn c = record {
-  judged = λ v d before after says. undrawn_as d before after v (rw c.in-Undrawn.is at says);
+  judged = λ v d before after says. undrawn_as d before after v _ (rw c.in-Undrawn.is at says);
 }
 
 pub returns-in-Memory : goal.returns-in-Memory
