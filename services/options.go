@@ -1,0 +1,101 @@
+package main
+
+import (
+	"crypto/tls"
+	"crypto/x509"
+	"errors"
+	"flag"
+	"fmt"
+	"io"
+	"net"
+	"os"
+	"strings"
+
+	"fled/proxy"
+)
+
+// options are the words behind `fled proxy`.
+type options struct {
+	server, listen, name string
+	tls, plain           bool
+	ca, cert, key        string
+	files                proxy.Files
+}
+
+// readOptions reads them; an error where they have no form.
+func readOptions(words []string) (options, error) {
+	read := options{files: proxy.Files{Schemas: map[string]string{}}}
+	flags := flag.NewFlagSet("fled proxy", flag.ContinueOnError)
+	flags.SetOutput(io.Discard)
+	flags.StringVar(&read.server, "server", "", "")
+	flags.StringVar(&read.listen, "listen", "", "")
+	flags.StringVar(&read.name, "name", "", "")
+	flags.BoolVar(&read.tls, "tls", false, "")
+	flags.BoolVar(&read.plain, "plain", false, "")
+	flags.StringVar(&read.ca, "ca", "", "")
+	flags.StringVar(&read.cert, "cert", "", "")
+	flags.StringVar(&read.key, "key", "", "")
+	flags.IntVar(&read.files.Engines, "engines", 4, "")
+	flags.Func("db", "", read.addDatabase)
+	if err := flags.Parse(words); err != nil {
+		return read, err
+	}
+	if flags.NArg() != 2 {
+		return read, errors.New("KEYS and MASTER are wanted, behind the options")
+	}
+	read.files.Keys, read.files.Master = flags.Arg(0), flags.Arg(1)
+	return read, read.fault()
+}
+
+// addDatabase takes DB=SCHEMAS.
+func (read *options) addDatabase(word string) error {
+	db, path, has := strings.Cut(word, "=")
+	if _, twice := read.files.Schemas[db]; !has || twice {
+		return errors.New("DB=SCHEMAS is wanted, once for each database")
+	}
+	read.files.Schemas[db] = path
+	return nil
+}
+
+// fault is what is missing, or doesn't go together.
+func (read *options) fault() error {
+	for name, address := range map[string]string{"--server": read.server, "--listen": read.listen, "--name": read.name} {
+		if _, _, err := net.SplitHostPort(address); err != nil && (address != "" || name != "--name") {
+			return fmt.Errorf("%s: HOST:PORT is wanted", name)
+		}
+	}
+	switch {
+	case len(read.files.Schemas) == 0:
+		return errors.New("--db is wanted")
+	case read.files.Engines < 1:
+		return errors.New("--engines: 1 or more")
+	case read.ca != "" && !read.tls:
+		return errors.New("--ca goes with --tls")
+	case (read.cert == "") != (read.key == ""):
+		return errors.New("--cert and --key go together")
+	case read.cert != "" && read.plain:
+		return errors.New("--plain doesn't go with --cert")
+	}
+	return nil
+}
+
+// toServer is TLS to the server, nil for none.
+func (read *options) toServer() (*tls.Config, error) {
+	if !read.tls {
+		return nil, nil
+	}
+	host, _, _ := net.SplitHostPort(read.server)
+	config := &tls.Config{ServerName: host, MinVersion: tls.VersionTLS12}
+	if read.ca == "" {
+		return config, nil
+	}
+	pem, err := os.ReadFile(read.ca)
+	if err != nil {
+		return nil, err
+	}
+	config.RootCAs = x509.NewCertPool()
+	if !config.RootCAs.AppendCertsFromPEM(pem) {
+		return nil, fmt.Errorf("%s: no certificate", read.ca)
+	}
+	return config, nil
+}

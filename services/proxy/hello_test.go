@@ -1,0 +1,119 @@
+package proxy
+
+import (
+	"bytes"
+	"strings"
+	"testing"
+
+	"fled/bson"
+	"fled/wire"
+)
+
+const elsewhere = "elsewhere.example:27017"
+
+// hello is a client's hello, which would compress.
+func hello(name string) []byte {
+	return bson.Wrap(bson.AppendInt32(nil, name, 1), bson.Append(nil, bson.Array, "compression", texts("zlib", "snappy")),
+		bson.AppendText(nil, "$db", "admin"))
+}
+
+// wantOwnHello fails where a hello's reply would lead a client past the proxy, or to what that can't read.
+func (rig *rig) wantOwnHello(t testing.TB, reply []byte) {
+	t.Helper()
+	fields := read(reply)
+	if bytes.Contains(reply, []byte("elsewhere")) || bytes.Contains(reply, []byte("compression")) {
+		t.Errorf("%q", reply)
+	}
+	for _, name := range []string{"passives", "arbiters", "compression"} {
+		if fieldOf(fields, name).Whole != nil {
+			t.Errorf("there is %s", name)
+		}
+	}
+	for _, name := range []string{"me", "primary"} {
+		if text, _ := fieldOf(fields, name).Text(); text != rig.address {
+			t.Errorf("%s is %q", name, text)
+		}
+	}
+	hosts := read(fieldOf(fields, "hosts").Value)
+	if len(hosts) != 1 || !strings.Contains(string(hosts[0].Value), rig.address) {
+		t.Error(hosts)
+	}
+	if most := number(fieldOf(fields, "maxMessageSizeBytes")); most != messageMost || most < wire.MaxReply {
+		t.Error(most)
+	}
+	if text, _ := fieldOf(fields, "setName").Text(); text != "rs0" {
+		t.Error("what else a hello says has gone")
+	}
+}
+
+func TestHellos(t *testing.T) {
+	for _, name := range []string{"hello", "isMaster", "ismaster"} {
+		rig := startRig(t, faked(nil), func(rig *rig) { rig.hosts = []string{elsewhere, "elsewhere.example:27018"} })
+		client := dial(t, rig.address)
+		reply, err := client.ask(query("admin.$cmd", hello(name)))
+		if err != nil {
+			t.Fatal(err)
+		}
+		legacy, err := wire.ReadReply(reply)
+		if err != nil {
+			t.Fatal(err)
+		}
+		rig.wantOwnHello(t, legacy.Document)
+		reply, err = client.ask(wire.Msg{Body: hello(name)}.Message(8, 0))
+		if err != nil {
+			t.Fatal(err)
+		}
+		msg, err := wire.ReadMsg(reply)
+		if err != nil {
+			t.Fatal(err)
+		}
+		rig.wantOwnHello(t, msg.Body)
+		if rig.saw("compression") || rig.saw("zlib") {
+			t.Error("the server was asked to compress")
+		}
+	}
+}
+
+// An awaited hello by exhaust is sent without the flag that allows it, and its reply is the only one.
+func TestExhaustIsNotOffered(t *testing.T) {
+	rig := startRig(t, faked(nil), func(rig *rig) { rig.hosts = []string{elsewhere} })
+	message := wire.Msg{Body: hello("hello")}.Message(8, 0)
+	message.Contents[2] = 1 // exhaustAllowed
+	if _, err := dial(t, rig.address).ask(message); err != nil {
+		t.Fatal(err)
+	}
+	rig.mock.lock.Lock()
+	defer rig.mock.lock.Unlock()
+	if sent := rig.commands[0].Contents; !bytes.Equal(sent[:4], make([]byte, 4)) {
+		t.Error("the server was sent the flags", sent[:4])
+	}
+}
+
+func TestANameOfTheProxy(t *testing.T) {
+	rig := startRig(t, faked(nil), func(rig *rig) {
+		rig.hosts, rig.proxy.Name = []string{elsewhere}, "proxy.example:27018"
+	})
+	fields := dial(t, rig.address).command(wire.Msg{Body: hello("hello")})
+	if me, _ := fieldOf(fields, "me").Text(); me != rig.proxy.Name {
+		t.Error(me)
+	}
+}
+
+// Authentication passes, in a hello too, by whichever database a client authenticates.
+func TestAuthenticationPasses(t *testing.T) {
+	rig := startRig(t, faked(func([]byte) ([]byte, error) { return nil, errForm }))
+	for _, db := range []string{"admin", "$external", "hr"} {
+		for _, name := range []string{"saslStart", "saslContinue"} {
+			payload := bson.Append(nil, 0x05, "payload", []byte("\x05\x00\x00\x00\x00n,,n="))
+			command := bson.Wrap(bson.AppendInt32(nil, name, 1), payload, bson.AppendText(nil, "$db", db))
+			if fields := dial(t, rig.address).command(wire.Msg{Body: command}); number(fieldOf(fields, "ok")) != 1 {
+				t.Error(name, db, fields)
+			}
+			rig.mock.lock.Lock()
+			if last, _ := wire.ReadMsg(rig.commands[len(rig.commands)-1]); !bytes.Equal(last.Body, command) {
+				t.Error(name, "is sent otherwise")
+			}
+			rig.mock.lock.Unlock()
+		}
+	}
+}

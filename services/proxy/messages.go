@@ -1,0 +1,138 @@
+package proxy
+
+import (
+	"errors"
+	"fmt"
+
+	"fle"
+
+	"fled/bson"
+	"fled/wire"
+)
+
+// send sends what is sent in a message's place: nil where no reply will come.
+func (session *session) send(message wire.Message) (*request, error) {
+	switch message.Opcode {
+	case wire.OpQuery:
+		return session.sendQuery(message)
+	case wire.OpMsg:
+		return session.sendMsg(message)
+	}
+	return nil, fmt.Errorf("the client sent the opcode %d", message.Opcode)
+}
+
+// sendQuery sends a hello that comes as an OP_QUERY, and nothing else that does.
+func (session *session) sendQuery(message wire.Message) (*request, error) {
+	query, err := wire.ReadQuery(message)
+	if err != nil {
+		return nil, err
+	}
+	first, has := bson.Over(query.Document).Next()
+	if !has || !hellos[first.Name] {
+		return nil, errLegacy
+	}
+	if query.Document, err = helloRequest(query.Document); err != nil {
+		return nil, err
+	}
+	return &request{id: message.ID, opcode: wire.OpReply, isHello: true},
+		session.write(session.server, query.Message(message.ID, message.To))
+}
+
+// sendMsg sends a command, or refuses it.
+func (session *session) sendMsg(message wire.Message) (*request, error) {
+	msg, err := wire.ReadMsg(message)
+	if err != nil {
+		return nil, err
+	}
+	rules := *session.proxy.rules.Load()
+	read, err := readCommand(msg.Body)
+	sent := msg
+	if err == nil {
+		sent, err = judged(rules, read, msg)
+	}
+	if err == nil && sent.Size() > wire.MaxMessage {
+		err = &fle.Error{Status: fle.Limit, Number: 2, Reason: "Output"}
+	}
+	if err != nil {
+		return nil, session.refuse(message.ID, read.name, msg.MoreToCome, err)
+	}
+	if err := session.write(session.server, sent.Message(message.ID, message.To)); err != nil || msg.MoreToCome {
+		return nil, err
+	}
+	return &request{message.ID, wire.OpMsg, hellos[read.name], rules.engine(read.db)}, nil
+}
+
+// judged is what is sent of a command.
+func judged(rules Rules, read command, msg wire.Msg) (wire.Msg, error) {
+	if read.isJudged(rules) {
+		database := rules[read.db]
+		whole, err := sealed(database.engine(), msg)
+		if err != nil {
+			return whole, err
+		}
+		return whole, read.wantListed(database)
+	}
+	if err := read.wantPassing(rules); err != nil {
+		return msg, err
+	}
+	if len(msg.Sequences) > 0 {
+		return msg, errSequences
+	}
+	if hellos[read.name] {
+		body, err := helloRequest(msg.Body)
+		msg.Body = body
+		return msg, err
+	}
+	return msg, nil
+}
+
+// refuse says why a command isn't sent: in the log, and to a client that waits for a reply.
+func (session *session) refuse(id int32, name string, moreToCome bool, why error) error {
+	told := said(why)
+	session.proxy.Log.Printf("client %v: refused %.100q: %s", session.client.RemoteAddr(), name, told)
+	if moreToCome {
+		return nil
+	}
+	return session.answer(id, failed(told))
+}
+
+// hand hands a reply to the client: a hello as the proxy's own, any other one opened.
+func (session *session) hand(asked *request, reply wire.Message) error {
+	if reply.Opcode == wire.OpReply {
+		return session.handLegacy(reply)
+	}
+	msg, err := wire.ReadMsg(reply)
+	switch {
+	case err != nil:
+		return from("server", err)
+	case msg.MoreToCome:
+		return errMore
+	case len(msg.Sequences) > 0:
+		return errors.New("the server sent a reply with a document sequence")
+	case asked.isHello:
+		msg.Body, err = helloReply(msg.Body, session.address)
+	default:
+		msg.Body, err = opened(asked.engine, msg.Body)
+		if told := (*fle.Error)(nil); errors.As(err, &told) {
+			told := said(fmt.Errorf("the reply: %w", err))
+			session.proxy.Log.Printf("client %v: refused %s", session.client.RemoteAddr(), told)
+			return session.answer(asked.id, failed(told))
+		}
+	}
+	if err != nil {
+		return from("server", err)
+	}
+	return session.write(session.client, msg.Message(reply.ID, reply.To))
+}
+
+// handLegacy hands on the reply to a hello that came as an OP_QUERY.
+func (session *session) handLegacy(reply wire.Message) error {
+	legacy, err := wire.ReadReply(reply)
+	if err != nil {
+		return from("server", err)
+	}
+	if legacy.Document, err = helloReply(legacy.Document, session.address); err != nil {
+		return from("server", err)
+	}
+	return session.write(session.client, legacy.Message(reply.ID, reply.To))
+}

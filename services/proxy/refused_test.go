@@ -1,0 +1,148 @@
+package proxy
+
+import (
+	"fmt"
+	"strings"
+	"testing"
+
+	"fled/bson"
+	"fled/wire"
+)
+
+// wantRefused fails unless a reply is that error reply, and no value is in it.
+func wantRefused(t testing.TB, fields []bson.Element, parts ...string) {
+	t.Helper()
+	said, _ := fieldOf(fields, "errmsg").Text()
+	name, _ := fieldOf(fields, "codeName").Text()
+	code := number(fieldOf(fields, "code"))
+	if len(fields) != 4 || number(fieldOf(fields, "ok")) != 0 || code != refusedCode || name != refusedName {
+		t.Errorf("%v", fields)
+	}
+	for _, part := range append(parts, "fle: ") {
+		if !strings.Contains(said, part) || strings.Contains(said, secret) {
+			t.Errorf("%q doesn't say %s", said, part)
+		}
+	}
+}
+
+// Which commands may be sent to which database, by the rule of contrib/python.
+func TestScope(t *testing.T) {
+	rig := startRig(t, faked(nil))
+	for _, one := range []struct{ name, value, db, refused string }{
+		{"insert", "people", "hr", ""},
+		{"insert", "others", "hr", `no collection "others"`},
+		{"insert", "people", "other", `"insert" of the database "other"`},
+		{"insert", "people", "", "rules of \"hr\""},
+		{"find", "people", "admin", "Unsupported"},
+		{"aggregate", "people", "other", "Unsupported"},
+		{"bulkWrite", "people", "admin", "Unsupported"},
+		{"applyOps", "people", "admin", "Unsupported"},
+		{"mapReduce", "people", "other", "Unsupported"},
+		{"explain", "people", "other", "Unsupported"},
+		{"PING", "1", "admin", "Unsupported"},
+		{"ping", "1", "admin", ""},
+		{"ping", "1", "other", ""},
+		{"ping", "1", "hr", ""},
+		{"endSessions", "1", "admin", ""},
+		{"buildInfo", "1", "admin", ""},
+		{"killCursors", "others", "hr", ""},
+	} {
+		before := len(rig.names())
+		fields := dial(t, rig.address).command(wire.Msg{Body: body(one.name, one.value, one.db, documents(1, secret))})
+		if one.refused == "" {
+			if number(fieldOf(fields, "ok")) != 1 || len(rig.names()) != before+1 {
+				t.Errorf("%s to %s: %v", one.name, one.db, fields)
+			}
+			continue
+		}
+		wantRefused(t, fields, one.refused)
+		if len(rig.names()) != before {
+			t.Errorf("%s of %s was sent", one.name, one.db)
+		}
+	}
+}
+
+func TestDatabasesThatCannotBeTold(t *testing.T) {
+	rig := startRig(t, faked(nil))
+	ssn, name := bson.AppendText(nil, "ssn", secret), bson.AppendText(nil, "ping", "a")
+	for why, command := range map[string][]byte{
+		"no $db":          bson.Wrap(name, ssn),
+		"two":             bson.Wrap(name, ssn, bson.AppendText(nil, "$db", "hr"), bson.AppendText(nil, "$db", "admin")),
+		"a number":        bson.Wrap(name, ssn, bson.AppendInt32(nil, "$db", 1)),
+		"nothing":         bson.Wrap(),
+		"a name unended":  bson.Wrap(name, []byte{2, 'a'}),
+		"a long text":     bson.Wrap(name, []byte{2, 'a', 0, 255, 0, 0, 0, 0}),
+		"a type unknown":  bson.Wrap(name, []byte{0x42, 'a', 0}),
+		"text of 0 bytes": bson.Wrap(name, []byte{2, 'a', 0, 0, 0, 0, 0}),
+	} {
+		fields := dial(t, rig.address).command(wire.Msg{Body: command})
+		wantRefused(t, fields)
+		if len(rig.names()) > 0 {
+			t.Errorf("%s: it was sent", why)
+		}
+	}
+}
+
+func TestSequencesOfCommandsThatPass(t *testing.T) {
+	rig := startRig(t, faked(nil))
+	documents := bson.Wrap(bson.AppendText(nil, "ssn", secret))
+	one, two := wire.Sequence{Name: "documents", Documents: documents}, wire.Sequence{Name: "a", Documents: documents}
+	for name, sequences := range map[string][]wire.Sequence{"ping": {one}, "hello": {one}, "saslStart": {one}} {
+		fields := dial(t, rig.address).command(wire.Msg{Body: body(name, "people", "admin"), Sequences: sequences})
+		wantRefused(t, fields, "document sequence")
+	}
+	both := wire.Msg{Body: body("insert", "people", "hr"), Sequences: []wire.Sequence{two, one}}
+	fields := dial(t, rig.address).command(both)
+	wantRefused(t, fields, "document sequence")
+	if len(rig.names()) > 0 {
+		t.Error(rig.names())
+	}
+}
+
+// A refused write that wants no reply is one line in the log, and the next command is answered.
+func TestARefusalWithoutAReply(t *testing.T) {
+	rig := startRig(t, faked(nil))
+	client := dial(t, rig.address)
+	client.send(wire.Msg{MoreToCome: true, Body: body("insert", "refuse", "hr", documents(1, secret))}.Message(6, 0))
+	if fields := client.command(wire.Msg{Body: body("ping", "1", "hr")}); number(fieldOf(fields, "ok")) != 1 {
+		t.Error(fields)
+	}
+	said := rig.log.String()
+	names := fmt.Sprint(rig.names())
+	if names != "[ping]" || strings.Count(said, "\n") != 1 || strings.Contains(said, secret) {
+		t.Error(names, said)
+	}
+	rig.wantLine(t, `refused "insert": fle: Refused: TypeNotAllowed at "documents.0.ssn"`)
+}
+
+func TestAWriteWithoutAReply(t *testing.T) {
+	rig := startRig(t, faked(nil))
+	client := dial(t, rig.address)
+	client.send(wire.Msg{MoreToCome: true, Body: body("insert", "people", "hr", documents(1, secret))}.Message(6, 0))
+	client.command(wire.Msg{Body: body("ping", "1", "hr")})
+	if names := fmt.Sprint(rig.names()); names != "[insert ping]" || rig.saw(secret) {
+		t.Error(names)
+	}
+}
+
+func TestAReplyThatIsRefused(t *testing.T) {
+	rig := startRig(t, faked(nil), func(rig *rig) {
+		rig.answer = func(_ string, _ wire.Msg, id int32) []byte {
+			damaged := bson.Append(nil, 0x05, "a", append([]byte{8, 0, 0, 0, 6, 2}, "damaged"...))
+			return spelled(wire.Msg{Body: ok(damaged)}.Message(1, id))
+		}
+	})
+	client := dial(t, rig.address)
+	wantRefused(t, client.command(wire.Msg{Body: body("find", "people", "hr")}), "the reply: ", "TagMismatch", `"a"`)
+	wantRefused(t, client.command(wire.Msg{Body: body("ping", "people", "other")}), "TagMismatch")
+}
+
+func TestLongNamesAreCut(t *testing.T) {
+	rig := startRig(t, faked(nil))
+	fields := dial(t, rig.address).command(wire.Msg{Body: body(strings.Repeat("a\xff\n", 100_000), "people", "hr2")})
+	wantRefused(t, fields, `\n`, "Unsupported")
+	said, _ := fieldOf(fields, "errmsg").Text()
+	if len(said) > mostTold+10 || len(rig.log.String()) > 4*mostTold || strings.Count(rig.log.String(), "\n") != 1 {
+		t.Error(len(said), len(rig.log.String()))
+	}
+}

@@ -1,0 +1,168 @@
+package proxy
+
+import (
+	"bufio"
+	"errors"
+	"fmt"
+	"io"
+	"net"
+
+	"fled/wire"
+)
+
+// session is one connection of a client, and the one to the server that stands for it. As servers do, it takes one
+// message, and the next one once that is answered.
+type session struct {
+	proxy          *Proxy
+	client, server net.Conn
+	address        string // of the proxy, as this client knows it
+	last           int32  // requestID of the last reply of its own
+
+	fromClient, fromServer <-chan arrival
+	held                   *arrival // what the client sent while a reply was waited for
+}
+
+// arrival is a message, or why there is none.
+type arrival struct {
+	message wire.Message
+	err     error
+}
+
+// request is a client's message that waits for its reply.
+type request struct {
+	id      int32
+	opcode  int32 // of the reply
+	isHello bool
+	engine  Engine // of the rules that the request was judged by
+}
+
+var (
+	errUnasked = errors.New("the server sent a reply that nothing asked for")
+	errMore    = errors.New("the server sent a reply that has more to come")
+	errLegacy  = errors.New("the client sent an OP_QUERY that is no hello")
+)
+
+// arrivals reads one message after the other, none of it before the one before is taken, until one is an error.
+func arrivals(from io.Reader, most int, ended <-chan struct{}) <-chan arrival {
+	came := make(chan arrival)
+	go func() {
+		for buffered := bufio.NewReader(from); ; {
+			message, err := wire.Read(buffered, most)
+			select {
+			case came <- arrival{message, err}:
+			case <-ended:
+				return
+			}
+			if err != nil {
+				return
+			}
+		}
+	}()
+	return came
+}
+
+// run serves the client until either side ends, or the proxy does; the error says what was at fault, if something was.
+func (session *session) run() error {
+	ended := make(chan struct{})
+	defer close(ended)
+	session.fromClient = arrivals(session.client, wire.MaxMessage, ended)
+	session.fromServer = arrivals(session.server, wire.MaxReply, ended)
+	for {
+		came, err := session.next()
+		if err == nil && came != nil {
+			err = session.take(came.message)
+		}
+		if came == nil || err != nil {
+			return quiet(err)
+		}
+	}
+}
+
+// next is the client's next message; none where the proxy ends.
+func (session *session) next() (*arrival, error) {
+	if held := session.held; held != nil {
+		session.held = nil
+		return held, held.err
+	}
+	select {
+	case <-session.proxy.draining:
+		return nil, nil
+	default:
+	}
+	select {
+	case came := <-session.fromClient:
+		return &came, from("client", came.err)
+	case came := <-session.fromServer:
+		if came.err != nil {
+			return nil, from("server", came.err)
+		}
+		return nil, errUnasked
+	case <-session.proxy.draining:
+		return nil, nil
+	}
+}
+
+// take sends what is sent in a message's place, and hands on the reply, where one comes.
+func (session *session) take(message wire.Message) error {
+	asked, err := session.send(message)
+	if err != nil || asked == nil {
+		return err
+	}
+	reply, err := session.reply(asked.isHello)
+	if err != nil {
+		return err
+	}
+	if reply.To != asked.id || reply.Opcode != asked.opcode {
+		return errUnasked
+	}
+	return session.hand(asked, reply)
+}
+
+// reply waits for the server's next message. A message that the client sends meanwhile is held; that it has gone ends
+// the wait, as does the proxy's end that for a hello, which a server may answer late.
+func (session *session) reply(toHello bool) (wire.Message, error) {
+	fromClient, draining := session.fromClient, (chan struct{})(nil)
+	if toHello {
+		draining = session.proxy.draining
+	}
+	for {
+		select {
+		case <-draining:
+			return wire.Message{}, net.ErrClosed
+		case came := <-session.fromServer:
+			return came.message, from("server", came.err)
+		case came := <-fromClient:
+			if came.err != nil {
+				return wire.Message{}, from("client", came.err)
+			}
+			session.held, fromClient = &came, nil
+		}
+	}
+}
+
+// answer sends a reply of the proxy's own.
+func (session *session) answer(to int32, reply wire.Msg) error {
+	session.last++
+	return session.write(session.client, reply.Message(session.last, to))
+}
+
+func (session *session) write(to net.Conn, message wire.Message) error {
+	_, err := message.WriteTo(to)
+	return err
+}
+
+// from says whose message an error is of. That a side ended between two messages stays io.EOF.
+func from(side string, err error) error {
+	if err == nil || err == io.EOF {
+		return err
+	}
+	return fmt.Errorf("%s: %w", side, err)
+}
+
+// quiet is no error where a side ended as it may.
+func quiet(err error) error {
+	if err == io.EOF || errors.Is(err, net.ErrClosed) {
+		return nil
+	}
+	return err
+}
