@@ -150,8 +150,15 @@ func TestMoreRoomThanTheFirst(t *testing.T) {
 func TestLargeDocuments(t *testing.T) {
 	engine := opened(t, "people.schemas.bson")
 	comesBack(t, engine, insert(document(text("salary", string(make([]byte, 16_000_000))))))
-	for _, call := range []func([]byte) ([]byte, error){engine.Seal, engine.Unseal} {
-		bytesOf, err := call(insert(document(text("n", string(make([]byte, 1<<24))))))
+	long := insert(document(text("n", string(make([]byte, 1<<24)))))
+	if bytesOf, err := engine.Unseal(long); err != nil || !bytes.Equal(bytesOf, long) {
+		t.Errorf("%d bytes and %v of a document that a reply may hold", len(bytesOf), err)
+	}
+	for _, tried := range []struct {
+		call func([]byte) ([]byte, error)
+		text int
+	}{{engine.Seal, 1 << 24}, {engine.Unseal, longest}} {
+		bytesOf, err := tried.call(insert(document(text("n", string(make([]byte, tried.text))))))
 		if told := refusal(t, bytesOf, err); told.Status != Limit || told.Reason != "Document" {
 			t.Error(told)
 		}

@@ -22,6 +22,7 @@ class Call(enum.IntEnum):
 
     NoRoom = 10
     NotOpen = 11
+    NoId = 12
 
 
 class Slot(ctypes.Structure):
