@@ -6,8 +6,10 @@ from reference.bson import spell
 NOTHING = b"\xa5"  # what stands at `out` before a call
 LETTERS = {"fle_open": b"o", "fle_seal": b"s", "fle_unseal": b"u", "fle_mark": b"m", "fle_keys_wanted": b"k",
            "fle_keys_wanted_open": b"d", "fle_info_wanted": b"i",
-           "fle_seal_value": b"v", "fle_value_keys_wanted": b"w"}
+           "fle_seal_value": b"v", "fle_value_keys_wanted": b"w",
+           "fle_rewrap_key": b"r", "fle_make_key": b"g", "fle_version": b"z"}
 VALUES = "fle_seal_value", "fle_value_keys_wanted"
+TIMED = "fle_rewrap_key", "fle_make_key"  # their second argument is a time, of eight bytes
 
 
 class Slot(ctypes.Structure):
@@ -38,11 +40,14 @@ class Library:
 
     def call(self, name, arguments, room=None):
         self.said += LETTERS[name]
-        words = [ctypes.byref(self.slot)]
+        words = [] if name == "fle_version" else [ctypes.byref(self.slot)]
         for number, argument in enumerate(arguments):
             self.said += len(argument).to_bytes(8, "little") + argument
             if name in VALUES and number == 0:  # two flags: by a name, random
                 words.append(ctypes.c_bool(argument[0]))
+                continue
+            if name in TIMED and number == 1:
+                words.append(ctypes.c_int64(int.from_bytes(argument, "little", signed=True)))
                 continue
             words += [argument, ctypes.c_size_t(len(argument))]
             if name == "fle_seal_value" and number == 1:

@@ -2,6 +2,7 @@
 import random
 
 from library_calls import expect, refusal
+from library_keys import keys_at_the_limits, keys_without_engine, make_keys, rewrap_keys
 from reference.asks import collection_filter, key_filter, needed
 from reference.bson import DOCUMENT, binary, spell, words_of
 from reference.chance.commands import some_command
@@ -56,12 +57,15 @@ class Round:
         for _ in range(4):
             self.unseal(some_sealed(self.chance, self.vault, self.ids, 2))
             self.value(*some_value(self.chance))
+        rewrap_keys(self.chance, self.library, self.files[0], self.vault)
+        make_keys(self.chance, self.library, self.vault.master)
         self.library.close()
         self.without_engine("after it is closed")
 
     def without_engine(self, when):
         for name, arguments in [*calls_with(PING), ("fle_value_keys_wanted", [bytes(2), bytes(16)])]:
             expect(self.library.call(name, arguments, 64), (CLOSED, 0, 0, 0, 0, 0), b"", 64, f"{name} {when}")
+        keys_without_engine(self.library)
 
     def refuse(self, command, refused):
         self.reasons.append(refused[1])
@@ -227,7 +231,7 @@ class Deepest(Round):
 
 def at_the_limits(library):
     """A command above 16,777,216 bytes, documents that are opened up to 48,000,000, what fle_needed says of any length,
-    and what opens no engine."""
+    key documents, and what opens no engine."""
     call = library.call
     expect(call("fle_open", [b"hr", b"", PEOPLE, bytes(96)]), (0, 0, 0, 0, 0, 0), b"", 0, "open")
     one, two = spell([(16, "v", bytes(4))]), spell([(16, "v", bytes(4)), (16, "w", bytes(4))])
@@ -247,6 +251,8 @@ def at_the_limits(library):
         need = library.needed(size)
         if (need.room, need.random) != (OPENED, 16 * 666_666):
             raise AssertionError(f"fle_needed of {size} says {need.room} bytes of room, {need.random} random bytes")
+    with open("contrib/c/fle.h", encoding="utf-8") as header:
+        keys_at_the_limits(library, header.read())
     for db in (b"", b"x" * 64):
         expect(call("fle_open", [db, b"", PEOPLE, bytes(96)]), (2, 0, 0, 0, 0, 0), b"", 0, "a database's name")
     expect(call("fle_open", [b"hr", b"", PEOPLE, bytes(130)]), (4, 2, 3, 0, 0, 0), b"", 0, "a master key too long")

@@ -3,7 +3,7 @@ specification: a document of the key vault, whose `keyMaterial` the provider `lo
 import struct
 
 from reference.aead import BLOCK, IV, KEY, TAG, opened, padded, sealed
-from reference.bson import BINARY, DATE, binary, contents_of, spell
+from reference.bson import ARRAY, BINARY, DATE, DOCUMENT, INT, STRING, UUID, array, binary, contents_of, spell, text
 from reference.reasons import Reason
 
 MATERIAL = IV + KEY + BLOCK + TAG  # bytes: a whole block is padding
@@ -70,3 +70,18 @@ def rewrap(documents, vault, master, time, blocks):
             elements = rewrapped(elements, key, master, next(blocks), time)
         file += spell(elements)
     return file, None
+
+
+def version_4(block):
+    """A UUID of version 4 from a random block (RFC 4122, section 4.4)."""
+    return block[:6] + bytes([block[6] & 0x0F | 0x40, block[7], block[8] & 0x3F | 0x80]) + block[9:]
+
+
+def new_key(master, names, time, blocks):
+    """The document of a new key, made at this time: of eight random blocks the first makes the id, the next six are the
+    data key, and the last is its IV."""
+    date, material = struct.pack("<q", time), sealed(master, b"", blocks[112:128], padded(blocks[16:112]))
+    named = [(ARRAY, "keyAltNames", array(STRING, map(text, names)))] if names else []
+    return [(BINARY, "_id", binary(UUID, version_4(blocks[:16]))), *named, (BINARY, "keyMaterial", binary(0, material)),
+            (DATE, "creationDate", date), (DATE, "updateDate", date), (INT, "status", bytes(4)),
+            (DOCUMENT, "masterKey", [(STRING, "provider", text("local"))])]

@@ -21,6 +21,7 @@ var names = map[string]map[uint32]string{
 		10: "NoRoom",
 		11: "NotOpen",
 		12: "NoId",
+		13: "NoNames",
 		// end
 	},
 	"reason": {

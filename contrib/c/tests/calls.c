@@ -5,6 +5,8 @@
  *   o db keys infos master    s command blocks room    u document room    c    n size
  *   m db command room    k db command room    d document room (the keys of a document)    i db command room
  *   v how key document blocks room    w how key room: how is two bytes, by a name (1) or by an id, random (1) or not
+ *   r master time key blocks room    g names time blocks room: time is eight bytes, the lowest first
+ *   z room (the version)
  * Behind each but c: six numbers of eight bytes (for n two), and as many bytes as there was room, A5 before the call.
  *
  * With a number of slots each call is made on so many at once, on each by a thread of its own, which ends before the
@@ -67,6 +69,13 @@ static void tell(fle_answer answer, bytes out) {
     if (out.size) fwrite(out.at, 1, out.size, stdout);
 }
 
+/* The time that an argument of eight bytes states. */
+static int64_t time_of(bytes in) {
+    uint64_t n = 0;
+    for (size_t i = in.size; i-- > 0;) n = n << 8 | in.at[i];
+    return (int64_t)n;
+}
+
 /* Makes a call, on whichever thread. */
 static void *make(void *of) {
     turn *t = of;
@@ -87,6 +96,14 @@ static void *make(void *of) {
                                    in[3].at, in[3].size, out.at, out.size);
     } else if (t->letter == 'w') {
         t->answer = fle_value_keys_wanted(&t->slot, in[0].at[0], in[1].at, in[1].size, out.at, out.size);
+    } else if (t->letter == 'r') {
+        t->answer = fle_rewrap_key(&t->slot, in[0].at, in[0].size, time_of(in[1]), in[2].at, in[2].size, in[3].at,
+                                   in[3].size, out.at, out.size);
+    } else if (t->letter == 'g') {
+        t->answer = fle_make_key(&t->slot, in[0].at, in[0].size, time_of(in[1]), in[2].at, in[2].size, out.at,
+                                 out.size);
+    } else if (t->letter == 'z') {
+        t->answer = fle_version(out.at, out.size);
     } else if (t->letter == 'i') {
         t->answer = fle_info_wanted(&t->slot, in[0].at, in[0].size, in[1].at, in[1].size, out.at, out.size);
     } else if (t->letter == 'd') {
@@ -122,8 +139,9 @@ static bool alike(const turn *a, const turn *b) {
 
 /* How many arguments of bytes a call has. */
 static int arguments_of(int letter) {
-    if (letter == 'o' || letter == 'v') return 4;
-    return letter == 'c' ? 0 : letter == 'u' || letter == 'd' ? 1 : 2;
+    if (letter == 'o' || letter == 'v' || letter == 'r') return 4;
+    if (letter == 'g') return 3;
+    return letter == 'c' || letter == 'z' ? 0 : letter == 'u' || letter == 'd' ? 1 : 2;
 }
 
 /* Reads a call's arguments, makes it on each slot, and tells the first one's answer, which is that of all. */
@@ -144,7 +162,7 @@ static void run(turn *turns, size_t slots, bool threads, int letter) {
     for (size_t i = 1; i < slots; i++) {
         if (!alike(&turns[0], &turns[i])) exit(4);
     }
-    if (arguments) tell(turns[0].answer, turns[0].out);
+    if (letter != 'c') tell(turns[0].answer, turns[0].out);
     for (size_t i = 0; i < slots; i++) free(turns[i].out.at);
     for (int i = 0; i < arguments; i++) free(in[i].at);
 }

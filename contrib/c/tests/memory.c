@@ -49,6 +49,16 @@ static fle_answer seal(void) {
     return fle_seal(&slot, command.at, command.size, blocks, sizeof blocks, out.at, ROOM);
 }
 
+static fle_answer rewrap(void) {
+    const size_t first = keys.at[0] | (size_t)keys.at[1] << 8; /* the vault's first document, below 64 KB */
+    return fle_rewrap_key(&slot, master.at, master.size, 1, keys.at, first, blocks, 16, out.at, ROOM);
+}
+
+static fle_answer make_key(void) {
+    static const uint8_t names[] = "\x21\0\0\0\x04keyAltNames\0\x0f\0\0\0\x02" "0\0\x03\0\0\0ab\0\0";
+    return fle_make_key(&slot, names, sizeof names, 1, blocks, 128, out.at, ROOM);
+}
+
 static fle_answer unseal(void) { return fle_unseal(&slot, sealed.at, sealed.size, out.at, ROOM); }
 
 static fle_answer mark(void) {
@@ -162,7 +172,7 @@ int main(int count, char **words) {
     try_open();
     try_call(seal, &sealed);
     try_call(unseal, &command);
-    try_made(mark), try_made(ask_info), try_made(seal_value);
+    try_made(mark), try_made(ask_info), try_made(seal_value), try_made(rewrap), try_made(make_key);
     keyless = true;
     try_made(ask_keys), try_made(ask_to_open), try_made(ask_for_key);
     fle_close(&slot);

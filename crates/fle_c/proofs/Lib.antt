@@ -5,3 +5,4 @@ pub mod Wants
 pub mod Randoms
 pub mod Roomy
 pub mod Wanted
+pub mod KeysTold

@@ -3,3 +3,4 @@ pub mod Blocks
 pub mod Telling
 pub mod Calls
 pub mod Values
+pub mod Keys

@@ -28,6 +28,8 @@ ghost use Rattle.fle_stream.specs.Plan.{Plan};
 mod blocks;
 mod calls;
 mod kept;
+mod key_calls;
+mod keys;
 mod laws;
 mod need;
 mod opening;

@@ -10,3 +10,5 @@ mod InfosAsked
 pub mod Explicits
 pub mod Loads
 pub mod Checks
+pub mod KeyAnswers
+pub mod NewTexts

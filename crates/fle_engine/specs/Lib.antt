@@ -9,3 +9,5 @@ pub mod Opening
 pub mod Loading
 pub mod Engines
 pub mod Checking
+pub mod NewNames
+pub mod KeyRulings

@@ -1,39 +1,14 @@
 -- `keygen MASTER NAME*`: a new key document with these alternate names.
-use Rattle.std.specs.Prelude.{◌≡◌, ℕ, Option, List, length, replicate}
-use Rattle.bson_tree.specs.Spelling.{doc_bytes}
-use Rattle.data_key.specs.Written.{key_fields}
-use Rattle.data_key.specs.declared.key_doc.KeyDoc.{KeyDoc}
-use Rattle.data_key.specs.declared.key_doc.Provider.TheVariants as providers
+use Rattle.std.specs.Prelude.{◌≡◌, ℕ, Option, List, length}
 use Rattle.fle_outside.specs.Blocks.{Block}
 use Rattle.fle_outside.specs.Seen.{Draws, EntropySeen}
-use Rattle.fle_stream.specs.Plan.{Plan}
 use Rattle.fle_files.specs.Setup.{with_master}
 use Rattle.fle_stream.specs.Task.{Task, makes}
 use Rattle.fle_stream.specs.declared.why.Why.{Why}
 use Rattle.fle_stream.specs.declared.why.Why.TheVariants as whys
 use Rattle.fle_stream.specs.declared.why.Finish.TheVariants as finishes
 use Rattle.fle_stream.specs.declared.why.Cut.TheVariants as cuts
-use Rattle.local_kms.specs.Made.{key_of_blocks}
-
--- the document of the key that eight blocks make: made and changed now, its status 0
-abbrev pub new_document : List ℕ → List (List ℕ) → ℕ → List Block → List ℕ
-new_document master names now blocks = doc_bytes (key_fields (key_of_blocks master names blocks) now now 0)
-
--- a key of zeros with these names, whose document has as many bytes
-abbrev pub blank_key : List (List ℕ) → KeyDoc
-blank_key names = record { id = replicate 16 0; names = names; material = replicate 160 0; provider = providers.Local }
-
--- how many bytes the key document of these names has, whatever key is in it
-abbrev pub document_size : List (List ℕ) → ℕ → ℕ
-document_size names now = length (doc_bytes (key_fields (blank_key names) now now 0))
-
--- what is made: eight random blocks become a key document of that size
-abbrev pub keygen_plan : List (List ℕ) → ℕ → List ℕ → Plan
-keygen_plan names now master = record {
-  draws = 8;
-  size = document_size names now;
-  bytes = new_document master names now;
-}
+pub use Rattle.fle_engine.specs.KeyRulings.{keygen_plan}
 
 -- a new key under the master key that the first file of the words has
 abbrev pub keygen_task : List (List ℕ) → ℕ → Option (List ℕ) → Task

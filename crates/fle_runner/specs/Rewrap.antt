@@ -1,6 +1,5 @@
 -- `rewrap OLD NEW KEYS`: the keys of a vault under another master key.
-use Rattle.std.specs.Prelude.{ℕ, Option, Some, None, List, length}
-use Rattle.data_key.specs.declared.key_doc.KeyDoc.{KeyDoc}
+use Rattle.std.specs.Prelude.{ℕ, Option, Some, None, List}
 use Rattle.encrypt_schema.specs.declared.command.reason.Reason.TheVariants as reasons
 use Rattle.fle_files.specs.Numbers.{reason_number}
 use Rattle.fle_files.specs.Setup.{with_keys, with_master}
@@ -11,13 +10,10 @@ use Rattle.fle_stream.specs.declared.why.Cut.TheVariants as cuts
 use Rattle.fle_stream.specs.declared.why.Finish.TheVariants as finishes
 use Rattle.fle_stream.specs.declared.why.Why.{Why}
 use Rattle.fle_stream.specs.declared.why.Why.TheVariants as whys
-use Rattle.rewrap_keys.specs.Rewrapped.{Change, change, draws_of, first_damaged, rewrapped_file}
+use Rattle.rewrap_keys.specs.Rewrapped.{change, first_damaged}
+pub use Rattle.fle_engine.specs.KeyRulings.{rewrap_plan}
 use Rattle.rewrap_keys.specs.declared.rewrapping.RewrapFault.{RewrapFault}
 use Rattle.rewrap_keys.specs.declared.rewrapping.RewrapFault.TheVariants as faults
-
--- what is made: the vault's file under the new master key, as long as it was, of a block for each local key
-abbrev pub rewrap_plan : Change → List ℕ → List KeyDoc → Plan
-rewrap_plan c bytes keys = record { draws = draws_of keys; size = length bytes; bytes = rewrapped_file c bytes }
 
 -- the end of a run whose vault has, at this number, the first local key that doesn't open; else what is made
 abbrev pub unless_damaged : Option ℕ → Plan → Task

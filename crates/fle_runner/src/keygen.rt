@@ -1,25 +1,23 @@
 //! `keygen MASTER NAME*`: a new key document.
 
-ghost use Rattle.std.specs.Prelude.{◌≡◌, ◌≤◌, ◌⊎◌, List, ℕ, IfOk, [], ◌∷◌, length, map, string_bytes};
-ghost use Rattle.bson_tree.specs.Spelling.{doc_bytes};
-ghost use Rattle.data_key.specs.Written.{key_fields, size_of as names_size};
+ghost use Rattle.std.specs.Prelude.{◌≡◌, ◌≤◌, ◌⊎◌, List, ℕ, [], ◌∷◌, length, map, string_bytes};
+ghost use Rattle.data_key.specs.Written.{size_of as names_size};
 ghost use Rattle.fle_outside.specs.Blocks.{Block};
 ghost use Rattle.fle_outside.specs.Files.{file_of};
 ghost use Rattle.fle_outside.specs.Seen.{AsksOnly, Draws, EntropySeen, FolderSeen, SourceSeen};
-ghost use Rattle.fle_runner.specs.Keygen.{DrawsEight, IsOfKey, IsOfKeygen, document_size, keygen_plan, keygen_task};
+ghost use Rattle.fle_runner.specs.Keygen.{DrawsEight, IsOfKey, IsOfKeygen, keygen_plan, keygen_task};
 ghost use Rattle.fle_stream.specs.Acted.{Acted, AreAny, AreTold, objects};
 ghost use Rattle.fle_stream.specs.Codes.{status_of};
 ghost use Rattle.fle_stream.specs.Ended.{IsUnread};
 ghost use Rattle.fle_stream.specs.Task.{makes, one_document};
 ghost use Rattle.local_kms.specs.Made.{key_of_blocks};
 
-use bson_tree::{Bytes, Names};
 use crypto_hooks::Block256;
-use data_key::{KeyDoc, Provider, write_key};
+use data_key::{KeyDoc, Provider};
 use fle_files::load_master;
 use fle_outside::{Entropy, Folder, Memory, Sink};
 use fle_stream::{Cut, End, Why, write_made};
-use local_kms::{MasterKey, NewFault, new_key};
+use local_kms::{MasterKey, NewFault, document_of, names_of, new_key};
 use std::alloc::Global;
 
 /// The words behind `keygen`, and when they were given.
@@ -114,33 +112,4 @@ fn write_new<O: Sink>(alloc: Global, key: &KeyDoc, time: u64, out: &mut O) -> En
         Ok(bytes) => write_made(out, &bytes),
         Err(Memory) => End::unread(Why::Cut(Cut::Memory)),
     }
-}
-
-/// The document of a key that was made at this time.
-fn document_of(alloc: Global, key: &KeyDoc, time: u64) -> Result<Vec<u8>, Memory>
-    requires few { length key.now.names ≤ 1000 }
-    requires small { names_size key.now.names ≤ 15999840 }
-    requires long { (length key.now.id ≡ 16) × (length key.now.material ≡ 160) }
-    requires local { key.now.provider ≡ Provider.Local }
-    ensures document { IfOk result (λ bytes. bytes.items ≡ doc_bytes (key_fields key.now time time 0)) }
-    ensures size { IfOk result (λ bytes. length bytes.items ≡ document_size key.now.names time) }
-{
-    let ms = time.cast_signed();
-    let bytes = write_key(alloc, key, ms, ms, 0)?;
-    Ok(bytes)
-}
-
-/// The names of the words.
-fn names_of(alloc: Global, words: &[String]) -> Result<Names, Memory>
-    ensures names { IfOk result (λ names. names ≡ map string_bytes words.now) }
-{
-    let mut names = Vec::new(alloc);
-    for word in words {
-        let name = Bytes::from_slice(alloc, word.as_bytes())?;
-        match names.push(name) {
-            Ok(()) => {}
-            Err(_) => return Err(Memory),
-        }
-    }
-    Ok(Names::from_vec(names))
 }

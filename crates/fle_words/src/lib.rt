@@ -1,4 +1,4 @@
-//! The words of `fle`, and what they ask for.
+//! The words of `fle`, and what they ask for. [`are_names`] judges the names of a new key.
 //!
 //! ```text
 //! match read_words(&words) {
@@ -10,4 +10,5 @@ pub mod laws;
 mod names;
 mod words;
 
+pub use names::are_names;
 pub use words::{Asked, read_words};

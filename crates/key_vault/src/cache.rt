@@ -86,6 +86,13 @@ impl KeyCache {
         }
     }
 
+    /// The master key.
+    pub fn master(&self) -> &MasterKey
+        ensures master { result.now ≡ self.now.master }
+    {
+        &self.master
+    }
+
     /// How many keys are kept.
     pub fn len(&self) -> usize
         ensures number { result ≡ length self.now.entries }

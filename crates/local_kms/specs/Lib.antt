@@ -3,3 +3,4 @@ pub mod Wrapped
 pub mod Drawn
 pub mod Made
 pub mod Seen
+pub mod Document

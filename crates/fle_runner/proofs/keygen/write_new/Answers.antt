@@ -3,9 +3,10 @@ use Rattle.std.proofs.Common.{◌∙◌, length, ap, refl, arith}
 use Rattle.bson_tree.specs.Spelling.{doc_bytes}
 use Rattle.data_key.specs.declared.key_doc.KeyDoc.{KeyDoc}
 use Rattle.data_key.specs.Written.{key_fields}
-use Rattle.fle_runner.specs.Keygen.{document_size, keygen_plan}
+use Rattle.fle_runner.specs.Keygen.{keygen_plan}
 use Rattle.fle_stream.proofs.Acts.{acts_makes}
 use Rattle.fle_stream.proofs.Outputs.{did_unkept}
+use Rattle.local_kms.specs.Document.{document_size}
 use Rattle.fle_stream.proofs.Turned.{memory_not_entropy, memory_not_folder, memory_not_output}
 use Rattle.fle_runner.proofs.keygen.write_new.Goals as goal
 
