@@ -23,6 +23,7 @@ class Call(enum.IntEnum):
     NoRoom = 10
     NotOpen = 11
     NoId = 12
+    NoNames = 13
 
 
 class Slot(ctypes.Structure):
