@@ -18,6 +18,7 @@ const (
 	Limit        Status = 9  // the document has more than 16,777,216 bytes, or its sealed form above 48,000,000
 	NotOpen      Status = 11 // the engine was closed, or never opened
 	NoId         Status = 12 // a key is named by an id that hasn't 16 bytes
+	NoNames      Status = 13 // a new key can't have the names that are handed in
 )
 
 // String is the name of the status.
@@ -104,6 +105,8 @@ func (told *Error) Error() string {
 		return fmt.Sprintf("fle: %v: %s", told.Status, told.Reason)
 	case NoId:
 		return fmt.Sprintf("fle: %v: the id of a key has 16 bytes", told.Status)
+	case NoNames:
+		return fmt.Sprintf("fle: %v: a new key can't have these names", told.Status)
 	case Words:
 		return fmt.Sprintf("fle: %v: the name of the database has no byte, or more than 63", told.Status)
 	}
