@@ -47,13 +47,7 @@ class Round:
         for what in ("open", "open at a full slot"):
             expect(self.library.call("fle_open", [b"hr", *self.files]), (0, 0, 0, 0, 0, 0), b"", 0, what)
         for _ in range(6):
-            command = some_command(self.chance, self.infos)
-            self.ask(command)
-            refused = judge(self.infos, command, "hr")
-            if refused:
-                self.refuse(command, refused)
-            else:
-                self.seal(command)
+            self.try_command(some_command(self.chance, self.infos))
         for _ in range(4):
             self.unseal(some_sealed(self.chance, self.vault, self.ids, 2))
             self.value(*some_value(self.chance))
@@ -61,6 +55,14 @@ class Round:
         make_keys(self.chance, self.library, self.vault.master)
         self.library.close()
         self.without_engine("after it is closed")
+
+    def try_command(self, command):
+        self.ask(command)
+        refused = judge(self.infos, command, "hr")
+        if refused:
+            self.refuse(command, refused)
+        else:
+            self.seal(command)
 
     def without_engine(self, when):
         for name, arguments in [*calls_with(PING), ("fle_value_keys_wanted", [bytes(2), bytes(16)])]:
@@ -219,12 +221,7 @@ class Deepest(Round):
                 opened = self.library.call("fle_open", [b"hr", self.keys, infos, self.master])
                 expect(opened, (0, 0, 0, 0, 0, 0), b"", 0, "open, of a schema at the limit")
                 for command in deep_commands():
-                    self.ask(command)
-                    refused = judge(self.infos, command, "hr")
-                    if refused:
-                        self.refuse(command, refused)
-                    else:
-                        self.seal(command)
+                    self.try_command(command)
         for _ in range(16):  # under either algorithm, by ids and by names
             self.value(DOCUMENT, nested([(DOCUMENT, "a")] * 98, LEAF))
 
