@@ -230,7 +230,7 @@ class Code:
         last = first = next(i for i, line in enumerate(self.lines) if re.match(rf" *ensures {name} \{{", line))
         while self.lines[first - 1].lstrip().startswith("//"):
             first -= 1
-        while not self.lines[last].endswith("}"):
+        while not self.lines[last].endswith(("}", "};")):
             last += 1
         return Definition(self, first + 1, self.lines[first:last + 1], "clause", {name})
 
