@@ -15,7 +15,7 @@ const (
 	Setup        Status = 4  // keys, infos or master are too long or at fault
 	EntropyFault Status = 7  // no random bytes could be had
 	Memory       Status = 8  // no memory could be had
-	Limit        Status = 9  // the document has more than 16,777,216 bytes, or its sealed form above 48,000,000
+	Limit        Status = 9  // a command above 16,777,216 bytes; one to be opened, or a sealed form, above 48,000,000
 	NotOpen      Status = 11 // the engine was closed, or never opened
 	NoId         Status = 12 // a key is named by an id that hasn't 16 bytes
 	NoNames      Status = 13 // a new key can't have the names that are handed in
