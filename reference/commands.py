@@ -17,14 +17,14 @@ def info_of(infos, command):
     return infos.get(words_of(command[0][2]), ({}, False))
 
 
-def first_refusal(command):
+def first_refusal(command, passing=tuple(PASSING), judged=tuple(MARKED)):
     """What refuses a command for its first field (place, reason), or None."""
     if not command:
         return (), Reason.NOT_A_COMMAND
     kind, name, value = command[0]
-    if name not in PASSING + MARKED:
+    if name not in [*passing, *judged]:
         return (0,), Reason.NOT_A_COMMAND
-    if name in MARKED and (kind != STRING or value == text("")):
+    if name in judged and (kind != STRING or value == text("")):
         return (0,), Reason.BAD_FIELD
     return None
 

@@ -15,4 +15,5 @@ pub mod EqualGrowth
 pub mod WorkedMarkings
 pub mod ToldPlaces
 pub mod Judged
+pub mod Held
 pub mod Wholes

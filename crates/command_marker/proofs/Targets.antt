@@ -11,20 +11,25 @@ use Rattle.encrypt_schema.specs.declared.command.reason.Reason.{Reason}
 use Rattle.encrypt_schema.specs.declared.command.reason.Reason.TheVariants.{NotACommand, BadField, WrongDb}
 use Rattle.encrypt_schema.specs.Language.Names.{named, is_among}
 use Rattle.encrypt_schema.specs.Commands.Stations.{Entry, Station, Insert, Update, Delete, Find, Passed, Unknown}
-use Rattle.encrypt_schema.specs.Commands.Stations.{is_passed, command_of}
+use Rattle.encrypt_schema.specs.Commands.Stations.{Fields, is_passed, command_of, library_of}
+use Rattle.encrypt_schema.specs.Commands.ListedFields.{is_command}
+use Rattle.encrypt_schema.specs.declared.command.listed.Listed.{Listed}
+use Rattle.encrypt_schema.specs.declared.command.listed.Listed.TheVariants as lists
+use Rattle.encrypt_schema.proofs.Commands.Tables.{library_elim, library_unmarked}
 use Rattle.encrypt_schema.specs.Commands.Offences.{when, least, text_of, is_db, is_empty, is_marked, is_string}
-use Rattle.encrypt_schema.specs.Commands.Offences.{of_field, target_offence}
+use Rattle.encrypt_schema.specs.Commands.Offences.{of_field, target_offence, is_library}
 use Rattle.encrypt_schema.specs.Commands.Visits.{names_of, entry, raw_of, command_visit, command_visits, first_refusal}
 use Rattle.encrypt_schema.specs.Commands.Visits.{target_of, target_verdict, Refusal, refused_at, or_else}
 use Rattle.bson_codec.specs.Layout.{string_bytes}
 use Rattle.encrypt_schema.proofs.Language.Texts.{text_is}
 use Rattle.encrypt_schema.proofs.Commands.Fields.{fields_refusal, command_alone, target_anyhow, target_shallow}
-use Rattle.command_marker.specs.Commands.{is_marked_command, passes, AimsAt, Refuses}
+use Rattle.command_marker.specs.Commands.{is_library_command, is_marked_command, passes, AimsAt, Refuses}
 use Rattle.command_marker.specs.declared.destination.Target.TheVariants as targets
 use Rattle.encrypt_schema.specs.Commands.Targets.{rows_of}
 use Rattle.encrypt_schema.proofs.Commands.Unmarked.{passed_command}
 use Rattle.command_marker.proofs.Unmarked.{passing_verdict}
-use Rattle.command_marker.specs.Fields.{is_marked_name, first_reasons, later_reasons, later_refusal}
+use Rattle.command_marker.specs.Fields.{is_library_name, is_marked_name, first_reasons, later_reasons}
+use Rattle.command_marker.specs.Fields.{later_refusal}
 use Rattle.encrypt_schema.specs.declared.command.marks.MarkFault.{MarkFault}
 use Rattle.encrypt_schema.specs.declared.command.marks.MarkFault.TheVariants as faults
 
@@ -60,17 +65,18 @@ pub other_none : (t : Tree) (word : List ℕ) → (tag_of t == 2) ≡ false
     → false ≡ ((tag_of t == 2) && not (named (text_of (raw_of t)) word))
 other_none t word e = ap (λ (b : Bool). b && not (named (text_of (raw_of t)) word)) (sym e)
 
--- the station of a command by the tests of its name
-abbrev station_by : (i u d f p : Bool) → Station
-station_by i u d f p = cond i Insert (cond u Update (cond d Delete (cond f Find (cond p Passed Unknown))))
+-- the station of a command by the tests of its name, and what it is by none
+abbrev station_by : (i u d f p : Bool) → Station → Station
+station_by i u d f p s = cond i Insert (cond u Update (cond d Delete (cond f Find (cond p Passed s))))
 
-marked_by : (i u d f p : Bool) → is_marked (station_by i u d f p) ≡ (i || (u || (d || f)))
-marked_by true u d f p = refl
-marked_by false true d f p = refl
-marked_by false false true f p = refl
-marked_by false false false true p = refl
-marked_by false false false false true = refl
-marked_by false false false false false = refl
+marked_by : (i u d f p : Bool) (s : Station) → is_marked s ≡ false
+    → is_marked (station_by i u d f p s) ≡ (i || (u || (d || f)))
+marked_by true u d f p s h = refl
+marked_by false true d f p s h = refl
+marked_by false false true f p s h = refl
+marked_by false false false true p s h = refl
+marked_by false false false false true s h = refl
+marked_by false false false false false s h = h
 
 -- which commands are marked
 pub marked_name : (name : List ℕ)
@@ -78,7 +84,57 @@ pub marked_name : (name : List ℕ)
     (named name (codes "update") || (named name (codes "delete") || named name (codes "find"))))
 marked_name name =
     marked_by (named name (codes "insert")) (named name (codes "update")) (named name (codes "delete"))
-    (named name (codes "find")) (is_passed name)
+    (named name (codes "find")) (is_passed name) (library_of name) (library_unmarked name)
+
+-- which are a library's: neither one that is marked nor one that passes, and of these names
+library_by : (i u d f p k g q r : Bool)
+    → is_library (station_by i u d f p (cond k (Fields lists.Count) (cond g (Fields lists.FindAndModify)
+    (cond q (Fields lists.Distinct) (cond r (Fields lists.CreateIndexes) Unknown)))))
+    ≡ cond (i || (u || (d || f))) false (cond p false (k || (g || (q || r))))
+library_by true u d f p k g q r = refl
+library_by false true d f p k g q r = refl
+library_by false false true f p k g q r = refl
+library_by false false false true p k g q r = refl
+library_by false false false false true k g q r = refl
+library_by false false false false false true g q r = refl
+library_by false false false false false false true q r = refl
+library_by false false false false false false false true r = refl
+library_by false false false false false false false false true = refl
+library_by false false false false false false false false false = refl
+
+-- the tests of a library's names
+abbrev pub is_one_of_a_library : List ℕ → Bool
+is_one_of_a_library name =
+    named name (codes "count") || (named name (codes "findAndModify") || (named name (codes "distinct")
+    || named name (codes "createIndexes")))
+
+library_told : (name : List ℕ)
+    → is_library_name name
+    ≡ cond (is_marked_name name) false (cond (is_passed name) false (is_one_of_a_library name))
+library_told name =
+    library_by (named name (codes "insert")) (named name (codes "update")) (named name (codes "delete"))
+    (named name (codes "find")) (is_passed name) (named name (codes "count")) (named name (codes "findAndModify"))
+    (named name (codes "distinct")) (named name (codes "createIndexes"))
+    ∙ ap (λ (b : Bool). cond b false (cond (is_passed name) false (is_one_of_a_library name))) (sym (marked_name name))
+
+pub library_marked : (name : List ℕ) → is_marked_name name ≡ true → false ≡ is_library_name name
+library_marked name m =
+    sym (library_told name
+    ∙ ap (λ (b : Bool). cond b false (cond (is_passed name) false (is_one_of_a_library name))) m)
+
+pub library_passed : (name : List ℕ) → is_marked_name name ≡ false → is_passed name ≡ true
+    → false ≡ is_library_name name
+library_passed name m p =
+    sym (library_told name
+    ∙ ap (λ (b : Bool). cond b false (cond (is_passed name) false (is_one_of_a_library name))) m
+    ∙ ap (λ (b : Bool). cond b false (is_one_of_a_library name)) p)
+
+pub library_rest : (name : List ℕ) → is_marked_name name ≡ false → is_passed name ≡ false
+    → is_one_of_a_library name ≡ is_library_name name
+library_rest name m p =
+    sym (library_told name
+    ∙ ap (λ (b : Bool). cond b false (cond (is_passed name) false (is_one_of_a_library name))) m
+    ∙ ap (λ (b : Bool). cond b false (is_one_of_a_library name)) p)
 
 -- the names of elder siblings
 
@@ -152,23 +208,38 @@ later_fields db s at command others (item name t is) h =
     (later_fields db s behind command (others ++ name ∷ []) is h
     ∙ ap (λ (seen : Bool). later_refusal db command seen behind is) (seen_more others name))
 
-by_command : (db name : List ℕ) (t : Tree) (is : Items) (n m : ℕ) (i u d f p : Bool) → p ≡ false
-    → or_else (refused_at n (target_offence db (station_by i u d f p) [] (entry name t)))
-    (fields_refusal (target_of db) (station_by i u d f p) [] m (name ∷ []) is)
+-- the fields of a command of this station, told by whether it is marked
+abbrev FieldsTold : (db name : List ℕ) (t : Tree) (is : Items) (n m : ℕ) → Station → Type 0
+FieldsTold db name t is n m s =
+    or_else (refused_at n (target_offence db s [] (entry name t)))
+    (fields_refusal (target_of db) s [] m (name ∷ []) is)
     ≡ or_else
     (refused_at n
     (least
-    (when (not (is_marked (station_by i u d f p))) NotACommand
-    ++ when (is_marked (station_by i u d f p) && (not (is_string (entry name t)) || is_empty
-    (text_of (entry name t).raw))) BadField)))
+    (when (not (is_marked s)) NotACommand
+    ++ when (is_marked s && (not (is_string (entry name t)) || is_empty (text_of (entry name t).raw))) BadField)))
     (later_refusal db name false m is)
+
+-- a command of a library is refused as one that isn't known
+listed_told : (db name : List ℕ) (t : Tree) (is : Items) (n m : ℕ) (l : Listed) → is_command l ≡ true
+    → FieldsTold db name t is n m (Fields l)
 unfolding target_offence
-by_command db name t is n m true u d f p h = ap (or_else _) (later_fields db Insert m name [] is refl)
-by_command db name t is n m false true d f p h = ap (or_else _) (later_fields db Update m name [] is refl)
-by_command db name t is n m false false true f p h = ap (or_else _) (later_fields db Delete m name [] is refl)
-by_command db name t is n m false false false true p h = ap (or_else _) (later_fields db Find m name [] is refl)
-by_command db name t is n m false false false false true h = absurd (false≢true (sym h))
-by_command db name t is n m false false false false false h = refl
+listed_told db name t is n m lists.Index c = absurd (false≢true c)
+listed_told db name t is n m _ c = refl
+
+unknown_told : (db name : List ℕ) (t : Tree) (is : Items) (n m : ℕ) → FieldsTold db name t is n m Unknown
+unfolding target_offence
+unknown_told db name t is n m = refl
+
+by_command : (db name : List ℕ) (t : Tree) (is : Items) (n m : ℕ) (i u d f p : Bool) (s : Station) → p ≡ false
+    → FieldsTold db name t is n m s → FieldsTold db name t is n m (station_by i u d f p s)
+unfolding target_offence
+by_command db name t is n m true u d f p s h k = ap (or_else _) (later_fields db Insert m name [] is refl)
+by_command db name t is n m false true d f p s h k = ap (or_else _) (later_fields db Update m name [] is refl)
+by_command db name t is n m false false true f p s h k = ap (or_else _) (later_fields db Delete m name [] is refl)
+by_command db name t is n m false false false true p s h k = ap (or_else _) (later_fields db Find m name [] is refl)
+by_command db name t is n m false false false false true s h k = absurd (false≢true (sym h))
+by_command db name t is n m false false false false false s h k = k
 
 root_free : (db : List ℕ) (name : List ℕ) (t : Tree) (is : Items) → target_of db (command_visit (item name t is)) ≡ None
 unfolding target_offence
@@ -186,7 +257,11 @@ fields_told db at name t is h =
     ∙ ap (λ (r : Option Reason). or_else (refused_at 0 r) fields) (root_free db name t is)
     ∙ by_command db name t is (at + 4 + (2 + length name)) (at + 4 + (2 + length name) + length (value_bytes t))
     (named name (codes "insert")) (named name (codes "update")) (named name (codes "delete"))
-    (named name (codes "find")) (is_passed name) h
+    (named name (codes "find")) (is_passed name) (library_of name) h
+    (library_elim
+    (FieldsTold db name t is (at + 4 + (2 + length name)) (at + 4 + (2 + length name) + length (value_bytes t)))
+    (listed_told db name t is (at + 4 + (2 + length name)) (at + 4 + (2 + length name) + length (value_bytes t)))
+    (unknown_told db name t is (at + 4 + (2 + length name)) (at + 4 + (2 + length name) + length (value_bytes t))) name)
 
 -- the document without a field is no command
 pub target_none : (db : List ℕ) (at : ℕ) (c : Items) → c ≡ no_items
@@ -250,6 +325,16 @@ marked_name_read name names false p m = refl
 pub marked_read : (c : Items) → is_marked_command c ≡ true → passes c ≡ false
 marked_read no_items m = absurd (false≢true m)
 marked_read (item name t is) m = marked_name_read name (names_of is) (is_passed name) refl m
+
+library_name_read : (name : List ℕ) (names : List (List ℕ)) (b : Bool) → is_passed name ≡ b
+    → is_library (command_of (name ∷ names)) ≡ true → b ≡ false
+library_name_read name names true p m = absurd (false≢true (ap is_library (sym (passed_command name names p)) ∙ m))
+library_name_read name names false p m = refl
+
+-- nor does a command of a library
+pub library_read : (c : Items) → is_library_command c ≡ true → passes c ≡ false
+library_read no_items m = absurd (false≢true m)
+library_read (item name t is) m = library_name_read name (names_of is) (is_passed name) refl m
 
 -- a refusal of the later fields is the command's
 pub aims_err : (db : List ℕ) (c : At) (refusal : Option Refusal) (fault : MarkFault)

@@ -5,7 +5,7 @@ use Rattle.bson_codec.specs.Borrowed.{At}
 use Rattle.encrypt_schema.specs.declared.command.marks.Mark.{Mark}
 use Rattle.encrypt_schema.specs.declared.command.marks.MarkFault.{MarkFault}
 use Rattle.encrypt_schema.specs.declared.command.marks.MarkFault.TheVariants as faults
-use Rattle.encrypt_schema.specs.Commands.Offences.{text_of, is_marked}
+use Rattle.encrypt_schema.specs.Commands.Offences.{text_of, is_library, is_marked}
 use Rattle.encrypt_schema.specs.Language.Row.{Row}
 use Rattle.encrypt_schema.specs.Commands.Stations.{is_passed, command_of}
 use Rattle.encrypt_schema.specs.Commands.Visits.{names_of, raw_of, Refusal, target_verdict, content_verdict, roles}
@@ -15,6 +15,10 @@ use Rattle.command_marker.specs.declared.destination.Target.TheVariants as targe
 -- a command whose values are protected, by the name of its first field: insert, update, delete, find
 abbrev pub is_marked_command : Items → Bool
 is_marked_command c = is_marked (command_of (names_of c))
+
+-- a command that a library alone takes, by the name of its first field: count, findAndModify, distinct, createIndexes
+abbrev pub is_library_command : Items → Bool
+is_library_command c = is_library (command_of (names_of c))
 
 -- the name of a command: that of its first field; no byte where there is none
 abbrev pub first_name : Items → List ℕ

@@ -6,12 +6,17 @@ use Rattle.encrypt_schema.specs.declared.command.reason.Reason.{Reason}
 use Rattle.encrypt_schema.specs.declared.command.reason.Reason.TheVariants.{NotACommand, BadField, WrongDb}
 use Rattle.encrypt_schema.specs.Language.Names.{named}
 use Rattle.encrypt_schema.specs.Commands.Stations.{Entry, command_of}
-use Rattle.encrypt_schema.specs.Commands.Offences.{when, least, is_db, is_empty, is_marked, is_string, text_of}
+use Rattle.encrypt_schema.specs.Commands.Offences.{when, least, is_db, is_empty, is_library, is_marked, is_string}
+use Rattle.encrypt_schema.specs.Commands.Offences.{text_of}
 use Rattle.encrypt_schema.specs.Commands.Visits.{entry, Refusal, refused_at, or_else}
 
 -- the name of a marked command
 abbrev pub is_marked_name : List ℕ → Bool
 is_marked_name name = is_marked (command_of (name ∷ []))
+
+-- the name of a command that a library alone takes
+abbrev pub is_library_name : List ℕ → Bool
+is_library_name name = is_library (command_of (name ∷ []))
 
 -- the first field of a command that doesn't pass: no command that is known; a marked command whose value is no
 -- string, or is the empty one

@@ -6,6 +6,9 @@ use Rattle.encrypt_schema.specs.Language.Row.{Row}
 use Rattle.encrypt_schema.specs.Commands.Offences.{ruled_offence}
 use Rattle.encrypt_schema.specs.Commands.Stations.{Entry, Station, Insert, Update, Delete, Find, Inserts, Updates}
 use Rattle.encrypt_schema.specs.Commands.Stations.{Deletes, UpdateItem, DeleteItem, Projection, station, has_role}
+use Rattle.encrypt_schema.specs.Commands.Stations.{Fields, Keys, IndexKeys, Indexes, Own, held_at}
+use Rattle.encrypt_schema.specs.Commands.Offences.{least, held_wrong}
+use Rattle.encrypt_schema.specs.declared.command.listed.FieldKind.{FieldKind}
 use Rattle.encrypt_schema.specs.Views.Walking.{station_next, StandsNext}
 use Rattle.encrypt_schema.specs.declared.command.walking.Next.{Next}
 use Rattle.encrypt_schema.specs.declared.command.walking.Next.TheVariants as nexts
@@ -32,6 +35,11 @@ command_station places.Deletes rows = Deletes
 command_station places.UpdateItem rows = UpdateItem
 command_station places.DeleteItem rows = DeleteItem
 command_station places.Projection rows = Projection
+command_station (places.Fields listed) rows = Fields listed
+command_station places.Keys rows = Keys
+command_station places.IndexKeys rows = IndexKeys
+command_station places.Indexes rows = Indexes
+command_station (places.Own own) rows = Own own
 command_station (places.Filter at) rows = filters.station_by at rows
 command_station (places.Update at) rows = update_station at rows
 
@@ -52,6 +60,11 @@ command_unprotected places.Deletes rows = refl
 command_unprotected places.UpdateItem rows = refl
 command_unprotected places.DeleteItem rows = refl
 command_unprotected places.Projection rows = refl
+command_unprotected (places.Fields listed) rows = refl
+command_unprotected places.Keys rows = refl
+command_unprotected places.IndexKeys rows = refl
+command_unprotected places.Indexes rows = refl
+command_unprotected (places.Own own) rows = refl
 command_unprotected (places.Filter at) rows = filters.unprotected at rows
 command_unprotected (places.Update at) rows = update_unprotected at rows
 
@@ -64,6 +77,19 @@ Answers rows s offence (Err reason) = Some reason ≡ offence
 -- an element of a document of this station, behind elder siblings of these names, is judged right
 abbrev pub Judges : List Row → Station → List (List ℕ) → Entry → Result (Next CommandPlace) Reason → Type 0
 Judges rows s elder e result = Answers rows (station rows s e) (ruled_offence rows s elder e) result
+
+-- a listed field that holds this is judged right
+abbrev pub Holds : List Row → FieldKind → Entry → Result (Next CommandPlace) Reason → Type 0
+Holds rows kind e result = Answers rows (held_at kind e) (least (held_wrong rows kind e)) result
+
+-- a value of the right type, at this place; or why it is refused
+abbrev pub inside_if : Bool → CommandPlace → Reason → Result (Next CommandPlace) Reason
+inside_if right place reason = if right then Ok (nexts.Inside place) else Err reason
+
+-- a hint: a document, or a string
+abbrev pub hint_answer : Bool → Bool → Result (Next CommandPlace) Reason
+hint_answer document string =
+    if document then Ok (nexts.Inside places.IndexKeys) else if string then Ok nexts.Passed else Err FieldNotAllowed
 
 -- a field that is read, as what it has to be; BadField where it isn't, or stands for the second time
 abbrev pub read_as : Bool → CommandPlace → Result (Next CommandPlace) Reason

@@ -150,7 +150,7 @@ fn judge_change(
 }
 
 /// The place of an update that is a document.
-fn change_place(rows: &Rows, item: &RawItem<'_>) -> UpdatePlace
+pub(crate) fn change_place(rows: &Rows, item: &RawItem<'_>) -> UpdatePlace
     ensures station { update_station result rows.now ≡ update_of (names_of (kids_of item.now.tree)) }
     ensures stands { UpdateStands result rows.now }
 {

@@ -14,6 +14,7 @@ ghost use Rattle.encrypt_schema.specs.Commands.Chains.{is_shown, mark_of, offenc
 ghost use Rattle.encrypt_schema.specs.Commands.Chains.{part_visit_at, sites, station_at, use_of_mark, use_of_site};
 ghost use Rattle.encrypt_schema.specs.Commands.Chains.{verdict_at, visit_at};
 ghost use Rattle.encrypt_schema.specs.Language.Collection.{Collection};
+ghost use Rattle.encrypt_schema.specs.Commands.More.{more_verdict};
 ghost use Rattle.encrypt_schema.specs.Commands.Offences.{offence};
 ghost use Rattle.encrypt_schema.specs.Language.Row.{Row};
 ghost use Rattle.encrypt_schema.specs.Commands.Skeletons.{AreApart, blank, hole_at, holes, skeleton};
@@ -40,8 +41,8 @@ pub fn holes()
 {}
 
 /// Noninterference: commands with equal skeletons have equal roles, equal offences at each place that lies below no
-/// hole, whichever pass it belongs to, and equal verdicts, told at equal places: what is refused, and where, depends on
-/// protected values by their types, their lengths and whether they are binaries of subtype 06 alone.
+/// hole, whichever pass it belongs to, and equal verdicts, of a library too, told at equal places: what is refused, and
+/// where, depends on protected values by their types, their lengths and whether they are binaries of subtype 06 alone.
 pub fn two_worlds()
     ensures roles { (rows : List Row) (at : ℕ) (c d : Items) → skeleton rows c ≡ skeleton rows d
         → roles rows at c ≡ roles rows at d }
@@ -61,6 +62,9 @@ pub fn two_worlds()
     ensures verdict { (db : List ℕ) (collections : List Collection) (at : ℕ) (c d : Items)
         → skeleton (rows_of collections c) c ≡ skeleton (rows_of collections c) d
         → verdict db collections at c ≡ verdict db collections at d }
+    ensures library { (db : List ℕ) (collections : List Collection) (at : ℕ) (c d : Items)
+        → skeleton (rows_of collections c) c ≡ skeleton (rows_of collections c) d
+        → more_verdict db collections at c ≡ more_verdict db collections at d }
     ensures places { (db : List ℕ) (collections : List Collection) (c d : Items) (r : Refusal)
         → skeleton (rows_of collections c) c ≡ skeleton (rows_of collections c) d → verdict db collections 0 c ≡ Some r
         → place_of r.at c ≡ place_of r.at d }

@@ -2,9 +2,10 @@
 
 ghost use Rattle.std.specs.Prelude.{◌≡◌, None, false, true};
 ghost use Rattle.encrypt_schema.specs.Commands.Visits.{content_verdict, roles};
-ghost use Rattle.command_marker.specs.Commands.{MarksAs, TellsMarks, is_marked_command, passes};
+ghost use Rattle.command_marker.specs.Commands.{MarksAs, TellsMarks, is_library_command, is_marked_command};
+ghost use Rattle.command_marker.specs.Commands.{passes};
 
-use crate::contents::mark_contents;
+use crate::contents::{mark_contents, mark_listed};
 use bson_codec::RawDoc;
 use encrypt_schema::{MarkFault, Marks, Rows};
 use std::alloc::Global;
@@ -84,6 +85,44 @@ pub fn mark_command<'a>(
             command,
             rows,
         }),
+        Err(fault) => Err(fault),
+    }
+}
+
+/// Marks the protected values of a command that a library takes beyond those, a count, a findAndModify, a distinct or a
+/// createIndexes, as `is_library` tells; else the first place that is refused, by its contents. Of a field that isn't
+/// listed nothing is sent: it is refused. What its filters and updates hold is judged as in the other commands, so a
+/// value of `$exists`, `$comment` or `$unset` stands as it is. Without rules nothing is marked and nothing is refused.
+/// `Memory` may come at any time.
+pub fn mark_library<'a>(
+    alloc: Global,
+    rows: &'a Rows,
+    command: RawDoc<'a>,
+) -> Result<Marked<'a>, MarkFault>
+    requires library { is_library_command command.tree ≡ true }
+    ensures marks { MarksAs rows.now command.entry result }
+{
+    match listed_marks(alloc, rows, &command) {
+        Ok(marks) => Ok(Marked {
+            marks,
+            command,
+            rows,
+        }),
+        Err(fault) => Err(fault),
+    }
+}
+
+/// The marks of the protected values of such a command.
+fn listed_marks(alloc: Global, rows: &Rows, command: &RawDoc<'_>) -> Result<Marks, MarkFault>
+    requires library { is_library_command command.now.tree ≡ true }
+    ensures marks { TellsMarks rows.now command.now result }
+{
+    let mut marks = Marks::new(alloc);
+    if rows.len() == 0 {
+        return Ok(marks);
+    }
+    match mark_listed(&mut marks, rows, command) {
+        Ok(()) => Ok(marks),
         Err(fault) => Err(fault),
     }
 }

@@ -1,12 +1,12 @@
 //! Names of commands and of their fields.
 
-ghost use Rattle.std.specs.Prelude.{◌≡◌, codes};
+ghost use Rattle.std.specs.Prelude.{◌≡◌, ◌||◌, codes};
 ghost use Rattle.bson_tree.specs.Tree.{kids_of};
 ghost use Rattle.encrypt_schema.specs.Language.Names.{is_among, named};
 ghost use Rattle.encrypt_schema.specs.Commands.Visits.{names_of};
 ghost use Rattle.encrypt_schema.specs.Commands.Offences.{is_db};
 ghost use Rattle.encrypt_schema.specs.Commands.Stations.{is_passed};
-ghost use Rattle.command_marker.specs.Fields.{is_marked_name};
+ghost use Rattle.command_marker.specs.Fields.{is_library_name, is_marked_name};
 
 use bson_codec::RawItem;
 use encrypt_schema::{has_name, is_named};
@@ -39,12 +39,61 @@ fn is_find(name: &[u8]) -> bool
     is_named(name, b"find")
 }
 
+/// Whether this is the name of the command `count`.
+pub(crate) fn is_count(name: &[u8]) -> bool
+    ensures { result ≡ named name.now (codes "count") }
+{
+    is_named(name, b"count")
+}
+
+/// Whether this is the name of the command `findAndModify`.
+pub(crate) fn is_find_and_modify(name: &[u8]) -> bool
+    ensures { result ≡ named name.now (codes "findAndModify") }
+{
+    is_named(name, b"findAndModify")
+}
+
 /// Whether this is the name of a command whose values are protected.
 #[tactic(auto, using(crate::proofs::Targets::marked_name))]
 pub(crate) fn is_marked(name: &[u8]) -> bool
     ensures { result ≡ is_marked_name name.now }
 {
     is_insert(name) || is_update(name) || is_delete(name) || is_find(name)
+}
+
+/// Whether this is the name of the command `distinct`.
+pub(crate) fn is_distinct(name: &[u8]) -> bool
+    ensures { result ≡ named name.now (codes "distinct") }
+{
+    is_named(name, b"distinct")
+}
+
+/// Whether this is the name of the command `createIndexes`.
+fn is_create_indexes(name: &[u8]) -> bool
+    ensures { result ≡ named name.now (codes "createIndexes") }
+{
+    is_named(name, b"createIndexes")
+}
+
+/// Whether this is one of the names of a library's commands.
+fn is_one_of_a_library(name: &[u8]) -> bool
+    ensures { result ≡ (named name.now (codes "count") || (named name.now (codes "findAndModify")
+        || (named name.now (codes "distinct") || named name.now (codes "createIndexes")))) }
+{
+    is_count(name) || is_find_and_modify(name) || is_distinct(name) || is_create_indexes(name)
+}
+
+/// Whether this is the name of a command that a library alone takes.
+pub(crate) fn is_library_name(name: &[u8]) -> bool
+    ensures { result ≡ is_library_name name.now }
+{
+    if is_marked(name) {
+        return false;
+    }
+    if is_passed(name) {
+        return false;
+    }
+    is_one_of_a_library(name)
 }
 
 /// Whether this is the name of a command that passes unchanged.

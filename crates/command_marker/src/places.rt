@@ -13,8 +13,11 @@ use crate::items::{
     judge_delete_item, judge_deletes, judge_inserts, judge_projection, judge_update_item,
     judge_updates,
 };
+use crate::keys::{judge_index_keys, judge_indexes, judge_keys};
+use crate::listed::judge_listed;
+use crate::owned::judge_own;
 use bson_codec::{RawDoc, RawItem};
-use encrypt_schema::{JudgingPlace, Next, Reason, Rows};
+use encrypt_schema::{JudgingPlace, Listed, Next, OwnDocument, Reason, Rows};
 use filter_rules::FilterPlace;
 use update_rules::UpdatePlace;
 
@@ -48,6 +51,16 @@ pub(crate) enum CommandPlace {
     DeleteItem,
     /// The projection of a find.
     Projection,
+    /// A document of which each field is listed.
+    Fields(Listed),
+    /// An order, or a choice of fields.
+    Keys,
+    /// The keys of an index.
+    IndexKeys,
+    /// The array `indexes`.
+    Indexes,
+    /// A document whose names are MongoDB's own.
+    Own(OwnDocument),
     /// A filter, or what stands in one.
     Filter(FilterPlace),
     /// A stored document, an update, or what stands in one.
@@ -74,6 +87,11 @@ impl JudgingPlace for CommandPlace {
             CommandPlace::UpdateItem => judge_update_item(rows, document, k, item),
             CommandPlace::DeleteItem => judge_delete_item(document, k, item),
             CommandPlace::Projection => judge_projection(item),
+            CommandPlace::Fields(listed) => judge_listed(listed, rows, document, k, item),
+            CommandPlace::Keys => judge_keys(item),
+            CommandPlace::IndexKeys => judge_index_keys(item),
+            CommandPlace::Indexes => judge_indexes(item),
+            CommandPlace::Own(own) => judge_own(own, item),
             CommandPlace::Filter(at) => judge_in_filter(at, rows, document, k, item),
             CommandPlace::Update(at) => judge_in_update(at, rows, document, k, item),
         }
@@ -90,6 +108,11 @@ impl JudgingPlace for CommandPlace {
             CommandPlace::UpdateItem => false,
             CommandPlace::DeleteItem => false,
             CommandPlace::Projection => false,
+            CommandPlace::Fields(_) => false,
+            CommandPlace::Keys => false,
+            CommandPlace::IndexKeys => false,
+            CommandPlace::Indexes => false,
+            CommandPlace::Own(_) => false,
             CommandPlace::Filter(at) => at.is_whole(),
         }
     }

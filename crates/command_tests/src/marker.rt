@@ -1,5 +1,6 @@
 //! Marks, refusals and replies (`command_marker`).
 
 mod inside_tests;
+mod library_tests;
 mod reply_tests;
 mod target_tests;

@@ -9,8 +9,9 @@ use Rattle.command_marker.specs.Commands.{collection_in}
 use Rattle.encrypt_schema.specs.Commands.Chains.{use_of_mark, use_of_site}
 use Rattle.encrypt_schema.specs.Commands.Offences.{text_of}
 use Rattle.encrypt_schema.specs.Commands.Skeletons.{Skeletons, no_more, more, blank, skeleton, widths_of}
-use Rattle.encrypt_schema.specs.Commands.Stations.{Entry, Outside, Insert, Update, Delete, Find, Passed, Unknown}
-use Rattle.encrypt_schema.specs.Commands.Stations.{command_of, has_role, is_passed, station}
+use Rattle.encrypt_schema.specs.Commands.Stations.{Entry, Station, Outside, Insert, Update, Delete, Find, Passed}
+use Rattle.encrypt_schema.specs.Commands.Stations.{command_of, has_role, is_passed, library_of, station}
+use Rattle.encrypt_schema.proofs.Commands.Tables.{library_elim, listed_plain}
 use Rattle.encrypt_schema.specs.Commands.Visits.{command_entry, command_visits, entry, names_of, roles, texts}
 use Rattle.encrypt_schema.specs.Language.Names.{named}
 use Rattle.encrypt_schema.specs.Language.Policies.{policy_at}
@@ -32,22 +33,24 @@ use Rattle.context_machine.proofs.NamesTold.{names_told}
 
 -- ---- the name of the collection
 
-unmarked_by : (rows : List Row) (e : Entry) (insert update delete find pass : Bool)
+unmarked_by : (rows : List Row) (e : Entry) (insert update delete find pass : Bool) (s : Station)
+    → has_role (station rows s e) ≡ false
     → has_role (station rows (cond insert Insert (cond update Update (cond delete Delete (cond find Find
-    (cond pass Passed Unknown))))) e) ≡ false
-unmarked_by rows e true update delete find pass = field_without_role rows Insert e refl
-unmarked_by rows e false true delete find pass = field_without_role rows Update e refl
-unmarked_by rows e false false true find pass = field_without_role rows Delete e refl
-unmarked_by rows e false false false true pass = field_without_role rows Find e refl
-unmarked_by rows e false false false false true = refl
-unmarked_by rows e false false false false false = refl
+    (cond pass Passed s))))) e) ≡ false
+unmarked_by rows e true update delete find pass s h = field_without_role rows Insert e refl
+unmarked_by rows e false true delete find pass s h = field_without_role rows Update e refl
+unmarked_by rows e false false true find pass s h = field_without_role rows Delete e refl
+unmarked_by rows e false false false true pass s h = field_without_role rows Find e refl
+unmarked_by rows e false false false false true s h = refl
+unmarked_by rows e false false false false false s h = h
 
 -- no field of a command is protected
 field_unmarked : (rows : List Row) (name : List ℕ) (names : List (List ℕ)) (e : Entry)
     → has_role (station rows (command_of (name ∷ names)) e) ≡ false
 field_unmarked rows name names e =
     unmarked_by rows e (named name (codes "insert")) (named name (codes "update")) (named name (codes "delete"))
-    (named name (codes "find")) (is_passed name)
+    (named name (codes "find")) (is_passed name) (library_of name)
+    (library_elim (λ s. has_role (station rows s e) ≡ false) (λ l c. listed_plain rows l e) refl name)
 
 abbrev name_in : Skeletons → List ℕ
 name_in no_more = []

@@ -11,8 +11,9 @@ use Rattle.encrypt_schema.specs.Commands.Chains.{targets_in, targets_from, targe
 use Rattle.encrypt_schema.specs.Commands.Pointers.{Targets, pointed}
 use Rattle.encrypt_schema.specs.Language.Names.{named}
 use Rattle.encrypt_schema.specs.Language.Row.{Row}
-use Rattle.encrypt_schema.specs.Commands.Stations.{Station, Outside, Store, Compare, Passed, Unknown, Insert, Update}
-use Rattle.encrypt_schema.specs.Commands.Stations.{Delete, Find, is_passed, station, command_of}
+use Rattle.encrypt_schema.specs.Commands.Stations.{Station, Outside, Store, Compare, Passed, Insert, Update}
+use Rattle.encrypt_schema.specs.Commands.Stations.{Delete, Find, is_passed, station, command_of, library_of}
+use Rattle.encrypt_schema.proofs.Commands.Tables.{library_elim}
 use Rattle.encrypt_schema.specs.Commands.Visits.{entry, command_entry}
 use Rattle.doc_rewrite.specs.SealedTrees.{Use, use_of, rule_of, SealedBy, SealedIn, AreSealed}
 use Rattle.doc_rewrite.specs.SealedCommand.{rule_at, use_at, SealsAt, IsFilledCommand}
@@ -164,21 +165,22 @@ module _ (S : Use → Tree → Tree → Type 0) (rows : List Row) where
         (seals_among s ts q (elder ++ name ∷ []) is sealed.1 sealed.4 k place i e)
 
   -- the command itself is no protected value
-  none_if : (a b c d e : Bool)
+  none_if : (a b c d e : Bool) (s : Station) → rule_of s ≡ None
       → rule_of (if a then Insert else if b then Update else if c then Delete else if d then Find else if e then Passed
-      else Unknown) ≡ None
-  none_if true b c d e = refl
-  none_if false true c d e = refl
-  none_if false false true d e = refl
-  none_if false false false true e = refl
-  none_if false false false false true = refl
-  none_if false false false false false = refl
+      else s) ≡ None
+  none_if true b c d e s h = refl
+  none_if false true c d e s h = refl
+  none_if false false true d e s h = refl
+  none_if false false false true e s h = refl
+  none_if false false false false true s h = refl
+  none_if false false false false false s h = h
 
   pub command_none : (names : List (List ℕ)) → rule_of (command_of names) ≡ None
   command_none [] = refl
   command_none (name ∷ names) =
       none_if (named name (codes "insert")) (named name (codes "update")) (named name (codes "delete"))
-      (named name (codes "find")) (is_passed name)
+      (named name (codes "find")) (is_passed name) (library_of name)
+      (library_elim (λ s. rule_of s ≡ None) (λ l c. refl) refl name)
 
   seals_at : (ts : Targets) (o : Option ℕ) (v w : Option Tree)
       → ((i : ℕ) → o ≡ Some i → SealsAt S (Some (use_of rows ts i)) v w)

@@ -3,6 +3,7 @@ pub mod WorkedCommands
 pub mod WorkedTargets
 pub mod WorkedFilters
 pub mod WorkedUpdates
+pub mod WorkedLibrary
 pub mod Tables
 pub mod Widths
 pub mod Pointed
@@ -16,6 +17,7 @@ pub mod Worlds
 pub mod Silence
 pub mod Apart
 pub mod TwoWorlds
+pub mod MoreWorlds
 pub mod ByPlace
 pub mod ShownPlaces
 pub mod EqualOffences

@@ -21,6 +21,7 @@ pub mod laws;
 mod path;
 mod schema;
 
+pub use command::listed::{FieldKind, Listed, OwnDocument};
 pub use command::marks::{Mark, MarkFault, Marks, Role, Span};
 pub use command::operators::{Operator, Subject};
 pub use command::reason::Reason;

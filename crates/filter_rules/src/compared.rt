@@ -28,8 +28,8 @@ fn is_random(rows: &Rows, i: u32) -> bool
 }
 
 /// Whether this is the field of a rule with the random algorithm.
-pub(crate) fn is_random_field(rows: &Rows, subject: Subject) -> bool
-    ensures { result ≡ is_random_field rows.now subject }
+pub fn is_random_field(rows: &Rows, subject: Subject) -> bool
+    ensures random { result ≡ is_random_field rows.now subject }
 {
     match subject {
         Subject::Field(i) => is_random(rows, i),

@@ -9,6 +9,7 @@
 //! crate above that judges whole commands nests it in its places. It allocates for the marks alone.
 #![tactic(auto)]
 
+pub use compared::is_random_field;
 pub use places::{FilterPlace, mark_filter};
 
 mod compared;

@@ -74,7 +74,7 @@ pub(crate) enum Outcome {
 }
 
 /// The outcome of a refusal; `None` where there was no memory.
-fn refusal(fault: MarkFault) -> Option<Outcome> {
+pub(crate) fn refusal(fault: MarkFault) -> Option<Outcome> {
     match fault {
         MarkFault::Refused { reason, at } => Some(Outcome::Refused(reason, at)),
         MarkFault::Memory => None,
@@ -120,7 +120,7 @@ pub(crate) fn stored(start: u32, end: u32, tag: u8, policy: u32) -> Option<Mark>
 }
 
 /// One mark of a compared value.
-fn compared(start: u32, end: u32, tag: u8, policy: u32) -> Option<Mark> {
+pub(crate) fn compared(start: u32, end: u32, tag: u8, policy: u32) -> Option<Mark> {
     Some(Mark {
         start,
         end,

@@ -15,6 +15,11 @@ use Rattle.encrypt_schema.specs.Language.Names.{named}
 use Rattle.encrypt_schema.specs.Language.Row.{Row}
 use Rattle.encrypt_schema.specs.Paths.Classes.{class}
 use Rattle.encrypt_schema.specs.Paths.Dotted.{split, is_dollar}
+use Rattle.encrypt_schema.specs.declared.command.listed.FieldKind.{FieldKind}
+use Rattle.encrypt_schema.specs.declared.command.listed.FieldKind.TheVariants as kinds
+use Rattle.encrypt_schema.specs.declared.command.listed.Listed.TheVariants as lists
+use Rattle.encrypt_schema.specs.Commands.ListedFields.{field_kind, is_command}
+use Rattle.encrypt_schema.specs.Commands.Stations.{Fields, Keys, IndexKeys, Indexes, Own, held_at}
 use Rattle.encrypt_schema.specs.Commands.Stations.{Entry, Station, Outside, Insert, Update, Delete, Find, Unknown}
 use Rattle.encrypt_schema.specs.Commands.Stations.{Inserts, Updates, Deletes, UpdateItem, DeleteItem, Filter, Cases}
 use Rattle.encrypt_schema.specs.Commands.Stations.{Projection, Test, Elements, Operators, Sets, Argument, operator_of}
@@ -28,6 +33,7 @@ use Rattle.encrypt_schema.specs.Commands.Visits.{names_of, entry, Visit, visit, 
 use Rattle.encrypt_schema.specs.Commands.Visits.{command_visits, target_of, view_of, Refusal, refused_at, or_else}
 use Rattle.encrypt_schema.specs.Commands.Visits.{first_refusal, target_verdict}
 use Rattle.encrypt_schema.proofs.Commands.Silence.{refusal, refusal_append}
+use Rattle.encrypt_schema.proofs.Commands.Tables.{library_elim}
 
 -- what is no command, and not around one
 abbrev pub is_inner : Station → Bool
@@ -37,6 +43,7 @@ is_inner Update = false
 is_inner Delete = false
 is_inner Find = false
 is_inner Unknown = false
+is_inner (Fields l) = not (is_command l)
 is_inner _ = true
 
 -- what is around a command
@@ -64,6 +71,19 @@ inner_compared : (x : Subject) → is_inner (compared_with x) ≡ true
 inner_compared (Field i) = refl
 inner_compared Prefix = refl
 
+inner_held : (k : FieldKind) (e : Entry) → is_inner (held_at k e) ≡ true
+inner_held kinds.Filter e = inner_cond (is_document e) Filter Passed refl refl
+inner_held kinds.Update e =
+    inner_cond (is_document e) _ Passed (inner_cond (is_dollar_first e.names) Operators (Document []) refl refl) refl
+inner_held kinds.Keys e = inner_cond (is_document e) Keys Passed refl refl
+inner_held kinds.IndexKeys e = inner_cond (is_document e) IndexKeys Passed refl refl
+inner_held kinds.Hint e = inner_cond (is_document e) IndexKeys Passed refl refl
+inner_held kinds.Indexes e = inner_cond (is_array e) Indexes Passed refl refl
+inner_held (kinds.Own own) e = inner_cond (is_document e) (Own own) Passed refl refl
+inner_held kinds.Path e = refl
+inner_held kinds.Word e = refl
+inner_held kinds.Unlisted e = refl
+
 -- inside a command there is no command
 inner_child : (rows : List Row) (s : Station) (e : Entry) → is_outside s ≡ false → is_inner (station rows s e) ≡ true
 inner_child rows Outside e h = absurd (false≢true (sym h))
@@ -74,6 +94,8 @@ inner_child rows Delete e h = inner_cond (has_name (codes "deletes") e && is_arr
 inner_child rows Find e h =
     inner_cond (has_name (codes "filter") e && is_document e) Filter _ refl
     (inner_cond (has_name (codes "projection") e && is_document e) Projection Passed refl refl)
+inner_child rows (Fields l) e h = inner_held (field_kind l e.name) e
+inner_child rows Indexes e h = inner_cond (is_document e) (Fields lists.Index) Passed refl refl
 inner_child rows Updates e h = inner_cond (is_document e) UpdateItem Passed refl refl
 inner_child rows Deletes e h = inner_cond (is_document e) DeleteItem Passed refl refl
 inner_child rows UpdateItem e h =
@@ -115,6 +137,8 @@ target_inner db Update elder e h = absurd (false≢true h)
 target_inner db Delete elder e h = absurd (false≢true h)
 target_inner db Find elder e h = absurd (false≢true h)
 target_inner db Unknown elder e h = absurd (false≢true h)
+target_inner db (Fields lists.Index) elder e h = refl
+target_inner db (Fields _) elder e h = absurd (false≢true h)
 target_inner db _ elder e h = refl
 
 view_inner : (info : Option Collection) (s : Station) (elder : List (List ℕ)) (e : Entry) → is_inner s ≡ true
@@ -193,7 +217,9 @@ command_inside (n ∷ ns) =
     outside_cond (named n (codes "insert")) Insert _ refl
     (outside_cond (named n (codes "update")) Update _ refl
     (outside_cond (named n (codes "delete")) Delete _ refl
-    (outside_cond (named n (codes "find")) Find _ refl (outside_cond (is_passed n) Passed Unknown refl refl))))
+    (outside_cond (named n (codes "find")) Find _ refl
+    (outside_cond (is_passed n) Passed _ refl
+    (library_elim (λ s. is_outside s ≡ false) (λ l c. refl) refl n)))))
 
 -- the first refusal of a command in such a pass, by itself and its fields
 pub command_alone : (pass : Visit → Option Reason) (rows : List Row) (at : ℕ) (c : Items) → IsShallow pass

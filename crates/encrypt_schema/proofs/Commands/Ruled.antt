@@ -12,6 +12,11 @@ use Rattle.encrypt_schema.specs.Language.Names.{named}
 use Rattle.encrypt_schema.specs.Language.Row.{Row}
 use Rattle.encrypt_schema.specs.Paths.Classes.{class}
 use Rattle.encrypt_schema.specs.Paths.Dotted.{split, is_dollar, positional}
+use Rattle.encrypt_schema.specs.declared.command.listed.FieldKind.{FieldKind}
+use Rattle.encrypt_schema.specs.declared.command.listed.FieldKind.TheVariants as kinds
+use Rattle.encrypt_schema.specs.declared.command.listed.Listed.TheVariants as lists
+use Rattle.encrypt_schema.specs.Commands.ListedFields.{field_kind}
+use Rattle.encrypt_schema.specs.Commands.Stations.{Fields, Keys, IndexKeys, Indexes, Own, held_at}
 use Rattle.encrypt_schema.specs.Commands.Stations.{Entry, Station, Outside, Insert, Update, Delete, Find, Inserts}
 use Rattle.encrypt_schema.specs.Commands.Stations.{Updates, Deletes, UpdateItem, DeleteItem, Filter, Cases, Projection}
 use Rattle.encrypt_schema.specs.Commands.Stations.{Test, Elements, Operators, Sets, Argument, operator_of, Document}
@@ -23,6 +28,7 @@ use Rattle.encrypt_schema.specs.Commands.Pointers.{Targets, pointed}
 use Rattle.encrypt_schema.specs.Commands.Visits.{entry, command_entry, Visit, visit, visits_in, visits, command_visit}
 use Rattle.encrypt_schema.specs.Commands.Visits.{mark_at, marks, roles}
 use Rattle.encrypt_schema.proofs.Commands.Silence.{marks_append}
+use Rattle.encrypt_schema.proofs.Commands.Tables.{library_elim}
 use Rattle.encrypt_schema.proofs.Paths.Steps.{protected_inside}
 
 -- the number of a class, a subject or a station is one of n rules
@@ -56,10 +62,23 @@ command_ruled n (name ∷ names) =
     either n (named name (codes "insert")) Insert _ tt
     (either n (named name (codes "update")) Update _ tt
     (either n (named name (codes "delete")) Delete _ tt
-    (either n (named name (codes "find")) Find _ tt (either n (is_passed name) Passed Unknown tt tt))))
+    (either n (named name (codes "find")) Find _ tt
+    (either n (is_passed name) Passed _ tt (library_elim (IsRuled n) (λ l c. tt) tt name)))))
 
 update_ruled : (n : ℕ) (names : List (List ℕ)) → IsRuled n (update_of names)
 update_ruled n names = either n (is_dollar_first names) Operators (Document []) tt tt
+
+held_ruled : (n : ℕ) (k : FieldKind) (e : Entry) → IsRuled n (held_at k e)
+held_ruled n kinds.Filter e = either n (is_document e) Filter Passed tt tt
+held_ruled n kinds.Update e = either n (is_document e) (update_of e.names) Passed (update_ruled n e.names) tt
+held_ruled n kinds.Keys e = either n (is_document e) Keys Passed tt tt
+held_ruled n kinds.IndexKeys e = either n (is_document e) IndexKeys Passed tt tt
+held_ruled n kinds.Hint e = either n (is_document e) IndexKeys Passed tt tt
+held_ruled n kinds.Indexes e = either n (is_array e) Indexes Passed tt tt
+held_ruled n (kinds.Own own) e = either n (is_document e) (Own own) Passed tt tt
+held_ruled n kinds.Path e = tt
+held_ruled n kinds.Word e = tt
+held_ruled n kinds.Unlisted e = tt
 
 stored_ruled : (n : ℕ) (c : Class) (path : List (List ℕ)) (b : Bool) → IsRuledClass n c → IsRuled n (stored_at c path b)
 unfolding IsRuledClass
@@ -105,6 +124,8 @@ station_ruled rows Delete e h = either (length rows) (has_name (codes "deletes")
 station_ruled rows Find e h =
     either (length rows) (has_name (codes "filter") e && is_document e) Filter _ tt
     (either (length rows) (has_name (codes "projection") e && is_document e) Projection Passed tt tt)
+station_ruled rows (Fields l) e h = held_ruled (length rows) (field_kind l e.name) e
+station_ruled rows Indexes e h = either (length rows) (is_document e) (Fields lists.Index) Passed tt tt
 station_ruled rows Updates e h = either (length rows) (is_document e) UpdateItem Passed tt tt
 station_ruled rows Deletes e h = either (length rows) (is_document e) DeleteItem Passed tt tt
 station_ruled rows UpdateItem e h =
@@ -133,6 +154,9 @@ station_ruled rows Sets e h =
     stored_ruled (length rows) (dotted rows e.name) (split e.name) (is_document e) (dotted_ruled rows e.name)
 station_ruled rows (Argument name) e h = tt
 station_ruled rows Projection e h = tt
+station_ruled rows Keys e h = tt
+station_ruled rows IndexKeys e h = tt
+station_ruled rows (Own own) e h = tt
 station_ruled rows (Store i) e h = tt
 station_ruled rows (Compare i) e h = tt
 station_ruled rows Bare e h = tt

@@ -15,8 +15,9 @@ use Rattle.encrypt_schema.specs.Paths.Classes.{class}
 use Rattle.encrypt_schema.specs.Paths.Dotted.{is_clear}
 use Rattle.encrypt_schema.specs.Commands.Pointers.{Target, Targets, is_whole, nth_span, nth_target, only, pointed}
 use Rattle.encrypt_schema.specs.Commands.Pointers.{target_in, target_of, targets_of}
-use Rattle.encrypt_schema.specs.Commands.Stations.{Outside, Insert, Update, Delete, Find, Passed, Unknown}
-use Rattle.encrypt_schema.specs.Commands.Stations.{command_of, is_passed, station}
+use Rattle.encrypt_schema.specs.Commands.Stations.{Station, Outside, Insert, Update, Delete, Find, Passed}
+use Rattle.encrypt_schema.specs.Commands.Stations.{command_of, library_of, is_passed, station}
+use Rattle.encrypt_schema.proofs.Commands.Tables.{library_elim}
 use Rattle.encrypt_schema.specs.Commands.Visits.{command_entry, text_in}
 use Rattle.encrypt_schema.proofs.Commands.PointerTexts.{IsAt, Part, lifted, target_stands}
 
@@ -139,20 +140,21 @@ told_inside rows first bytes ts us at from is false p h = h
 
 -- ---- a command itself is no stored document
 
-chosen : (a b c d e : Bool)
-    → is_whole (cond a Insert (cond b Update (cond c Delete (cond d Find (cond e Passed Unknown))))) ≡ false
-chosen true b c d e = refl
-chosen false true c d e = refl
-chosen false false true d e = refl
-chosen false false false true e = refl
-chosen false false false false true = refl
-chosen false false false false false = refl
+chosen : (a b c d e : Bool) (s : Station) → is_whole s ≡ false
+    → is_whole (cond a Insert (cond b Update (cond c Delete (cond d Find (cond e Passed s))))) ≡ false
+chosen true b c d e s h = refl
+chosen false true c d e s h = refl
+chosen false false true d e s h = refl
+chosen false false false true e s h = refl
+chosen false false false false true s h = refl
+chosen false false false false false s h = h
 
 pub not_whole : (names : List (List ℕ)) → is_whole (command_of names) ≡ false
 not_whole [] = refl
 not_whole (name ∷ names) =
     chosen (named name (codes "insert")) (named name (codes "update")) (named name (codes "delete"))
-    (named name (codes "find")) (is_passed name)
+    (named name (codes "find")) (is_passed name) (library_of name)
+    (library_elim (λ s. is_whole s ≡ false) (λ l c. refl) refl name)
 
 none_told : (first : ℕ) (bytes : List ℕ) (ts us : Targets) (b : Bool) → b ≡ false
     → Tells first bytes (cond b ts []) (cond b us [])

@@ -9,13 +9,13 @@ use Rattle.encrypt_schema.specs.Commands.Offences.{is_marked, text_of}
 use Rattle.encrypt_schema.specs.Commands.Targets.{info_of, rows_in, rows_of, verdict}
 use Rattle.encrypt_schema.specs.Language.Row.{Row}
 use Rattle.encrypt_schema.specs.Commands.Stations.{Entry, Station, Outside, Insert, Update, Delete, Find, Passed}
-use Rattle.encrypt_schema.specs.Commands.Stations.{Unknown, is_passed, command_of, station, has_role}
+use Rattle.encrypt_schema.specs.Commands.Stations.{is_passed, command_of, station, has_role}
 use Rattle.encrypt_schema.specs.Commands.Pointers.{pointed}
 use Rattle.encrypt_schema.specs.Commands.Visits.{names_of, entry, command_entry, Visit, command_visit, command_visits}
 use Rattle.encrypt_schema.specs.Commands.Visits.{marks, roles, target_of, view_of, content_of, Refusal, or_else}
 use Rattle.encrypt_schema.specs.Commands.Visits.{first_refusal, content_verdict, verdict_on}
 use Rattle.encrypt_schema.specs.Commands.Skeletons.{Skeletons, no_more, more, skeleton}
-use Rattle.encrypt_schema.proofs.Commands.Tables.{without}
+use Rattle.encrypt_schema.proofs.Commands.Tables.{without, library_elim, listed_plain}
 use Rattle.encrypt_schema.proofs.Commands.Widths.{entry_in, entry_kept}
 use Rattle.encrypt_schema.proofs.Commands.Worlds.{IsVeiled, command_shown, command_seen, veil, command_kept}
 use Rattle.encrypt_schema.proofs.Commands.Worlds.{marks_veiled, field_without_role, target_veiled, view_veiled}
@@ -87,8 +87,9 @@ command_without_roles rows (n ∷ ns) =
     (is_command_cond rows (named n (codes "update")) Update _ (marked_fields rows Update refl)
     (is_command_cond rows (named n (codes "delete")) Delete _ (marked_fields rows Delete refl)
     (is_command_cond rows (named n (codes "find")) Find _ (marked_fields rows Find refl)
-    (is_command_cond rows (is_passed n) Passed Unknown (record { fields = λ e. refl })
-    (record { fields = λ e. refl })))))
+    (is_command_cond rows (is_passed n) Passed _ (record { fields = λ e. refl })
+    (library_elim (IsCommand rows) (λ l c. record { fields = λ e. listed_plain rows l e })
+    (record { fields = λ e. refl }) n)))))
 
 -- the fields of a skeleton's command, as far as the collection is read from them
 abbrev info_in : List Collection → Skeletons → Option Collection

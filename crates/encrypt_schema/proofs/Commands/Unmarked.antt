@@ -12,10 +12,15 @@ use Rattle.encrypt_schema.specs.Language.Names.{named, is_among}
 use Rattle.encrypt_schema.specs.Language.Row.{Row}
 use Rattle.encrypt_schema.specs.Paths.Classes.{class}
 use Rattle.encrypt_schema.specs.Paths.Dotted.{split, is_dollar, positional}
+use Rattle.encrypt_schema.specs.declared.command.listed.FieldKind.{FieldKind}
+use Rattle.encrypt_schema.specs.declared.command.listed.FieldKind.TheVariants as kinds
+use Rattle.encrypt_schema.specs.declared.command.listed.Listed.TheVariants as lists
+use Rattle.encrypt_schema.specs.Commands.ListedFields.{field_kind}
+use Rattle.encrypt_schema.specs.Commands.Stations.{Fields, Keys, IndexKeys, Indexes, Own, held_at}
 use Rattle.encrypt_schema.specs.Commands.Stations.{Entry, Station, Outside, Insert, Update, Delete, Find, Inserts}
 use Rattle.encrypt_schema.specs.Commands.Stations.{Updates, Deletes, UpdateItem, DeleteItem, Filter, Cases, Projection}
 use Rattle.encrypt_schema.specs.Commands.Stations.{Test, Elements, Operators, Sets, Argument, operator_of, Document}
-use Rattle.encrypt_schema.specs.Commands.Stations.{Store, Compare, Passed, Unknown, is_document, is_array, is_operators}
+use Rattle.encrypt_schema.specs.Commands.Stations.{Store, Compare, Passed, is_document, is_array, is_operators}
 use Rattle.encrypt_schema.specs.Commands.Stations.{is_dollar_first, has_name, is_logical, is_set, dotted, station}
 use Rattle.encrypt_schema.specs.Commands.Stations.{stored_at, tested_at, command_of, passed_names, is_passed}
 use Rattle.encrypt_schema.specs.Commands.Offences.{least, target_offence, view_offence, ruled_offence, of_role}
@@ -28,6 +33,7 @@ use Rattle.encrypt_schema.specs.Commands.Visits.{command_visit, command_visits, 
 use Rattle.encrypt_schema.specs.Commands.Visits.{view_of, ruled_of, content_of, first_refusal, or_else, refused_at}
 use Rattle.encrypt_schema.specs.Commands.Visits.{verdict_on}
 use Rattle.encrypt_schema.proofs.Commands.Silence.{marks_append, silent, IsQuiet, target_quiet, view_quiet}
+use Rattle.encrypt_schema.proofs.Commands.Tables.{library_elim}
 use Rattle.encrypt_schema.proofs.Commands.Silence.{content_quiet}
 
 -- what is no value that is tested or protected
@@ -58,7 +64,21 @@ command_free (n ∷ ns) =
     free_cond (named n (codes "insert")) Insert _ refl
     (free_cond (named n (codes "update")) Update _ refl
     (free_cond (named n (codes "delete")) Delete _ refl
-    (free_cond (named n (codes "find")) Find _ refl (free_cond (is_passed n) Passed Unknown refl refl))))
+    (free_cond (named n (codes "find")) Find _ refl
+    (free_cond (is_passed n) Passed _ refl (library_elim (λ s. is_free s ≡ true) (λ l c. refl) refl n)))))
+
+free_held : (k : FieldKind) (e : Entry) → is_free (held_at k e) ≡ true
+free_held kinds.Filter e = free_cond (is_document e) Filter Passed refl refl
+free_held kinds.Update e =
+    free_cond (is_document e) _ Passed (free_cond (is_dollar_first e.names) Operators (Document []) refl refl) refl
+free_held kinds.Keys e = free_cond (is_document e) Keys Passed refl refl
+free_held kinds.IndexKeys e = free_cond (is_document e) IndexKeys Passed refl refl
+free_held kinds.Hint e = free_cond (is_document e) IndexKeys Passed refl refl
+free_held kinds.Indexes e = free_cond (is_array e) Indexes Passed refl refl
+free_held (kinds.Own own) e = free_cond (is_document e) (Own own) Passed refl refl
+free_held kinds.Path e = refl
+free_held kinds.Word e = refl
+free_held kinds.Unlisted e = refl
 
 free_child : (s : Station) (e : Entry) → is_free s ≡ true → is_free (station [] s e) ≡ true
 free_child Outside e h = command_free e.names
@@ -69,6 +89,8 @@ free_child Delete e h = free_cond (has_name (codes "deletes") e && is_array e) D
 free_child Find e h =
     free_cond (has_name (codes "filter") e && is_document e) Filter _ refl
     (free_cond (has_name (codes "projection") e && is_document e) Projection Passed refl refl)
+free_child (Fields l) e h = free_held (field_kind l e.name) e
+free_child Indexes e h = free_cond (is_document e) (Fields lists.Index) Passed refl refl
 free_child Updates e h = free_cond (is_document e) UpdateItem Passed refl refl
 free_child Deletes e h = free_cond (is_document e) DeleteItem Passed refl refl
 free_child UpdateItem e h =

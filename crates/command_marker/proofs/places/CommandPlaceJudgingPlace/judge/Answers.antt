@@ -112,3 +112,48 @@ returns-in-Update c =
     let told = judged_at c.args.self _ rows elder e c.judge_in_update.result c.in-Update.is
     (c.judge_in_update.ensures.judged) in
     record { station = told.station; stands = told.stands; clean = told.clean; refused = told.refused }
+
+pub returns-in-Fields : goal.returns-in-Fields
+returns-in-Fields c =
+    let rows = c.args.rows.now in
+    let elder = take c.args.k (names_of c.args.document.now.tree) in
+    let e = entry c.args.item.now.name c.args.item.now.tree in
+    let told = judged_at c.args.self _ rows elder e c.judge_listed.result c.in-Fields.is
+    (c.judge_listed.ensures.judged) in
+    record { station = told.station; stands = told.stands; clean = told.clean; refused = told.refused }
+
+pub returns-in-Keys : goal.returns-in-Keys
+returns-in-Keys c =
+    let rows = c.args.rows.now in
+    let elder = take c.args.k (names_of c.args.document.now.tree) in
+    let e = entry c.args.item.now.name c.args.item.now.tree in
+    let told = judged_at c.args.self _ rows elder e c.judge_keys.result c.in-Keys.is
+    (c.judge_keys.ensures.judged rows elder) in
+    record { station = told.station; stands = told.stands; clean = told.clean; refused = told.refused }
+
+pub returns-in-IndexKeys : goal.returns-in-IndexKeys
+returns-in-IndexKeys c =
+    let rows = c.args.rows.now in
+    let elder = take c.args.k (names_of c.args.document.now.tree) in
+    let e = entry c.args.item.now.name c.args.item.now.tree in
+    let told = judged_at c.args.self _ rows elder e c.judge_index_keys.result c.in-IndexKeys.is
+    (c.judge_index_keys.ensures.judged rows elder) in
+    record { station = told.station; stands = told.stands; clean = told.clean; refused = told.refused }
+
+pub returns-in-Indexes : goal.returns-in-Indexes
+returns-in-Indexes c =
+    let rows = c.args.rows.now in
+    let elder = take c.args.k (names_of c.args.document.now.tree) in
+    let e = entry c.args.item.now.name c.args.item.now.tree in
+    let told = judged_at c.args.self _ rows elder e c.judge_indexes.result c.in-Indexes.is
+    (c.judge_indexes.ensures.judged rows elder) in
+    record { station = told.station; stands = told.stands; clean = told.clean; refused = told.refused }
+
+pub returns-in-Own : goal.returns-in-Own
+returns-in-Own c =
+    let rows = c.args.rows.now in
+    let elder = take c.args.k (names_of c.args.document.now.tree) in
+    let e = entry c.args.item.now.name c.args.item.now.tree in
+    let told = judged_at c.args.self _ rows elder e c.judge_own.result c.in-Own.is
+    (c.judge_own.ensures.judged rows elder) in
+    record { station = told.station; stands = told.stands; clean = told.clean; refused = told.refused }
