@@ -70,6 +70,16 @@ IsNone (Some r) = ⊥
 pub unrefused : (r : Option Refusal) (reason : Reason) (at : ℕ) → r ≡ None → IsRefusal r (faults.Refused reason at) → ⊥
 unrefused r reason at none told = subst IsNone (sym none ∙ told) tt
 
+-- one that is to be marked isn't refused by its contents
+pub contents_unrefused : (infos : List Collection) (db : List ℕ) (command : At) (state : Asks) (reason : Reason)
+    (at : ℕ) → command.start ≡ 0 → verdict db infos 0 command.tree ≡ None
+    → StartsAs infos db command (Ok (starts.Marking state))
+    → IsRefusal (content_verdict (rows_in state.info) state.command.start state.command.tree) (faults.Refused reason at)
+    → ⊥
+contents_unrefused infos db command state reason at whole accepted start told =
+    unrefused (content_verdict (rows_in state.info) state.command.start state.command.tree) reason at
+    (sym (starts_by infos db command state whole start) ∙ accepted) told
+
 -- ---- a reply that begins at 0
 
 abbrev at_as : Items → ℕ → At

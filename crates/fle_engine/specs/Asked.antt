@@ -1,5 +1,5 @@
--- What is asked for: the info of a command's collection, and the keys that a command needs, and a document that is to
--- be opened, and that key documents lack.
+-- libmongocrypt, MONGOCRYPT_CTX_NEED_MONGO_COLLINFO and MONGOCRYPT_CTX_NEED_MONGO_KEYS: the info of a command's
+-- collection, and the keys that a command needs, and a document that is to be opened, and that key documents lack.
 use Rattle.std.specs.Prelude.{◌≡◌, ℕ, List, [], ◌∷◌, if◌then◌else◌}
 use Rattle.bson_tree.specs.Spelling.{doc_bytes}
 use Rattle.bson_tree.specs.Tree.{Items}

@@ -14,6 +14,7 @@ mod answer;
 mod asking;
 mod checking;
 mod engine;
+mod filling;
 mod key_stop;
 pub mod laws;
 mod loading;

@@ -5,3 +5,6 @@ pub mod Numbering
 pub mod Numbered
 pub mod Distinct
 pub mod Files
+pub mod Same
+pub mod Undone
+pub mod Put

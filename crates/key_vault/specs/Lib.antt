@@ -4,3 +4,5 @@ pub mod Loading
 pub mod Numbers
 pub mod Held
 pub mod Cached
+pub mod Putting
+pub mod Undoing

@@ -37,3 +37,13 @@ pub enum VaultFault {
     /// There was no memory for the vault. It may come at any time.
     Memory,
 }
+
+/// Why a key isn't put.
+#[derive(Debug, Drop, Error)]
+#[error("key refused")]
+pub enum PutFault {
+    /// Its document is faulty, or it can't stand behind the keys that there are. They stay as they are.
+    Bad(VaultKind),
+    /// There was no memory for the key. It may come at any time; the keys stay as they are.
+    Memory,
+}

@@ -18,10 +18,11 @@ mod lookup;
 mod numbers;
 mod open_stop;
 mod place;
+mod putting;
 mod vault;
 
 pub use cache::KeyCache;
-pub use faults::{VaultFault, VaultKind};
+pub use faults::{PutFault, VaultFault, VaultKind};
 pub use lookup::{Keyless, open_key};
 pub use open_stop::OpenStop;
 pub use vault::Vault;

@@ -1,13 +1,15 @@
 //! Keys read into a vault, one document after another.
 
-ghost use Rattle.std.specs.Prelude.{◌≡◌, ◌<◌, ◌≤◌, [], ◌^◌, ℕ, List, length, bytes_eq, None, Some, Ok, IfOk};
+ghost use Rattle.std.specs.Prelude.{◌≡◌, ◌<◌, ◌≤◌, ◌∷◌, [], ◌^◌, ℕ, List, length, bytes_eq, None, Some};
+ghost use Rattle.std.specs.Prelude.{Ok, IfOk};
 ghost use Rattle.std.specs.Prelude.{if◌then◌else◌, slice_get, OnOk};
 ghost use Rattle.key_vault.specs.Keys.{is_among};
 ghost use Rattle.key_vault.specs.Loading.{Adds, are_new, front_key, Grows, judged, key_behind, kind_by, kind_of};
 ghost use Rattle.key_vault.specs.Numbers.{AreOf, has_number, number_of};
+ghost use Rattle.key_vault.specs.Undoing.{ChangesOnly};
 ghost use Rattle.data_key.specs.declared.key_doc.KeyDoc.{KeyDoc};
 
-use crate::faults::{VaultFault, VaultKind};
+use crate::faults::{PutFault, VaultFault, VaultKind};
 use crate::numbers::Numbers;
 use crate::place::Place;
 use crate::vault::Vault;
@@ -17,7 +19,7 @@ use fle_outside::Memory;
 use std::alloc::Global;
 
 /// The most keys of a vault.
-const KEYS: usize = 65536;
+pub(crate) const KEYS: usize = 65536;
 
 impl Vault {
     /// Reads the key at the front of these bytes, and adds it. Answers how many bytes it has.
@@ -69,39 +71,22 @@ impl Vault {
         }
     }
 
-    /// Adds a key behind the others, where its id and its names are new. Where they aren't, and after `Memory`, it may
-    /// be that no key is left.
+    /// Adds a key behind the others, where its id and its names are new.
+    #[tactic(auto, using(crate::proofs::Put::grown, crate::proofs::Put::refused_new))]
     fn add(&mut self, alloc: Global, document: u32, key: KeyDoc) -> Result<(), VaultFault>
         requires few { length self.old < 2 ^ 31 }
         ensures added { Grows self.old self.new document result (judged self.old (Ok key)) }
     {
-        let number = self.keys.len() as u32;
-        match self.keys.push(key) {
-            Ok(()) => {}
-            Err(_) => {
-                return Err(VaultFault::Memory);
-            }
-        }
-        let keys = self.keys.as_slice();
-        let key = &keys[number as usize];
-        match put_numbers(alloc, &mut self.ids, &mut self.names, keys, key, number) {
-            Ok(None) => {
-                return Ok(());
-            }
-            Ok(Some(kind)) => {
-                clear(&mut self.keys, &mut self.ids, &mut self.names);
-                return Err(VaultFault::Bad { document, kind });
-            }
-            Err(_) => {
-                clear(&mut self.keys, &mut self.ids, &mut self.names);
-                return Err(VaultFault::Memory);
-            }
+        match self.put_new(alloc, key) {
+            Ok(()) => Ok(()),
+            Err(PutFault::Bad(kind)) => Err(VaultFault::Bad { document, kind }),
+            Err(PutFault::Memory) => Err(VaultFault::Memory),
         }
     }
 }
 
 /// Gives the id and the names of a key its number, or tells which of them has one. They are judged in this order.
-fn put_numbers(
+pub(crate) fn put_numbers(
     alloc: Global,
     ids: &mut Numbers,
     names: &mut Numbers,
@@ -118,6 +103,8 @@ fn put_numbers(
         ≡ (if is_among name key.now.names then Some number else number_of keys.now names.old name)) }
     ensures of_ids { OnOk result (AreOf keys.now ids.old → AreOf keys.now ids.new) }
     ensures of_names { OnOk result (AreOf keys.now names.old → AreOf keys.now names.new) }
+    ensures only_ids { ChangesOnly number (key.now.id ∷ []) ids.old ids.new }
+    ensures only_names { ChangesOnly number key.now.names names.old names.new }
 {
     let place = Place {
         key: number,
@@ -132,21 +119,8 @@ fn put_numbers(
     Ok(None)
 }
 
-/// Takes the keys and their numbers away.
-fn clear(keys: &mut Vec<KeyDoc>, ids: &mut Numbers, names: &mut Numbers)
-    ensures keys { keys.new.items ≡ [] }
-    ensures ids { (all : List KeyDoc) → (id : List ℕ) → number_of all ids.new id ≡ None }
-    ensures names { (all : List KeyDoc) → (name : List ℕ) → number_of all names.new name ≡ None }
-    ensures of_ids { (all : List KeyDoc) → AreOf all ids.new }
-    ensures of_names { (all : List KeyDoc) → AreOf all names.new }
-{
-    keys.clear();
-    ids.clear();
-    names.clear();
-}
-
 /// What is wrong with a document that has this fault.
-fn kind_of(fault: KeyFault) -> VaultKind
+pub(crate) fn kind_of(fault: KeyFault) -> VaultKind
     ensures { result ≡ kind_of fault }
 {
     match fault {

@@ -37,13 +37,31 @@ impl Model for Vault {
 }
 
 impl Vault {
+    /// No key; it allocates nothing.
+    pub fn empty(alloc: Global) -> Vault
+        ensures empty { result ≡ [] }
+    {
+        Vault {
+            keys: Vec::new(alloc),
+            ids: Numbers::new(alloc),
+            names: Numbers::new(alloc),
+        }
+    }
+
+    /// Takes all keys away, and gives their memory back.
+    pub fn clear(&mut self, alloc: Global)
+        ensures empty { self.new ≡ [] }
+    {
+        *self = Vault::empty(alloc);
+    }
+
     /// Reads a file of key documents: one after another, nothing between them. `Bad` exactly where a document is
     /// faulty; they are judged in order.
     pub fn load(alloc: Global, bytes: &[u8]) -> Result<Vault, VaultFault>
         requires { length bytes.now ≤ 67108864 }
         ensures loaded { Loads result (vault bytes.now) }
     {
-        let mut vault = Vault::none(alloc);
+        let mut vault = Vault::empty(alloc);
         let mut rest = bytes;
         while !rest.is_empty() {
             let n = vault.add_front(alloc, rest)?;
@@ -95,17 +113,6 @@ impl Vault {
         match self.names.get(&self.keys, name) {
             Some(number) => key_at(&self.keys, number as usize),
             None => None,
-        }
-    }
-
-    /// No key.
-    fn none(alloc: Global) -> Vault
-        ensures empty { result ≡ [] }
-    {
-        Vault {
-            keys: Vec::new(alloc),
-            ids: Numbers::new(alloc),
-            names: Numbers::new(alloc),
         }
     }
 }

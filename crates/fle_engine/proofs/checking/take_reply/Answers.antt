@@ -1,10 +1,11 @@
 -- What a command starts as says what is wrong with a reply to it.
-use Rattle.std.proofs.Common.{List, subst, ℕ}
+use Rattle.std.proofs.Common.{List, None, subst, sym, ◌≡◌, ℕ}
 use Rattle.context_machine.specs.Waiting.{IsRefusal}
 use Rattle.encrypt_schema.specs.Commands.Targets.{verdict}
 use Rattle.encrypt_schema.specs.declared.command.marks.MarkFault.TheVariants as faults
 use Rattle.fle_engine.specs.Checking.{wrong_to}
-use Rattle.fle_engine.proofs.Checks.{starts_refused, told_marked, told_passing, told_unruled, unrefused}
+use Rattle.fle_engine.proofs.Checks.{contents_unrefused, starts_refused, told_marked, told_passing}
+use Rattle.fle_engine.proofs.Checks.{told_unruled, unrefused}
 use Rattle.fle_engine.proofs.checking.take_reply.Goals as goal
 
 pub returns-in-Ok-Passing : goal.returns-in-Ok-Passing
@@ -43,6 +44,19 @@ returns-in-Ok-None c =
           (told_unruled infos c.deref.result.now command c.in-Ok-Marking.state r c.check_passed-in-Ok-None.result
           c.requires.front start marked c.check_passed-in-Ok-None.ensures.wrong);
     }
+
+pub unreachable-requires : goal.unreachable-requires
+unreachable-requires c =
+    let infos = c.args.marker.now.infos in
+    let command = c.args.command.now in
+    let state = c.in-Ok-Marking.state in
+    let reason = c.in-Err-Refused-marked.field-0-0 in
+    let at = c.in-Err-Refused-marked.field-0-1 in
+    let start = rw c.in-Ok-Marking.field-0-is at c.in-Ok-Marking.ensures.starts in
+    let told = rw c.in-Err-Refused-marked.field-0-is at c.in-Err-Refused-marked.ensures.refused in
+    contents_unrefused infos c.deref.result.now command state reason at c.requires.whole
+    (subst (λ (db : List ℕ). verdict db infos 0 command.tree ≡ None) (sym c.deref.ensures.value) c.requires.accepted)
+    start told
 
 pub unreachable-requires-in-Err-Refused : goal.unreachable-requires-in-Err-Refused
 unreachable-requires-in-Err-Refused c =

@@ -5,7 +5,7 @@ use Rattle.key_vault.proofs.Files.{all_left, all_read, key_added}
 use Rattle.key_vault.proofs.vault.Vault.load.Goals as goal
 
 pub loop-rest-init : goal.loop-rest-init
-loop-rest-init c = subst (λ cs. Left c.args.bytes.now cs c.args.bytes.now) (sym c.none-vault.ensures.empty)
+loop-rest-init c = subst (λ cs. Left c.args.bytes.now cs c.args.bytes.now) (sym c.empty-vault.ensures.empty)
     (all_left c.args.bytes.now)
 
 pub loop-rest-preserved : goal.loop-rest-preserved
