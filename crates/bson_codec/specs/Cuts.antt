@@ -1,4 +1,4 @@
--- Elements cut before the first that an offset meets
+-- BSON 1.1, `e_list`: elements cut before the first that an offset meets
 use Rattle.std.specs.Prelude.{◌≡◌, ℕ, ◌+◌, Bool, ◌||◌, ◌&&◌, ◌==◌, nat_lt, List, length, Option, Some, None}
 use Rattle.std.specs.Prelude.{if◌then◌else◌}
 use Rattle.bson_tree.specs.Tree.{Tree, Items, no_items, item}

@@ -1,4 +1,4 @@
--- Values given by the offsets of those whose places they take
+-- BSON 1.1, `element`: values given by the offsets of those whose places they take
 use Rattle.std.specs.Prelude.{◌≡◌, ◌≤◌, ◌<◌, ℕ, ◌+◌, ◌-◌, Result, Ok, Err, List, [], ◌∷◌, length}
 use Rattle.bson_tree.specs.Tree.{leaf}
 use Rattle.bson_splice.specs.declared.values.NewValue.{NewValue}

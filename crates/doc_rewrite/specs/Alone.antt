@@ -1,4 +1,4 @@
--- A document of one element with its value sealed
+-- MongoDB Client Side Encryption, "ClientEncryption", `encrypt`: a document of one element with its value sealed
 use Rattle.std.specs.Prelude.{◌≡◌, ℕ, List, length}
 use Rattle.bson_tree.specs.Spelling.{doc_bytes}
 use Rattle.bson_tree.specs.Tree.{Tree, Items, item, no_items}

@@ -1,4 +1,5 @@
--- What a call comes to that seals one value under a key that is named.
+-- MongoDB Client Side Encryption, "ClientEncryption", `encrypt`: what a call comes to that seals one value under a
+-- key that is named.
 use Rattle.std.specs.Prelude.{ℕ, Bool, true, false, ◌==◌, List, [], length, Option, Some, None}
 use Rattle.bson_tree.specs.Tree.{no_items}
 use Rattle.encrypt_schema.specs.declared.schema.policy.Algorithm.{Algorithm}

@@ -1,4 +1,4 @@
--- What a run of the program keeps: one record, a field for each promise.
+-- MongoDB Client Side Encryption, by a filter program: what a run keeps, one record, a field for each promise.
 use Rattle.std.specs.Prelude.{◌≡◌, ℕ, true, None, List}
 use Rattle.fle_outside.specs.Seen.{AsksOnly}
 use Rattle.fle_stream.specs.Acted.{Acted, Objects}

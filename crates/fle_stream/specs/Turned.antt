@@ -1,4 +1,5 @@
--- What a turn of a verb did with the input, the output and the source of blocks, whatever ended it.
+-- POSIX read(), write(): what a turn of a verb did with the input, the output and the source of blocks, whatever ended
+-- it.
 use Rattle.std.specs.Prelude.{◌≡◌, ℕ, ◌≤◌, true, Some, List, drop}
 use Rattle.bson_tree.specs.Tree.{Items}
 use Rattle.fle_outside.specs.Counts.{Rose}
