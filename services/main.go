@@ -1,22 +1,19 @@
-// Fled is a service of fle: a proxy between a driver without encryption and a MongoDB server.
+// Fled has two services of fle for drivers: one between a driver without encryption and a MongoDB server, and one in
+// mongocryptd's place.
 //
 //	fled proxy --server HOST:PORT --listen ADDRESS --db DB=SCHEMAS [--db ..] [OPTIONS] KEYS MASTER
+//	fled mark [--listen ADDRESS] [OPTIONS]
 //
-// It ends with 0 once SIGTERM or SIGINT has come and its connections have ended, with 1 where it can't begin, and with
-// 2 for other words. At SIGHUP it reads its files anew.
+// Called by the name mongocryptd it does as the second. It ends with 0 once SIGTERM or SIGINT has come, or nothing has
+// for as long as is said, and its connections have ended; with 1 where it can't begin, and with 2 for other words.
 package main
 
 import (
-	"crypto/tls"
 	"fmt"
-	"log"
-	"net"
 	"os"
-	"os/signal"
-	"sync/atomic"
-	"syscall"
+	"path/filepath"
 
-	"fled/proxy"
+	"fled/journal"
 )
 
 const usage = `usage: fled proxy --server HOST:PORT --listen HOST:PORT --db DB=SCHEMAS [--db ..] [OPTIONS] KEYS MASTER
@@ -28,80 +25,48 @@ const usage = `usage: fled proxy --server HOST:PORT --listen HOST:PORT --db DB=S
   --plain           take clients without TLS from elsewhere than this machine
   --name HOST:PORT  how clients reach the proxy, where it isn't by the address that they dial
   --engines N       engines of each database (4)
+
+       fled mark [OPTIONS], or mongocryptd [OPTIONS] by a link of that name
+  --listen ADDRESS              HOST:PORT or unix:PATH, and may come again (localhost:27020)
+  --port N                      another port of localhost
+  --plain                       take clients from elsewhere than this machine
+  --idleShutdownTimeoutSecs N   end where no message has come for so long; 0: never (0; of mongocryptd 60)
+  --pidfilepath FILE            a file for the number of the process
+  --logpath FILE                a file that lines of the log are appended to, in place of standard error
 `
 
+// cryptd is the name that drivers call.
+const cryptd = "mongocryptd"
+
 func main() {
-	if len(os.Args) < 2 || os.Args[1] != "proxy" {
-		fmt.Fprint(os.Stderr, usage)
-		os.Exit(2)
-	}
-	options, err := readOptions(os.Args[2:])
-	if err != nil {
-		fmt.Fprintf(os.Stderr, "fled: %v\n%s", err, usage)
-		os.Exit(2)
-	}
-	logger := log.New(os.Stderr, "fled: ", log.LstdFlags|log.LUTC|log.Lmsgprefix)
-	if err := serve(options, logger); err != nil {
-		logger.Print(err)
-		os.Exit(1)
-	}
+	os.Exit(run(os.Args))
 }
 
-// service is a proxy and what is read anew.
-type service struct {
-	options     options
-	proxy       *proxy.Proxy
-	certificate atomic.Pointer[tls.Certificate]
+// run does as the words of a command line say, and answers the exit status.
+func run(words []string) int {
+	switch {
+	case filepath.Base(words[0]) == cryptd:
+		options, err := readMarkOptions(words[1:], idleOfCryptd)
+		return done(err, func() error { return options.run() })
+	case len(words) > 1 && words[1] == "mark":
+		options, err := readMarkOptions(words[2:], 0)
+		return done(err, func() error { return options.run() })
+	case len(words) > 1 && words[1] == "proxy":
+		options, err := readOptions(words[2:])
+		return done(err, func() error { return serve(options, journal.New(os.Stderr)) })
+	}
+	return done(errService, nil)
 }
 
-// serve runs the proxy to its end.
-func serve(options options, logger *log.Logger) error {
-	rules, err := options.files.Read()
-	if err != nil {
-		return err
+// done runs a service, unless its words have a fault, and answers the exit status.
+func done(fault error, service func() error) int {
+	if fault != nil {
+		fmt.Fprintf(os.Stderr, "fled: %v\n%s", fault, usage)
+		return 2
 	}
-	service := &service{options: options, proxy: proxy.New(rules, logger)}
-	service.proxy.Server, service.proxy.Name = options.server, options.name
-	if service.proxy.TLS, err = options.toServer(); err != nil {
-		return err
+	if err := service(); err != nil {
+		journal.New(os.Stderr).Say("failed", "why", err.Error())
+		return 1
 	}
-	door, err := service.listen()
-	if err != nil {
-		return err
-	}
-	logger.Printf("listens on %v", door.Addr())
-	signals := make(chan os.Signal, 1)
-	signal.Notify(signals, syscall.SIGHUP, syscall.SIGTERM, syscall.SIGINT)
-	go service.heed(signals, door, logger)
-	service.proxy.Serve(door)
-	return nil
-}
-
-// heed reads the files anew at SIGHUP, and closes the listener at another signal.
-func (service *service) heed(signals <-chan os.Signal, door net.Listener, logger *log.Logger) {
-	for told := range signals {
-		if told != syscall.SIGHUP {
-			logger.Print("ends")
-			door.Close()
-			return
-		}
-		if err := service.reload(); err != nil {
-			logger.Printf("keeps the files that it has: %v", err)
-		} else {
-			logger.Print("has read its files anew")
-		}
-	}
-}
-
-// reload takes all files, or none where one is at fault.
-func (service *service) reload() error {
-	rules, err := service.options.files.Read()
-	if err != nil {
-		return err
-	}
-	if err := service.loadCertificate(); err != nil {
-		return err
-	}
-	service.proxy.Use(rules)
-	return nil
+	return 0
 }

@@ -9,7 +9,6 @@ import (
 	"crypto/x509"
 	"crypto/x509/pkix"
 	"encoding/pem"
-	"log"
 	"math/big"
 	"net"
 	"os"
@@ -19,6 +18,7 @@ import (
 	"time"
 
 	"fled/bson"
+	"fled/journal"
 	"fled/proxy"
 	"fled/wire"
 )
@@ -149,7 +149,7 @@ func answer(conn net.Conn, bodies chan<- []byte) {
 }
 
 // started is a service with these words, and where clients reach it.
-func started(t *testing.T, log *log.Logger, words []string) (*service, string) {
+func started(t *testing.T, log *journal.Log, words []string) (*service, string) {
 	t.Helper()
 	read, err := readOptions(words)
 	if err != nil {
@@ -192,7 +192,7 @@ func TestTLSOnBothSides(t *testing.T) {
 	if err != nil {
 		t.Fatal(err)
 	}
-	quiet := log.New(&bytes.Buffer{}, "", 0)
+	quiet := journal.New(&bytes.Buffer{})
 	_, address := started(t, quiet, words("--server", server, "--tls", "--ca", cert, "--cert", cert, "--key", key))
 	roots := x509.NewCertPool()
 	bytesOf, _ := os.ReadFile(cert)
@@ -237,7 +237,7 @@ func TestReload(t *testing.T) {
 	write(t, schemas, infos)
 	line := words("--server", serverByTLS(t, cert, key, bodies), "--tls", "--ca", cert)
 	line[5] = "hr=" + schemas
-	service, address := started(t, log.New(&bytes.Buffer{}, "", 0), line)
+	service, address := started(t, journal.New(&bytes.Buffer{}), line)
 	insert, _ := os.ReadFile(examples + "insert.bson")
 	for _, one := range []struct {
 		infos   string

@@ -2,7 +2,6 @@ package main
 
 import (
 	"bytes"
-	"log"
 	"net"
 	"os"
 	"path/filepath"
@@ -10,6 +9,7 @@ import (
 	"syscall"
 	"testing"
 
+	"fled/journal"
 	"fled/proxy"
 )
 
@@ -32,7 +32,7 @@ func TestSignals(t *testing.T) {
 		t.Fatal(err)
 	}
 	said := &bytes.Buffer{}
-	logger := log.New(said, "", 0)
+	logger := journal.New(said)
 	service := &service{options: read, proxy: proxy.New(rules, logger)}
 	door, err := service.listen()
 	if err != nil {
@@ -48,18 +48,21 @@ func TestSignals(t *testing.T) {
 	service.heed(signals, door, logger)
 	service.proxy.Serve(door) // ends, since the door is closed
 	lines := strings.Split(strings.TrimSpace(said.String()), "\n")
-	if len(lines) != 3 || lines[0] != "has read its files anew" || lines[2] != "ends" ||
-		!strings.HasPrefix(lines[1], "keeps the files that it has: ") ||
-		!strings.Contains(lines[1], "Setup: Syntax of infos") {
+	for number, part := range []string{`"event":"reread"`, `"event":"kept","why":"`, `"event":"ends"`} {
+		if len(lines) != 3 || !strings.Contains(lines[number], part) {
+			t.Fatalf("%q", lines)
+		}
+	}
+	if !strings.Contains(lines[1], "Setup: Syntax of infos") {
 		t.Errorf("%q", lines)
 	}
 }
 
 // heedOne heeds the signal that has come, and returns.
-func (service *service) heedOne(t *testing.T, signals chan os.Signal, door net.Listener, logger *log.Logger) {
+func (service *service) heedOne(t *testing.T, signals chan os.Signal, door net.Listener, log *journal.Log) {
 	t.Helper()
 	come := make(chan os.Signal, 1)
 	come <- <-signals
 	close(come)
-	service.heed(come, door, logger)
+	service.heed(come, door, log)
 }

@@ -16,6 +16,7 @@ const (
 	String   = 0x02
 	Document = 0x03
 	Array    = 0x04
+	Bool     = 0x08
 	Int32    = 0x10
 )
 

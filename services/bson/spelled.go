@@ -18,6 +18,15 @@ func AppendText(behind []byte, name, text string) []byte {
 	return Append(behind, String, name, append(append(value, text...), 0))
 }
 
+// AppendBool spells a bool behind these bytes.
+func AppendBool(behind []byte, name string, is bool) []byte {
+	value := []byte{0}
+	if is {
+		value[0] = 1
+	}
+	return Append(behind, Bool, name, value)
+}
+
 // AppendInt32 spells an int32 behind these bytes.
 func AppendInt32(behind []byte, name string, number int32) []byte {
 	return Append(behind, Int32, name, binary.LittleEndian.AppendUint32(nil, uint32(number)))

@@ -9,6 +9,7 @@ import (
 	"testing"
 	"time"
 
+	"fled/mock"
 	"fled/wire"
 )
 
@@ -52,7 +53,7 @@ func TestDrivers(t *testing.T) {
 func runClient(t *testing.T, words []string, options string) {
 	rig := startRig(t, examples(t), func(rig *rig) {
 		if options != "" {
-			rig.hosts = []string{rig.mock.address(), "127.0.0.1:1"}
+			rig.Hosts = []string{rig.Server.Address(), "127.0.0.1:1"}
 		}
 	})
 	ctx, cancel := context.WithTimeout(context.Background(), 2*time.Minute)
@@ -69,17 +70,17 @@ func runClient(t *testing.T, words []string, options string) {
 // wantNothingPlain fails where a protected value, or a compressed message, came to the server or stands in the log.
 func (rig *rig) wantNothingPlain(t testing.TB) {
 	t.Helper()
-	rig.mock.lock.Lock()
-	defer rig.mock.lock.Unlock()
+	rig.Server.Lock.Lock()
+	defer rig.Server.Lock.Unlock()
 	for _, hidden := range []string{secret, "compression"} {
-		if bytes.Contains(rig.got, []byte(hidden)) || strings.Contains(rig.log.String(), hidden) {
+		if bytes.Contains(rig.Got, []byte(hidden)) || strings.Contains(rig.log.String(), hidden) {
 			t.Errorf("%s came to the server, or stands in the log", hidden)
 		}
 	}
-	if count := bytes.Count(rig.got, []byte("\x05ssn\x00")) + bytes.Count(rig.got, []byte("\x05salary\x00")); count < 20 {
+	if count := bytes.Count(rig.Got, []byte("\x05ssn\x00")) + bytes.Count(rig.Got, []byte("\x05salary\x00")); count < 20 {
 		t.Errorf("the server has %d sealed values", count)
 	}
-	for _, documents := range rig.collections {
+	for _, documents := range rig.Collections {
 		for _, document := range documents {
 			if bytes.Contains(document, []byte("\x02ssn\x00")) || bytes.Contains(document, []byte("\x02salary\x00")) {
 				t.Errorf("%q is stored", document)
@@ -93,17 +94,17 @@ func (rig *rig) wantNothingPlain(t testing.TB) {
 func (rig *rig) wantWhatWasSent(t testing.TB) {
 	t.Helper()
 	sent, opens, judged := rig.commandsSent(t), examples(t)["hr"].engine(), 0
-	rig.mock.lock.Lock()
-	defer rig.mock.lock.Unlock()
-	for _, message := range rig.commands {
+	rig.Server.Lock.Lock()
+	defer rig.Server.Lock.Unlock()
+	for _, message := range rig.Commands {
 		msg, err := wire.ReadMsg(message)
 		if err != nil {
 			t.Fatal(err)
 		}
-		if hellos[read(msg.Body)[0].Name] {
+		if wire.IsHello(mock.Fields(msg.Body)[0].Name) {
 			continue
 		}
-		whole, err := opens.Unseal(joined(msg))
+		whole, err := opens.Unseal(mock.Joined(msg))
 		if err != nil {
 			t.Fatal(err)
 		}
@@ -120,7 +121,7 @@ func (rig *rig) wantWhatWasSent(t testing.TB) {
 
 // keyOf is all that tells one command from another.
 func keyOf(message wire.Message, msg wire.Msg, whole []byte) string {
-	return string(spelled(wire.Msg{MoreToCome: msg.MoreToCome, Body: whole}.Message(message.ID, message.To)))
+	return string(mock.Spelled(wire.Msg{MoreToCome: msg.MoreToCome, Body: whole}.Message(message.ID, message.To)))
 }
 
 // commandsSent counts the commands that clients sent.
@@ -142,7 +143,7 @@ func (rig *rig) commandsSent(t testing.TB) map[string]int {
 			if err != nil {
 				t.Fatal(err)
 			}
-			count[keyOf(message, msg, joined(msg))]++
+			count[keyOf(message, msg, mock.Joined(msg))]++
 		}
 	}
 	return count

@@ -5,6 +5,7 @@ import (
 	"time"
 
 	"fled/bson"
+	"fled/mock"
 	"fled/wire"
 )
 
@@ -12,7 +13,7 @@ import (
 // that waits for a hello.
 func TestTheEnd(t *testing.T) {
 	rig := startRig(t, faked(nil), func(rig *rig) {
-		rig.answer = func(name string, _ wire.Msg, _ int32) []byte {
+		rig.Answer = func(name string, _ wire.Msg, _ int32) []byte {
 			if name == "hello" {
 				return []byte{}
 			}
@@ -21,32 +22,32 @@ func TestTheEnd(t *testing.T) {
 			return nil
 		}
 	})
-	idle, waits, hellos := dial(t, rig.address), dial(t, rig.address), dial(t, rig.address)
-	hellos.send(wire.Msg{Body: hello("hello")}.Message(7, 0))
+	idle, waits, hellos := mock.Dial(t, rig.address), mock.Dial(t, rig.address), mock.Dial(t, rig.address)
+	hellos.Send(wire.Msg{Body: hello("hello")}.Message(7, 0))
 	rig.wantCommands(t, 1)
-	within10s(t, func() bool { return rig.connections() == 3 })
-	if fields := waits.command(wire.Msg{Body: body("ping", "1", "hr")}); number(fieldOf(fields, "ok")) != 1 {
+	mock.Within10s(t, func() bool { return rig.Connections() == 3 })
+	if fields := waits.Command(wire.Msg{Body: body("ping", "1", "hr")}); mock.Number(mock.Field(fields, "ok")) != 1 {
 		t.Error(fields)
 	}
-	idle.wantEnd("a client that asks nothing")
-	hellos.wantEnd("a client that waits for a hello")
-	waits.wantEnd("a client that was answered")
+	idle.WantEnd("a client that asks nothing")
+	hellos.WantEnd("a client that waits for a hello")
+	waits.WantEnd("a client that was answered")
 	rig.served.Wait()
 }
 
 // Other rules count from the next command on, over a connection that is there.
 func TestOtherRules(t *testing.T) {
 	rig := startRig(t, faked(nil))
-	client, insert := dial(t, rig.address), wire.Msg{Body: body("insert", "people", "hr", documents(1, secret))}
-	if fields := client.command(insert); number(fieldOf(fields, "ok")) != 1 {
+	client, insert := mock.Dial(t, rig.address), wire.Msg{Body: body("insert", "people", "hr", documents(1, secret))}
+	if fields := client.Command(insert); mock.Number(mock.Field(fields, "ok")) != 1 {
 		t.Error(fields)
 	}
 	rules := faked(nil)
 	rules["hr"].Collections = map[string]bool{}
 	rig.proxy.Use(rules)
-	wantRefused(t, client.command(insert), `no collection "people"`)
+	wantRefused(t, client.Command(insert), `no collection "people"`)
 	rig.proxy.Use(faked(func([]byte) ([]byte, error) { return bson.Wrap(bson.AppendInt32(nil, "ping", 2)), nil }))
-	if client.command(insert); !rig.saw("ping") {
+	if client.Command(insert); !rig.Saw("ping") {
 		t.Error("the old engine sealed it")
 	}
 }

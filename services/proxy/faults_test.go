@@ -7,6 +7,7 @@ import (
 	"testing"
 
 	"fled/bson"
+	"fled/mock"
 	"fled/wire"
 )
 
@@ -53,35 +54,35 @@ func TestWhatEndsAConnection(t *testing.T) {
 		"a body that is cut":        raw(none, []byte{0}, insert[:len(insert)-1]),
 	} {
 		rig := startRig(t, faked(nil))
-		client := dial(t, rig.address)
-		client.send(message)
-		client.wantEnd(why)
-		if rig.saw(secret) || len(rig.names()) > 0 {
+		client := mock.Dial(t, rig.address)
+		client.Send(message)
+		client.WantEnd(why)
+		if rig.Saw(secret) || len(rig.Names()) > 0 {
 			t.Errorf("%s: the server got it", why)
 		}
-		rig.wantLine(t, "client ")
+		rig.wantLine(t, `"event":"closed"`)
 	}
 }
 
 func TestLengthsThatNoMessageHas(t *testing.T) {
 	rig := startRig(t, faked(nil))
 	for _, length := range []uint32{0, 15, wire.MaxMessage + 1, 1<<31 - 1, 1 << 31, 1<<32 - 1} {
-		client := dial(t, rig.address)
+		client := mock.Dial(t, rig.address)
 		client.Write(append(binary.LittleEndian.AppendUint32(nil, length), make([]byte, 40)...))
-		client.wantEnd("a length")
+		client.WantEnd("a length")
 	}
 }
 
 func TestHalfAMessage(t *testing.T) {
 	rig := startRig(t, faked(nil))
-	message := spelled(wire.Msg{Body: body("insert", "people", "hr", documents(1, "x"))}.Message(7, 0))
+	message := mock.Spelled(wire.Msg{Body: body("insert", "people", "hr", documents(1, "x"))}.Message(7, 0))
 	for length := 1; length < len(message); length += 7 {
-		client := dial(t, rig.address)
+		client := mock.Dial(t, rig.address)
 		client.Write(message[:length])
 		client.Conn.(*net.TCPConn).CloseWrite()
-		client.wantEnd("half a message")
+		client.WantEnd("half a message")
 	}
-	if names := rig.names(); len(names) > 0 {
+	if names := rig.Names(); len(names) > 0 {
 		t.Error("the server got", names)
 	}
 }
@@ -89,77 +90,79 @@ func TestHalfAMessage(t *testing.T) {
 func TestAChecksumOfAClient(t *testing.T) {
 	rig := startRig(t, faked(nil))
 	message := raw([]byte{1, 0, 0, 0}, []byte{0}, body("insert", "people", "hr", documents(1, secret)), make([]byte, 4))
-	all := spelled(message)
+	all := mock.Spelled(message)
 	sum := crc32.Checksum(all[:len(all)-4], crc32.MakeTable(crc32.Castagnoli))
 	binary.LittleEndian.PutUint32(message.Contents[len(message.Contents)-4:], sum)
-	reply, err := dial(t, rig.address).ask(message)
-	if err != nil || reply.To != 7 || rig.saw(secret) || !rig.saw("sealed") {
+	reply, err := mock.Dial(t, rig.address).Ask(message)
+	if err != nil || reply.To != 7 || rig.Saw(secret) || !rig.Saw("sealed") {
 		t.Error(reply.To, err)
 	}
 }
 
 // What a server may send that isn't the reply: the connection ends, and the client gets none of it.
 func TestWhatAServerMayNotSend(t *testing.T) {
-	hidden := ok(bson.AppendText(nil, "a", "hidden"))
+	hidden := mock.OK(bson.AppendText(nil, "a", "hidden"))
 	msg := wire.Msg{Body: hidden}
 	sequence := wire.Msg{Body: hidden, Sequences: []wire.Sequence{{Name: "a", Documents: hidden}}}
-	cut, legacy := spelled(msg.Message(1, 7)), append(append(make([]byte, 16), 1, 0, 0, 0), hidden...)
+	cut, legacy := mock.Spelled(msg.Message(1, 7)), append(append(make([]byte, 16), 1, 0, 0, 0), hidden...)
 	long := binary.LittleEndian.AppendUint32(nil, wire.MaxReply+1)
 	for why, reply := range map[string][]byte{
-		"a compressed reply":      spelled(wire.Message{ID: 1, To: 7, Opcode: 2012, Contents: hidden}),
-		"an OP_REPLY to OP_MSG":   spelled(wire.Message{ID: 1, To: 7, Opcode: 1, Contents: legacy}),
-		"a reply to another":      spelled(msg.Message(1, 8)),
-		"a reply with more":       spelled(wire.Msg{MoreToCome: true, Body: hidden}.Message(1, 7)),
-		"a reply with a sequence": spelled(sequence.Message(1, 7)),
+		"a compressed reply":      mock.Spelled(wire.Message{ID: 1, To: 7, Opcode: 2012, Contents: hidden}),
+		"an OP_REPLY to OP_MSG":   mock.Spelled(wire.Message{ID: 1, To: 7, Opcode: 1, Contents: legacy}),
+		"a reply to another":      mock.Spelled(msg.Message(1, 8)),
+		"a reply with more":       mock.Spelled(wire.Msg{MoreToCome: true, Body: hidden}.Message(1, 7)),
+		"a reply with a sequence": mock.Spelled(sequence.Message(1, 7)),
 		"half a reply":            cut[:len(cut)-1],
 		"a reply of length 0":     make([]byte, 16),
 		"a long reply":            append(long, make([]byte, 40)...),
 	} {
 		rig := startRig(t, faked(nil), func(rig *rig) {
-			rig.answer = func(string, wire.Msg, int32) []byte { return reply }
+			rig.Answer = func(string, wire.Msg, int32) []byte { return reply }
 		})
-		client := dial(t, rig.address)
-		client.send(wire.Msg{Body: body("find", "people", "hr")}.Message(7, 0))
+		client := mock.Dial(t, rig.address)
+		client.Send(wire.Msg{Body: body("find", "people", "hr")}.Message(7, 0))
 		if why == "half a reply" {
 			rig.wantCommands(t, 1)
 			client.Conn.(*net.TCPConn).CloseWrite()
 		}
-		client.wantEnd(why)
+		client.WantEnd(why)
 	}
 }
 
 func TestAReplyThatNothingAskedFor(t *testing.T) {
 	rig := startRig(t, faked(nil), func(rig *rig) {
-		rig.answer = func(_ string, msg wire.Msg, id int32) []byte { return spelled(wire.Msg{Body: ok(nil)}.Message(1, id)) }
+		rig.Answer = func(_ string, msg wire.Msg, id int32) []byte {
+			return mock.Spelled(wire.Msg{Body: mock.OK(nil)}.Message(1, id))
+		}
 	})
-	client := dial(t, rig.address)
-	client.send(wire.Msg{MoreToCome: true, Body: body("insert", "people", "hr", documents(1, secret))}.Message(7, 0))
-	client.wantEnd("a reply to a write that wants none")
+	client := mock.Dial(t, rig.address)
+	client.Send(wire.Msg{MoreToCome: true, Body: body("insert", "people", "hr", documents(1, secret))}.Message(7, 0))
+	client.WantEnd("a reply to a write that wants none")
 	rig.wantLine(t, errUnasked.Error())
 }
 
 func TestNoServer(t *testing.T) {
 	rig := startRig(t, faked(nil))
-	rig.mock.door.Close()
-	client := dial(t, rig.address)
-	client.wantEnd("no server")
-	rig.wantLine(t, "server "+rig.mock.address())
+	rig.Server.Door.Close()
+	client := mock.Dial(t, rig.address)
+	client.WantEnd("no server")
+	rig.wantLine(t, "server "+rig.Server.Address())
 }
 
 // A client that goes while it waits takes its connection to the server with it.
 func TestAClientThatGoes(t *testing.T) {
 	rig := startRig(t, faked(nil), func(rig *rig) {
-		rig.answer = func(string, wire.Msg, int32) []byte { return []byte{} }
+		rig.Answer = func(string, wire.Msg, int32) []byte { return []byte{} }
 	})
-	client := dial(t, rig.address)
-	client.send(wire.Msg{Body: body("find", "people", "hr")}.Message(7, 0))
+	client := mock.Dial(t, rig.address)
+	client.Send(wire.Msg{Body: body("find", "people", "hr")}.Message(7, 0))
 	rig.wantCommands(t, 1)
 	client.Close()
-	within10s(t, func() bool { return rig.connections() == 0 })
+	mock.Within10s(t, func() bool { return rig.Connections() == 0 })
 }
 
 // wantCommands waits until the server has so many commands.
 func (rig *rig) wantCommands(t testing.TB, count int) {
 	t.Helper()
-	within10s(t, func() bool { return len(rig.names()) == count })
+	mock.Within10s(t, func() bool { return len(rig.Names()) == count })
 }

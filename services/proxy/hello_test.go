@@ -6,6 +6,7 @@ import (
 	"testing"
 
 	"fled/bson"
+	"fled/mock"
 	"fled/wire"
 )
 
@@ -13,44 +14,44 @@ const elsewhere = "elsewhere.example:27017"
 
 // hello is a client's hello, which would compress.
 func hello(name string) []byte {
-	return bson.Wrap(bson.AppendInt32(nil, name, 1), bson.Append(nil, bson.Array, "compression", texts("zlib", "snappy")),
-		bson.AppendText(nil, "$db", "admin"))
+	compression := bson.Append(nil, bson.Array, "compression", mock.Texts("zlib", "snappy"))
+	return bson.Wrap(bson.AppendInt32(nil, name, 1), compression, bson.AppendText(nil, "$db", "admin"))
 }
 
 // wantOwnHello fails where a hello's reply would lead a client past the proxy, or to what that can't read.
 func (rig *rig) wantOwnHello(t testing.TB, reply []byte) {
 	t.Helper()
-	fields := read(reply)
+	fields := mock.Fields(reply)
 	if bytes.Contains(reply, []byte("elsewhere")) || bytes.Contains(reply, []byte("compression")) {
 		t.Errorf("%q", reply)
 	}
 	for _, name := range []string{"passives", "arbiters", "compression"} {
-		if fieldOf(fields, name).Whole != nil {
+		if mock.Field(fields, name).Whole != nil {
 			t.Errorf("there is %s", name)
 		}
 	}
 	for _, name := range []string{"me", "primary"} {
-		if text, _ := fieldOf(fields, name).Text(); text != rig.address {
+		if text, _ := mock.Field(fields, name).Text(); text != rig.address {
 			t.Errorf("%s is %q", name, text)
 		}
 	}
-	hosts := read(fieldOf(fields, "hosts").Value)
+	hosts := mock.Fields(mock.Field(fields, "hosts").Value)
 	if len(hosts) != 1 || !strings.Contains(string(hosts[0].Value), rig.address) {
 		t.Error(hosts)
 	}
-	if most := number(fieldOf(fields, "maxMessageSizeBytes")); most != messageMost || most < wire.MaxReply {
+	if most := mock.Number(mock.Field(fields, "maxMessageSizeBytes")); most != messageMost || most < wire.MaxReply {
 		t.Error(most)
 	}
-	if text, _ := fieldOf(fields, "setName").Text(); text != "rs0" {
+	if text, _ := mock.Field(fields, "setName").Text(); text != "rs0" {
 		t.Error("what else a hello says has gone")
 	}
 }
 
 func TestHellos(t *testing.T) {
 	for _, name := range []string{"hello", "isMaster", "ismaster"} {
-		rig := startRig(t, faked(nil), func(rig *rig) { rig.hosts = []string{elsewhere, "elsewhere.example:27018"} })
-		client := dial(t, rig.address)
-		reply, err := client.ask(query("admin.$cmd", hello(name)))
+		rig := startRig(t, faked(nil), func(rig *rig) { rig.Hosts = []string{elsewhere, "elsewhere.example:27018"} })
+		client := mock.Dial(t, rig.address)
+		reply, err := client.Ask(query("admin.$cmd", hello(name)))
 		if err != nil {
 			t.Fatal(err)
 		}
@@ -59,7 +60,7 @@ func TestHellos(t *testing.T) {
 			t.Fatal(err)
 		}
 		rig.wantOwnHello(t, legacy.Document)
-		reply, err = client.ask(wire.Msg{Body: hello(name)}.Message(8, 0))
+		reply, err = client.Ask(wire.Msg{Body: hello(name)}.Message(8, 0))
 		if err != nil {
 			t.Fatal(err)
 		}
@@ -68,7 +69,7 @@ func TestHellos(t *testing.T) {
 			t.Fatal(err)
 		}
 		rig.wantOwnHello(t, msg.Body)
-		if rig.saw("compression") || rig.saw("zlib") {
+		if rig.Saw("compression") || rig.Saw("zlib") {
 			t.Error("the server was asked to compress")
 		}
 	}
@@ -76,25 +77,25 @@ func TestHellos(t *testing.T) {
 
 // An awaited hello by exhaust is sent without the flag that allows it, and its reply is the only one.
 func TestExhaustIsNotOffered(t *testing.T) {
-	rig := startRig(t, faked(nil), func(rig *rig) { rig.hosts = []string{elsewhere} })
+	rig := startRig(t, faked(nil), func(rig *rig) { rig.Hosts = []string{elsewhere} })
 	message := wire.Msg{Body: hello("hello")}.Message(8, 0)
 	message.Contents[2] = 1 // exhaustAllowed
-	if _, err := dial(t, rig.address).ask(message); err != nil {
+	if _, err := mock.Dial(t, rig.address).Ask(message); err != nil {
 		t.Fatal(err)
 	}
-	rig.mock.lock.Lock()
-	defer rig.mock.lock.Unlock()
-	if sent := rig.commands[0].Contents; !bytes.Equal(sent[:4], make([]byte, 4)) {
+	rig.Server.Lock.Lock()
+	defer rig.Server.Lock.Unlock()
+	if sent := rig.Commands[0].Contents; !bytes.Equal(sent[:4], make([]byte, 4)) {
 		t.Error("the server was sent the flags", sent[:4])
 	}
 }
 
 func TestANameOfTheProxy(t *testing.T) {
 	rig := startRig(t, faked(nil), func(rig *rig) {
-		rig.hosts, rig.proxy.Name = []string{elsewhere}, "proxy.example:27018"
+		rig.Hosts, rig.proxy.Name = []string{elsewhere}, "proxy.example:27018"
 	})
-	fields := dial(t, rig.address).command(wire.Msg{Body: hello("hello")})
-	if me, _ := fieldOf(fields, "me").Text(); me != rig.proxy.Name {
+	fields := mock.Dial(t, rig.address).Command(wire.Msg{Body: hello("hello")})
+	if me, _ := mock.Field(fields, "me").Text(); me != rig.proxy.Name {
 		t.Error(me)
 	}
 }
@@ -106,14 +107,14 @@ func TestAuthenticationPasses(t *testing.T) {
 		for _, name := range []string{"saslStart", "saslContinue"} {
 			payload := bson.Append(nil, 0x05, "payload", []byte("\x05\x00\x00\x00\x00n,,n="))
 			command := bson.Wrap(bson.AppendInt32(nil, name, 1), payload, bson.AppendText(nil, "$db", db))
-			if fields := dial(t, rig.address).command(wire.Msg{Body: command}); number(fieldOf(fields, "ok")) != 1 {
+			if fields := mock.Dial(t, rig.address).Command(wire.Msg{Body: command}); mock.Number(mock.Field(fields, "ok")) != 1 {
 				t.Error(name, db, fields)
 			}
-			rig.mock.lock.Lock()
-			if last, _ := wire.ReadMsg(rig.commands[len(rig.commands)-1]); !bytes.Equal(last.Body, command) {
+			rig.Server.Lock.Lock()
+			if last, _ := wire.ReadMsg(rig.Commands[len(rig.Commands)-1]); !bytes.Equal(last.Body, command) {
 				t.Error(name, "is sent otherwise")
 			}
-			rig.mock.lock.Unlock()
+			rig.Server.Lock.Unlock()
 		}
 	}
 }

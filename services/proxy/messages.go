@@ -7,6 +7,7 @@ import (
 	"fle"
 
 	"fled/bson"
+	"fled/refusal"
 	"fled/wire"
 )
 
@@ -18,7 +19,7 @@ func (session *session) send(message wire.Message) (*request, error) {
 	case wire.OpMsg:
 		return session.sendMsg(message)
 	}
-	return nil, fmt.Errorf("the client sent the opcode %d", message.Opcode)
+	return nil, refusal.Opcode(message.Opcode)
 }
 
 // sendQuery sends a hello that comes as an OP_QUERY, and nothing else that does.
@@ -28,8 +29,8 @@ func (session *session) sendQuery(message wire.Message) (*request, error) {
 		return nil, err
 	}
 	first, has := bson.Over(query.Document).Next()
-	if !has || !hellos[first.Name] {
-		return nil, errLegacy
+	if !has || !wire.IsHello(first.Name) {
+		return nil, refusal.ErrLegacy
 	}
 	if query.Document, err = helloRequest(query.Document); err != nil {
 		return nil, err
@@ -59,7 +60,7 @@ func (session *session) sendMsg(message wire.Message) (*request, error) {
 	if err := session.write(session.server, sent.Message(message.ID, message.To)); err != nil || msg.MoreToCome {
 		return nil, err
 	}
-	return &request{message.ID, wire.OpMsg, hellos[read.name], rules.engine(read.db)}, nil
+	return &request{message.ID, wire.OpMsg, wire.IsHello(read.name), rules.engine(read.db)}, nil
 }
 
 // judged is what is sent of a command.
@@ -78,7 +79,7 @@ func judged(rules Rules, read command, msg wire.Msg) (wire.Msg, error) {
 	if len(msg.Sequences) > 0 {
 		return msg, errSequences
 	}
-	if hellos[read.name] {
+	if wire.IsHello(read.name) {
 		body, err := helloRequest(msg.Body)
 		msg.Body = body
 		return msg, err
@@ -88,12 +89,18 @@ func judged(rules Rules, read command, msg wire.Msg) (wire.Msg, error) {
 
 // refuse says why a command isn't sent: in the log, and to a client that waits for a reply.
 func (session *session) refuse(id int32, name string, moreToCome bool, why error) error {
-	told := said(why)
-	session.proxy.Log.Printf("client %v: refused %.100q: %s", session.client.RemoteAddr(), name, told)
+	told := refusal.Said(why)
+	session.say("refused", "command", name, "why", told)
 	if moreToCome {
 		return nil
 	}
-	return session.answer(id, failed(told))
+	return session.answer(id, refusal.Reply(told))
+}
+
+// say writes a line about this client.
+func (session *session) say(event string, pairs ...string) {
+	pairs = append([]string{"client", session.client.RemoteAddr().String()}, pairs...)
+	session.proxy.Log.Say(event, pairs...)
 }
 
 // hand hands a reply to the client: a hello as the proxy's own, any other one opened.
@@ -114,9 +121,9 @@ func (session *session) hand(asked *request, reply wire.Message) error {
 	default:
 		msg.Body, err = opened(asked.engine, msg.Body)
 		if told := (*fle.Error)(nil); errors.As(err, &told) {
-			told := said(fmt.Errorf("the reply: %w", err))
-			session.proxy.Log.Printf("client %v: refused %s", session.client.RemoteAddr(), told)
-			return session.answer(asked.id, failed(told))
+			told := refusal.Said(fmt.Errorf("the reply: %w", err))
+			session.say("refused", "why", told)
+			return session.answer(asked.id, refusal.Reply(told))
 		}
 	}
 	if err != nil {

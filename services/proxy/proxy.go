@@ -9,17 +9,12 @@ package proxy
 import (
 	"context"
 	"crypto/tls"
-	"errors"
-	"log"
+	"fmt"
 	"net"
-	"sync"
 	"sync/atomic"
-	"time"
-)
 
-const (
-	patience = 10 * time.Second      // for a connection to be made, and for the last replies at the end
-	pause    = 10 * time.Millisecond // where no connection can be accepted, as without a descriptor
+	"fled/door"
+	"fled/journal"
 )
 
 // Proxy serves connections. Its fields are set before, and don't change.
@@ -27,16 +22,15 @@ type Proxy struct {
 	Server string      // HOST:PORT
 	TLS    *tls.Config // to the server; nil for none
 	Name   string      // HOST:PORT by which clients know the proxy; empty for the address that a client has dialled
-	Log    *log.Logger
+	Log    *journal.Log
 
-	rules    atomic.Pointer[Rules]
-	draining chan struct{}
-	sessions sync.WaitGroup
+	rules atomic.Pointer[Rules]
+	door  *door.Door
 }
 
 // New is a proxy by these rules, with no connection yet.
-func New(rules Rules, log *log.Logger) *Proxy {
-	proxy := &Proxy{Log: log, draining: make(chan struct{})}
+func New(rules Rules, log *journal.Log) *Proxy {
+	proxy := &Proxy{Log: log, door: door.New(log)}
 	proxy.Use(rules)
 	return proxy
 }
@@ -47,54 +41,26 @@ func (proxy *Proxy) Use(rules Rules) {
 	proxy.rules.Store(&rules)
 }
 
-// Serve accepts connections until the listener is closed, and then waits, not for ever, until they have ended.
-func (proxy *Proxy) Serve(door net.Listener) {
-	for {
-		client, err := door.Accept()
-		if errors.Is(err, net.ErrClosed) {
-			break
-		}
-		if err != nil {
-			proxy.Log.Printf("no connection is accepted: %v", err)
-			time.Sleep(pause)
-			continue
-		}
-		proxy.sessions.Add(1)
-		go func() {
-			defer proxy.sessions.Done()
-			proxy.connect(client)
-		}()
-	}
-	close(proxy.draining)
-	ended := make(chan struct{})
-	go func() { proxy.sessions.Wait(); close(ended) }()
-	select {
-	case <-ended:
-	case <-time.After(patience):
-	}
+// Serve serves clients until the listener is closed, and then waits, not for ever, until they have been answered.
+func (proxy *Proxy) Serve(front net.Listener) {
+	proxy.door.Serve(proxy.connect, front)
 }
 
 // connect serves one connection of a client to its end.
-func (proxy *Proxy) connect(client net.Conn) {
-	defer client.Close()
+func (proxy *Proxy) connect(client net.Conn) error {
 	if err := shaken(client); err != nil {
-		proxy.Log.Printf("client %v: %v", client.RemoteAddr(), err)
-		return
+		return err
 	}
 	server, err := proxy.dial()
 	if err != nil {
-		proxy.Log.Printf("server %s: %v", proxy.Server, err)
-		return
+		return fmt.Errorf("server %s: %w", proxy.Server, err)
 	}
 	defer server.Close()
 	address := proxy.Name
 	if address == "" {
 		address = client.LocalAddr().String()
 	}
-	session := &session{proxy: proxy, client: client, server: server, address: address}
-	if err := session.run(); err != nil {
-		proxy.Log.Printf("client %v: %v", client.RemoteAddr(), err)
-	}
+	return (&session{proxy: proxy, client: client, server: server, address: address}).run()
 }
 
 // shaken makes the handshake of a client's TLS, so that the server isn't asked for one who has none.
@@ -103,13 +69,13 @@ func shaken(client net.Conn) error {
 	if !is {
 		return nil
 	}
-	ctx, cancel := context.WithTimeout(context.Background(), patience)
+	ctx, cancel := context.WithTimeout(context.Background(), door.Patience)
 	defer cancel()
 	return secure.HandshakeContext(ctx)
 }
 
 func (proxy *Proxy) dial() (net.Conn, error) {
-	dialer := &net.Dialer{Timeout: patience}
+	dialer := &net.Dialer{Timeout: door.Patience}
 	if proxy.TLS != nil {
 		return tls.DialWithDialer(dialer, "tcp", proxy.Server, proxy.TLS)
 	}

@@ -6,16 +6,18 @@ import (
 	"testing"
 
 	"fled/bson"
+	"fled/mock"
+	"fled/refusal"
 	"fled/wire"
 )
 
 // wantRefused fails unless a reply is that error reply, and no value is in it.
 func wantRefused(t testing.TB, fields []bson.Element, parts ...string) {
 	t.Helper()
-	said, _ := fieldOf(fields, "errmsg").Text()
-	name, _ := fieldOf(fields, "codeName").Text()
-	code := number(fieldOf(fields, "code"))
-	if len(fields) != 4 || number(fieldOf(fields, "ok")) != 0 || code != refusedCode || name != refusedName {
+	said, _ := mock.Field(fields, "errmsg").Text()
+	name, _ := mock.Field(fields, "codeName").Text()
+	code := mock.Number(mock.Field(fields, "code"))
+	if len(fields) != 4 || mock.Number(mock.Field(fields, "ok")) != 0 || code != refusal.Code || name != refusal.Name {
 		t.Errorf("%v", fields)
 	}
 	for _, part := range append(parts, "fle: ") {
@@ -47,16 +49,16 @@ func TestScope(t *testing.T) {
 		{"buildInfo", "1", "admin", ""},
 		{"killCursors", "others", "hr", ""},
 	} {
-		before := len(rig.names())
-		fields := dial(t, rig.address).command(wire.Msg{Body: body(one.name, one.value, one.db, documents(1, secret))})
+		before := len(rig.Names())
+		fields := mock.Dial(t, rig.address).Command(wire.Msg{Body: body(one.name, one.value, one.db, documents(1, secret))})
 		if one.refused == "" {
-			if number(fieldOf(fields, "ok")) != 1 || len(rig.names()) != before+1 {
+			if mock.Number(mock.Field(fields, "ok")) != 1 || len(rig.Names()) != before+1 {
 				t.Errorf("%s to %s: %v", one.name, one.db, fields)
 			}
 			continue
 		}
 		wantRefused(t, fields, one.refused)
-		if len(rig.names()) != before {
+		if len(rig.Names()) != before {
 			t.Errorf("%s of %s was sent", one.name, one.db)
 		}
 	}
@@ -75,9 +77,9 @@ func TestDatabasesThatCannotBeTold(t *testing.T) {
 		"a type unknown":  bson.Wrap(name, []byte{0x42, 'a', 0}),
 		"text of 0 bytes": bson.Wrap(name, []byte{2, 'a', 0, 0, 0, 0, 0}),
 	} {
-		fields := dial(t, rig.address).command(wire.Msg{Body: command})
+		fields := mock.Dial(t, rig.address).Command(wire.Msg{Body: command})
 		wantRefused(t, fields)
-		if len(rig.names()) > 0 {
+		if len(rig.Names()) > 0 {
 			t.Errorf("%s: it was sent", why)
 		}
 	}
@@ -88,60 +90,64 @@ func TestSequencesOfCommandsThatPass(t *testing.T) {
 	documents := bson.Wrap(bson.AppendText(nil, "ssn", secret))
 	one, two := wire.Sequence{Name: "documents", Documents: documents}, wire.Sequence{Name: "a", Documents: documents}
 	for name, sequences := range map[string][]wire.Sequence{"ping": {one}, "hello": {one}, "saslStart": {one}} {
-		fields := dial(t, rig.address).command(wire.Msg{Body: body(name, "people", "admin"), Sequences: sequences})
+		fields := mock.Dial(t, rig.address).Command(wire.Msg{Body: body(name, "people", "admin"), Sequences: sequences})
 		wantRefused(t, fields, "document sequence")
 	}
 	both := wire.Msg{Body: body("insert", "people", "hr"), Sequences: []wire.Sequence{two, one}}
-	fields := dial(t, rig.address).command(both)
+	fields := mock.Dial(t, rig.address).Command(both)
 	wantRefused(t, fields, "document sequence")
-	if len(rig.names()) > 0 {
-		t.Error(rig.names())
+	if len(rig.Names()) > 0 {
+		t.Error(rig.Names())
 	}
 }
 
 // A refused write that wants no reply is one line in the log, and the next command is answered.
 func TestARefusalWithoutAReply(t *testing.T) {
 	rig := startRig(t, faked(nil))
-	client := dial(t, rig.address)
-	client.send(wire.Msg{MoreToCome: true, Body: body("insert", "refuse", "hr", documents(1, secret))}.Message(6, 0))
-	if fields := client.command(wire.Msg{Body: body("ping", "1", "hr")}); number(fieldOf(fields, "ok")) != 1 {
+	client := mock.Dial(t, rig.address)
+	client.Send(wire.Msg{MoreToCome: true, Body: body("insert", "refuse", "hr", documents(1, secret))}.Message(6, 0))
+	if fields := client.Command(wire.Msg{Body: body("ping", "1", "hr")}); mock.Number(mock.Field(fields, "ok")) != 1 {
 		t.Error(fields)
 	}
 	said := rig.log.String()
-	names := fmt.Sprint(rig.names())
+	names := fmt.Sprint(rig.Names())
 	if names != "[ping]" || strings.Count(said, "\n") != 1 || strings.Contains(said, secret) {
 		t.Error(names, said)
 	}
-	rig.wantLine(t, `refused "insert": fle: Refused: TypeNotAllowed at "documents.0.ssn"`)
+	rig.wantLine(t, `"event":"refused"`)
+	rig.wantLine(t, `"command":"insert","why":"fle: Refused: TypeNotAllowed at \"documents.0.ssn\""}`)
 }
 
 func TestAWriteWithoutAReply(t *testing.T) {
 	rig := startRig(t, faked(nil))
-	client := dial(t, rig.address)
-	client.send(wire.Msg{MoreToCome: true, Body: body("insert", "people", "hr", documents(1, secret))}.Message(6, 0))
-	client.command(wire.Msg{Body: body("ping", "1", "hr")})
-	if names := fmt.Sprint(rig.names()); names != "[insert ping]" || rig.saw(secret) {
+	client := mock.Dial(t, rig.address)
+	client.Send(wire.Msg{MoreToCome: true, Body: body("insert", "people", "hr", documents(1, secret))}.Message(6, 0))
+	client.Command(wire.Msg{Body: body("ping", "1", "hr")})
+	if names := fmt.Sprint(rig.Names()); names != "[insert ping]" || rig.Saw(secret) {
 		t.Error(names)
 	}
 }
 
 func TestAReplyThatIsRefused(t *testing.T) {
 	rig := startRig(t, faked(nil), func(rig *rig) {
-		rig.answer = func(_ string, _ wire.Msg, id int32) []byte {
+		rig.Answer = func(_ string, _ wire.Msg, id int32) []byte {
 			damaged := bson.Append(nil, 0x05, "a", append([]byte{8, 0, 0, 0, 6, 2}, "damaged"...))
-			return spelled(wire.Msg{Body: ok(damaged)}.Message(1, id))
+			return mock.Spelled(wire.Msg{Body: mock.OK(damaged)}.Message(1, id))
 		}
 	})
-	client := dial(t, rig.address)
-	wantRefused(t, client.command(wire.Msg{Body: body("find", "people", "hr")}), "the reply: ", "TagMismatch", `"a"`)
-	wantRefused(t, client.command(wire.Msg{Body: body("ping", "people", "other")}), "TagMismatch")
+	client := mock.Dial(t, rig.address)
+	wantRefused(t, client.Command(wire.Msg{Body: body("find", "people", "hr")}), "the reply: ", "TagMismatch", `"a"`)
+	wantRefused(t, client.Command(wire.Msg{Body: body("ping", "people", "other")}), "TagMismatch")
 }
 
+const mostTold = 1000
+
+// Of a name of any length, so much is told.
 func TestLongNamesAreCut(t *testing.T) {
 	rig := startRig(t, faked(nil))
-	fields := dial(t, rig.address).command(wire.Msg{Body: body(strings.Repeat("a\xff\n", 100_000), "people", "hr2")})
+	fields := mock.Dial(t, rig.address).Command(wire.Msg{Body: body(strings.Repeat("a\xff\n", 100_000), "people", "hr2")})
 	wantRefused(t, fields, `\n`, "Unsupported")
-	said, _ := fieldOf(fields, "errmsg").Text()
+	said, _ := mock.Field(fields, "errmsg").Text()
 	if len(said) > mostTold+10 || len(rig.log.String()) > 4*mostTold || strings.Count(rig.log.String(), "\n") != 1 {
 		t.Error(len(said), len(rig.log.String()))
 	}

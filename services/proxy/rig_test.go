@@ -2,48 +2,28 @@ package proxy
 
 import (
 	"bytes"
-	"io"
-	"log"
 	"net"
 	"strings"
 	"sync"
 	"testing"
-	"time"
 
 	"fle"
 
 	"fled/bson"
-	"fled/wire"
+	"fled/journal"
+	"fled/mock"
 )
 
 // secret stands in each value that the tests protect, so that no byte of it may come to the server.
 const secret = "SEKRET"
 
-// lines is a log that a test reads.
-type lines struct {
-	lock sync.Mutex
-	text bytes.Buffer
-}
-
-func (all *lines) Write(line []byte) (int, error) {
-	all.lock.Lock()
-	defer all.lock.Unlock()
-	return all.text.Write(line)
-}
-
-func (all *lines) String() string {
-	all.lock.Lock()
-	defer all.lock.Unlock()
-	return all.text.String()
-}
-
 // rig is a mock server, a proxy before it, and what clients sent to that.
 type rig struct {
-	*mock
+	*mock.Server
 	proxy   *Proxy
 	front   net.Listener
 	address string
-	log     *lines
+	log     *mock.Lines
 	served  sync.WaitGroup // until the proxy has ended
 
 	lock sync.Mutex
@@ -65,7 +45,7 @@ func (door recorder) Accept() (net.Conn, error) {
 	defer door.rig.lock.Unlock()
 	number := len(door.rig.sent)
 	door.rig.sent = append(door.rig.sent, nil)
-	return kept{conn, func(part []byte) {
+	return mock.Kept{Conn: conn, Keep: func(part []byte) {
 		door.rig.lock.Lock()
 		defer door.rig.lock.Unlock()
 		door.rig.sent[number] = append(door.rig.sent[number], part...)
@@ -75,14 +55,14 @@ func (door recorder) Accept() (net.Conn, error) {
 // startRig starts a mock server and a proxy by these rules, each changed first as is asked for.
 func startRig(t testing.TB, rules Rules, changes ...func(*rig)) *rig {
 	t.Helper()
-	rig := &rig{mock: newMock(t), log: &lines{}}
-	rig.front = door(t)
-	rig.proxy, rig.address = New(rules, log.New(rig.log, "", 0)), rig.front.Addr().String()
-	rig.proxy.Server = rig.mock.address()
+	rig := &rig{Server: mock.New(t), log: &mock.Lines{}}
+	rig.front = mock.Door(t)
+	rig.proxy, rig.address = New(rules, journal.New(rig.log)), rig.front.Addr().String()
+	rig.proxy.Server = rig.Server.Address()
 	for _, change := range changes {
 		change(rig)
 	}
-	go rig.mock.listen()
+	go rig.Server.Listen()
 	rig.served.Add(1)
 	go func() {
 		defer rig.served.Done()
@@ -144,73 +124,11 @@ func documents(count int, ssn string) []byte {
 	for len(all) < count {
 		all = append(all, bson.Wrap(bson.AppendText(nil, "ssn", ssn)))
 	}
-	return bson.Append(nil, bson.Array, "documents", array(all))
-}
-
-// client is a connection that speaks the wire protocol.
-type client struct {
-	testing.TB
-	net.Conn
-}
-
-func dial(t testing.TB, address string) client {
-	t.Helper()
-	conn, err := net.Dial("tcp", address)
-	if err != nil {
-		t.Fatal(err)
-	}
-	t.Cleanup(func() { conn.Close() })
-	conn.SetDeadline(time.Now().Add(30 * time.Second))
-	return client{t, conn}
-}
-
-// send sends a message; a connection that was ended takes it or doesn't.
-func (client client) send(message wire.Message) {
-	message.WriteTo(client.Conn)
-}
-
-// ask sends a message and reads the reply, with its error.
-func (client client) ask(message wire.Message) (wire.Message, error) {
-	client.send(message)
-	return wire.Read(client.Conn, wire.MaxMessage)
-}
-
-// command asks by OP_MSG, and reads the fields of the reply.
-func (client client) command(msg wire.Msg) []bson.Element {
-	client.Helper()
-	reply, err := client.ask(msg.Message(7, 0))
-	if err != nil {
-		client.Fatal(err)
-	}
-	answered, err := wire.ReadMsg(reply)
-	if err != nil || reply.To != 7 {
-		client.Fatalf("%v to %d", err, reply.To)
-	}
-	return read(answered.Body)
-}
-
-// wantEnd fails unless the proxy ends the connection with no byte more.
-func (client client) wantEnd(why string) {
-	client.Helper()
-	rest, err := io.ReadAll(client.Conn)
-	if timeout, is := err.(net.Error); len(rest) > 0 || is && timeout.Timeout() {
-		client.Errorf("%s: %d bytes and %v in place of an end", why, len(rest), err)
-	}
+	return bson.Append(nil, bson.Array, "documents", mock.Array(all))
 }
 
 // wantLine waits for a line in the log.
 func (rig *rig) wantLine(t testing.TB, part string) {
 	t.Helper()
-	within10s(t, func() bool { return strings.Contains(rig.log.String(), part) })
-}
-
-// within10s waits until something is so.
-func within10s(t testing.TB, is func() bool) {
-	t.Helper()
-	for turn := 0; !is(); turn++ {
-		if turn == 1000 {
-			t.Fatal("it isn't so after ten seconds")
-		}
-		time.Sleep(10 * time.Millisecond)
-	}
+	mock.Within10s(t, func() bool { return strings.Contains(rig.log.String(), part) })
 }

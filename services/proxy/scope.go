@@ -1,17 +1,16 @@
 package proxy
 
 import (
-	"errors"
 	"fmt"
 	"strings"
 
 	"fled/bson"
+	"fled/refusal"
+	"fled/wire"
 )
 
 // The names of commands that are looked at, each as a server spells it.
 var (
-	// hellos are answered with the proxy in the server's place.
-	hellos = words("hello isMaster ismaster")
 	// authenticating commands pass, also to a database with rules: a client may authenticate by any.
 	authenticating = words("saslStart saslContinue")
 	// passing commands carry no document to be stored or compared: of the handshake, of sessions, transactions and
@@ -39,17 +38,12 @@ type command struct {
 	db         string
 }
 
-var (
-	errBody = errors.New("Malformed: a command that can't be read")
-	errDb   = errors.New("WrongDb: a command without one $db that is a string")
-)
-
 // readCommand reads a body as far as its own elements.
 func readCommand(body []byte) (command, error) {
 	walk := bson.Over(body)
 	first, has := walk.Next()
 	if !has {
-		return command{}, errBody
+		return command{}, refusal.ErrBody
 	}
 	read, found := command{name: first.Name}, 0
 	read.collection, read.isNamed = first.Text()
@@ -59,15 +53,15 @@ func readCommand(body []byte) (command, error) {
 		}
 		text, isText := element.Text()
 		if found++; !isText {
-			return read, errDb
+			return read, refusal.ErrDb
 		}
 		read.db = text
 	}
 	switch {
 	case walk.Err() != nil:
-		return read, errBody
+		return read, refusal.ErrBody
 	case found != 1:
-		return read, errDb
+		return read, refusal.ErrDb
 	}
 	return read, nil
 }
@@ -91,5 +85,5 @@ func (read command) wantListed(database *Database) error {
 
 // isJudged is whether the library judges a command: that of a database with rules, but for the handshake's.
 func (read command) isJudged(rules Rules) bool {
-	return rules[read.db] != nil && !hellos[read.name] && !authenticating[read.name]
+	return rules[read.db] != nil && !wire.IsHello(read.name) && !authenticating[read.name]
 }

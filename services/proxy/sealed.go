@@ -38,8 +38,8 @@ func sealed(engine Engine, msg wire.Msg) (wire.Msg, error) {
 // sealedSequence seals all documents of a sequence. One without any is sealed too, so that the library sees the body.
 func sealedSequence(engine Engine, body []byte, sequence wire.Sequence) ([]byte, error) {
 	var behind []byte
-	for rest, done := sequence.Documents, 0; ; {
-		array, count, left, err := cut(rest)
+	for done := 0; ; {
+		array, count, left, err := sequence.Array(portion)
 		if err != nil {
 			return nil, err
 		}
@@ -50,27 +50,10 @@ func sealedSequence(engine Engine, body []byte, sequence wire.Sequence) ([]byte,
 		if behind, err = appendDocuments(behind, whole, body, sequence.Name, count); err != nil {
 			return nil, err
 		}
-		if rest, done = left, done+count; len(rest) == 0 {
+		if sequence.Documents, done = left, done+count; len(left) == 0 {
 			return behind, nil
 		}
 	}
-}
-
-// cut makes an array of the first documents of a sequence, and answers their count and what is left.
-func cut(documents []byte) (array []byte, count int, left []byte, err error) {
-	var items []byte
-	for left = documents; len(left) > 0; count++ {
-		length, err := bson.Length(left)
-		if err != nil {
-			return nil, 0, nil, err
-		}
-		if count > 0 && len(items)+length > portion {
-			break
-		}
-		items = bson.Append(items, bson.Document, strconv.Itoa(count), left[:length])
-		left = left[length:]
-	}
-	return bson.Wrap(items), count, left, nil
 }
 
 // appendDocuments takes as many documents as were sealed out of the last element of a command, before which nothing has

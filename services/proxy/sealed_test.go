@@ -8,6 +8,7 @@ import (
 	"fle"
 
 	"fled/bson"
+	"fled/mock"
 	"fled/wire"
 )
 
@@ -52,7 +53,7 @@ func TestPortions(t *testing.T) {
 // What comes back from the library in another form isn't sent.
 func TestFormsThatAreNotSent(t *testing.T) {
 	msg := inserts(2, 10)
-	whole := joined(msg)
+	whole := mock.Joined(msg)
 	inner := whole[4 : len(whole)-1]
 	for why, back := range map[string][]byte{
 		"nothing":            nil,
@@ -62,8 +63,8 @@ func TestFormsThatAreNotSent(t *testing.T) {
 		"another body":       bytes.ReplaceAll(whole, []byte("people"), []byte("others")),
 		"another name":       bytes.ReplaceAll(whole, []byte("documents"), []byte("documentz")),
 		"an element more":    bson.Wrap(inner, bson.AppendText(nil, "a", "b")),
-		"fewer documents":    joined(inserts(1, 10)),
-		"more documents":     joined(inserts(3, 10)),
+		"fewer documents":    mock.Joined(inserts(1, 10)),
+		"more documents":     mock.Joined(inserts(3, 10)),
 		"another number":     bytes.Replace(whole, []byte("\x031\x00"), []byte("\x032\x00"), 1),
 		"no array":           bytes.ReplaceAll(whole, []byte("\x04documents"), []byte("\x03documents")),
 		"an item of another": bytes.Replace(whole, []byte("\x031\x00"), []byte("\x041\x00"), 1),
@@ -85,10 +86,10 @@ func TestARefusalInALaterPortion(t *testing.T) {
 		return nil, &fle.Error{Status: fle.Refused, Reason: "TypeNotAllowed", Number: 5,
 			Fields: []string{"documents", "1", "ssn"}}
 	}))
-	fields := dial(t, rig.address).command(inserts(6, 1<<20))
+	fields := mock.Dial(t, rig.address).Command(inserts(6, 1<<20))
 	wantRefused(t, fields, `TypeNotAllowed at "documents.4.ssn"`)
-	if len(rig.names()) > 0 {
-		t.Error(rig.names())
+	if len(rig.Names()) > 0 {
+		t.Error(rig.Names())
 	}
 }
 
@@ -96,10 +97,10 @@ func TestASealedMessageThatIsTooLong(t *testing.T) {
 	rig := startRig(t, faked(func(command []byte) ([]byte, error) {
 		return bson.Wrap(command[4:len(command)-1], bson.AppendText(nil, "a", string(make([]byte, wire.MaxMessage)))), nil
 	}))
-	fields := dial(t, rig.address).command(wire.Msg{Body: body("insert", "people", "hr")})
+	fields := mock.Dial(t, rig.address).Command(wire.Msg{Body: body("insert", "people", "hr")})
 	wantRefused(t, fields, "Limit: Output")
-	if len(rig.names()) > 0 {
-		t.Error(rig.names())
+	if len(rig.Names()) > 0 {
+		t.Error(rig.Names())
 	}
 }
 
@@ -108,9 +109,9 @@ func TestALongReply(t *testing.T) {
 	engine := fake{}
 	payload := bson.Append(nil, 0x05, "ssn", append([]byte{7, 0, 0, 0, 6, 2}, "sealed"...))
 	stored := bson.Wrap(bson.AppendText(nil, "a", string(bytes.Repeat([]byte{'a'}, 16<<20-60))), payload)
-	cursor := bson.Wrap(bson.Append(nil, bson.Array, "firstBatch", array([][]byte{stored})), int64Of("id", 0),
+	cursor := bson.Wrap(bson.Append(nil, bson.Array, "firstBatch", mock.Array([][]byte{stored})), mock.Int64("id", 0),
 		bson.AppendText(nil, "ns", "hr.people"))
-	reply := ok(append(bson.Append(nil, bson.Document, "cursor", cursor), payload...))
+	reply := mock.OK(append(bson.Append(nil, bson.Document, "cursor", cursor), payload...))
 	if len(stored) > longest || len(reply) <= longest || len(reply) > wire.MaxReply {
 		t.Fatal(len(stored), len(reply))
 	}
@@ -127,7 +128,7 @@ func TestALongReply(t *testing.T) {
 
 // Nothing is asked of the library for a reply that holds no payload.
 func TestAReplyWithoutPayloads(t *testing.T) {
-	reply := ok(bson.AppendText(nil, "a", "sealed"))
+	reply := mock.OK(bson.AppendText(nil, "a", "sealed"))
 	if back, err := opened(nil, reply); err != nil || !bytes.Equal(back, reply) {
 		t.Error(err)
 	}

@@ -39,7 +39,6 @@ type request struct {
 var (
 	errUnasked = errors.New("the server sent a reply that nothing asked for")
 	errMore    = errors.New("the server sent a reply that has more to come")
-	errLegacy  = errors.New("the client sent an OP_QUERY that is no hello")
 )
 
 // arrivals reads one message after the other, none of it before the one before is taken, until one is an error.
@@ -73,7 +72,7 @@ func (session *session) run() error {
 			err = session.take(came.message)
 		}
 		if came == nil || err != nil {
-			return quiet(err)
+			return err
 		}
 	}
 }
@@ -85,7 +84,7 @@ func (session *session) next() (*arrival, error) {
 		return held, held.err
 	}
 	select {
-	case <-session.proxy.draining:
+	case <-session.proxy.door.Ended():
 		return nil, nil
 	default:
 	}
@@ -97,7 +96,7 @@ func (session *session) next() (*arrival, error) {
 			return nil, from("server", came.err)
 		}
 		return nil, errUnasked
-	case <-session.proxy.draining:
+	case <-session.proxy.door.Ended():
 		return nil, nil
 	}
 }
@@ -121,13 +120,13 @@ func (session *session) take(message wire.Message) error {
 // reply waits for the server's next message. A message that the client sends meanwhile is held; that it has gone ends
 // the wait, as does the proxy's end that for a hello, which a server may answer late.
 func (session *session) reply(toHello bool) (wire.Message, error) {
-	fromClient, draining := session.fromClient, (chan struct{})(nil)
+	fromClient, ended := session.fromClient, (<-chan struct{})(nil)
 	if toHello {
-		draining = session.proxy.draining
+		ended = session.proxy.door.Ended()
 	}
 	for {
 		select {
-		case <-draining:
+		case <-ended:
 			return wire.Message{}, net.ErrClosed
 		case came := <-session.fromServer:
 			return came.message, from("server", came.err)
@@ -157,12 +156,4 @@ func from(side string, err error) error {
 		return err
 	}
 	return fmt.Errorf("%s: %w", side, err)
-}
-
-// quiet is no error where a side ended as it may.
-func quiet(err error) error {
-	if err == io.EOF || errors.Is(err, net.ErrClosed) {
-		return nil
-	}
-	return err
 }

@@ -19,6 +19,8 @@ const (
 	replyHead  = 20 // responseFlags, cursorID, startingFrom, numberReturned
 	cursorAt   = 4
 	returnedAt = 16
+
+	awaitCapable = 1 << 3 // the flag that each OP_REPLY of a server has
 )
 
 var (
@@ -31,6 +33,11 @@ type Legacy struct {
 	Opcode   int32
 	Head     []byte
 	Document []byte
+}
+
+// IsHello is whether a command of this name is a hello, by which a driver begins.
+func IsHello(name string) bool {
+	return name == "hello" || name == "isMaster" || name == "ismaster"
 }
 
 // ReadQuery reads an OP_QUERY.
@@ -52,6 +59,13 @@ func ReadReply(message Message) (Legacy, error) {
 		return Legacy{}, errReply
 	}
 	return readLegacy(message, replyHead, errReply)
+}
+
+// NewReply is an OP_REPLY of one document, as a server answers.
+func NewReply(document []byte) Legacy {
+	head := make([]byte, replyHead)
+	head[0], head[returnedAt] = awaitCapable, 1
+	return Legacy{OpReply, head, document}
 }
 
 // readLegacy reads a message that ends with a document, behind a head of so many bytes.

@@ -119,6 +119,24 @@ func readSequence(front []byte) (Sequence, error) {
 	return sequence, nil
 }
 
+// Array makes an array of the first documents of a sequence, of not more than so many bytes but for one document, and
+// answers how many it has and what is left.
+func (sequence Sequence) Array(most int) (array []byte, count int, left []byte, err error) {
+	var items []byte
+	for left = sequence.Documents; len(left) > 0; count++ {
+		length, err := bson.Length(left)
+		if err != nil {
+			return nil, 0, nil, errMsg
+		}
+		if count > 0 && len(items)+length > most {
+			break
+		}
+		items = bson.Append(items, bson.Document, bson.Key(count), left[:length])
+		left = left[length:]
+	}
+	return bson.Wrap(items), count, left, nil
+}
+
 // Size is how many bytes the message has.
 func (msg Msg) Size() int {
 	size := header + 4 + 1 + len(msg.Body)
