@@ -170,7 +170,7 @@ func freePort(t *testing.T) string {
 // port is taken, which its log says.
 func TestCalledAsDriversDo(t *testing.T) {
 	port := freePort(t)
-	words := []string{"--idleShutdownTimeoutSecs=2", "--port", port, "--pidfilepath=pid", "--logpath=log"}
+	words := []string{"--idleShutdownTimeoutSecs=3", "--port", port, "--pidfilepath=pid", "--logpath=log"}
 	first, folder := called(t, cryptd, words...)
 	if err := first.Start(); err != nil {
 		t.Fatal(err)
@@ -192,7 +192,7 @@ func TestCalledAsDriversDo(t *testing.T) {
 		t.Error("who can't begin has written its number")
 	}
 	begun := time.Now()
-	for time.Since(begun) < 3*time.Second {
+	for time.Since(begun) < 4*time.Second {
 		if !ping(t, "127.0.0.1:"+port) {
 			t.Error("it doesn't answer")
 		}

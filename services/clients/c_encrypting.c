@@ -46,7 +46,7 @@ static bson_t *service_of(char *word) {
     snprintf(uri, sizeof uri, "mongodb://localhost:%s", port);
     snprintf(pid, sizeof pid, "--pidfilepath=%s/pid", folder);
     snprintf(log, sizeof log, "--logpath=%s/log", folder);
-    return BCON_NEW("mongocryptdURI", BCON_UTF8(uri), "mongocryptdSpawnArgs", "[", "--idleShutdownTimeoutSecs=2",
+    return BCON_NEW("mongocryptdURI", BCON_UTF8(uri), "mongocryptdSpawnArgs", "[", "--idleShutdownTimeoutSecs=60",
                     "--port", BCON_UTF8(port), BCON_UTF8(pid), BCON_UTF8(log), "]");
 }
 

@@ -70,8 +70,9 @@ func TestCommandsThatAreNotTaken(t *testing.T) {
 			t.Errorf("%s: %q, %v", why, taken.own, err)
 		}
 	}
-	none := bson.Wrap()
-	for _, documents := range [][]byte{bson.Wrap(long), bytes.Repeat(none, longest/5), bytes.Repeat(none, longest/6)} {
+	one := bson.Wrap(bson.AppendText(nil, "a", string(make([]byte, 1000))))
+	fits := bytes.Repeat(one, longest/len(one)) // but not with its numbers
+	for _, documents := range [][]byte{bson.Wrap(long), fits, append(fits, one...)} {
 		sequences := []wire.Sequence{{Name: "documents", Documents: documents}}
 		if _, err := takeApart(wire.Msg{Body: bson.Wrap(name), Sequences: sequences}); !errors.As(err, &tooLong) {
 			t.Error("a very long sequence is taken", err)

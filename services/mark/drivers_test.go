@@ -8,7 +8,9 @@ import (
 	"os"
 	"os/exec"
 	"path/filepath"
+	"strconv"
 	"strings"
+	"syscall"
 	"testing"
 	"time"
 
@@ -136,7 +138,8 @@ func byURI(t *testing.T, words []string, schemas string) {
 	wantLog(t, rig.said.String())
 }
 
-// spawned has the driver start the service by the name mongocryptd, which ends once nobody asks any more.
+// spawned has the driver start the service by the name mongocryptd, in the place where PATH leads first; it outlives the
+// driver, and ends by a signal.
 func spawned(t *testing.T, words []string, schemas, program string) {
 	server, schemaMap := stored(t, schemas)
 	folder := t.TempDir()
@@ -145,16 +148,20 @@ func spawned(t *testing.T, words []string, schemas, program string) {
 	}
 	service := fmt.Sprintf("spawn:%d:%s", freePort(t), folder)
 	runClient(t, words, server, service, schemaMap, folder+":"+os.Getenv("PATH"))
-	said := func() string {
-		contents, _ := os.ReadFile(filepath.Join(folder, "log"))
+	said := func(name string) string {
+		contents, _ := os.ReadFile(filepath.Join(folder, name))
 		return string(contents)
 	}
-	mock.Within10s(t, func() bool { return strings.Contains(said(), `"event":"ends","why":"idle"`) })
-	mock.Within10s(t, func() bool {
-		_, err := os.Stat(filepath.Join(folder, "pid"))
-		return os.IsNotExist(err)
-	})
-	wantLog(t, said())
+	number, err := strconv.Atoi(strings.TrimSpace(said("pid")))
+	if err != nil {
+		t.Fatal(err)
+	}
+	syscall.Kill(number, syscall.SIGTERM)
+	mock.Within10s(t, func() bool { return said("pid") == "" })
+	wantLog(t, said("log"))
+	if !strings.Contains(said("log"), `"event":"ends"`) {
+		t.Error(said("log"))
+	}
 }
 
 // freePort is a port that nobody listens at, at this moment.

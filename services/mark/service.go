@@ -36,7 +36,7 @@ type Service struct {
 	log     *journal.Log
 	door    *door.Door
 	engines *engines
-	last    int64 // when the last message came, in nanoseconds since 1970
+	last    int64 // when the last message came or was answered, in nanoseconds since 1970
 	replies int32 // requestID of the last reply
 }
 
@@ -61,11 +61,12 @@ func (service *Service) Serve(listeners ...net.Listener) {
 	service.door.Serve(service.serve, listeners...)
 }
 
-// Idle is how long no message has come.
+// Idle is how long no message has come, or been answered.
 func (service *Service) Idle() time.Duration {
 	return time.Since(time.Unix(0, atomic.LoadInt64(&service.last)))
 }
 
+// came tells that somebody is there.
 func (service *Service) came() {
 	atomic.StoreInt64(&service.last, time.Now().UnixNano())
 }
@@ -85,6 +86,7 @@ func (service *Service) serve(client net.Conn) error {
 		if err == nil && reply != nil {
 			_, err = reply.WriteTo(client)
 		}
+		service.came()
 		if err != nil {
 			return err
 		}

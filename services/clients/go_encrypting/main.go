@@ -44,7 +44,7 @@ func extra(word string) map[string]interface{} {
 	}
 	return map[string]interface{}{
 		"mongocryptdURI": "mongodb://localhost:" + parts[1],
-		"mongocryptdSpawnArgs": []string{"--idleShutdownTimeoutSecs=2", "--port", parts[1],
+		"mongocryptdSpawnArgs": []string{"--idleShutdownTimeoutSecs=60", "--port", parts[1],
 			"--pidfilepath=" + parts[2] + "/pid", "--logpath=" + parts[2] + "/log"},
 	}
 }
