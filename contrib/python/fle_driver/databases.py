@@ -8,13 +8,13 @@ from typing import Any, Dict, FrozenSet, Mapping, Optional, Sequence, Type
 from bson.binary import Binary
 
 from .clients import want_blocking
-from .data_key import insert_key, made_key
 from .errors import Closed, Unsupported
-from .fle import File, Fle, Named
+from .files import File, Named
+from .fle import Fle
 from .kept import ALL
 from .process import Bytes
 from .schema_map import Schemas, schemas_of
-from .vault import master_of, namespace_of, read_keys
+from .vault import insert_key, master_of, namespace_of, read_keys, want_local
 
 
 class Databases:
@@ -66,15 +66,11 @@ class Databases:
             close_all(made)
             raise Closed("fle was closed")
 
-    def create_data_key(self, kms_provider: str = "local", *, key_alt_names: Sequence[str] = ()) -> Binary:
-        """Makes a data key by the program, and puts it into the collection; its id. `reload` makes it known here."""
-        if kms_provider != "local":
-            raise ValueError("the provider local is supported, and no other")
-        if isinstance(key_alt_names, str):
-            raise TypeError("a list of names is wanted")
-        self._now()
-        return insert_key(self._client, self.vault,
-                          made_key(self._program, self._master, key_alt_names, self.timeout))
+    def create_data_key(self, kms_provider: str = "local", *, key_alt_names: Optional[Sequence[str]] = None) -> Binary:
+        """Makes a data key, and puts it into the collection; its id. `reload` makes it known here."""
+        want_local(kms_provider)
+        key = self.opening().key_calls().make_key(key_alt_names or ())
+        return insert_key(self._client, self.vault, key)
 
     def _now(self) -> Dict[str, Fle]:
         """The engines of calls that begin now."""

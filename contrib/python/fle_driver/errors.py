@@ -4,7 +4,7 @@ from __future__ import annotations
 import re
 from typing import Any, Optional, Sequence, Tuple
 
-from pymongo.errors import PyMongoError
+from pymongo.errors import EncryptionError
 
 from .faults import Fault, Status, fault_of
 from .walk import field_names
@@ -12,8 +12,8 @@ from .walk import field_names
 LINE = re.compile(r"fle: (\d+) (\d+) (\d+) (-|\d+(?:\.\d+)*)\n?")
 
 
-class FleError(PyMongoError):
-    """The base of them all: code that catches pymongo's errors catches these too."""
+class FleError(EncryptionError):
+    """The base of them all: code that catches the errors of pymongo's own encryption catches these too."""
 
 
 class NotStarted(FleError):

@@ -4,10 +4,13 @@ from __future__ import annotations
 import fcntl
 import os
 from contextlib import ExitStack, contextmanager
-from typing import BinaryIO, Iterator, List, Sequence
+from typing import BinaryIO, Iterator, List, Sequence, Tuple, Union
 
 from .errors import Ended, ended
 from .faults import Status
+
+File = Union[str, "os.PathLike[str]"]
+Named = Tuple[str, bytes]  # what a file holds, or would, by the name that errors tell
 
 LONGEST = 67_108_864  # bytes of a file, at most: of a longer one a byte more is read, and `fle` says so
 STANDARD = 3  # so many descriptors are a process's own: its input, its output and its line

@@ -8,18 +8,19 @@ from typing import TYPE_CHECKING, Any, Dict, FrozenSet, Mapping, Optional, Seque
 
 from .deadline import MOST
 from .errors import Closed, NotStarted
-from .files import read_all
+from .files import File, Named, read_all
 from .kept import Kept
-from .library import Engine, Part, loaded
+from .key_calls import KeyCalls
+from .library import Part, loaded
+from .library_keys import KeyEngine
 from .listed import collections_of
 from .process import Bytes
+from .program_keys import KeysByProgram
+from .replies import opened_whole
 
 if TYPE_CHECKING:
     from .databases import Databases
     from .schema_map import Schemas
-
-File = Union[str, "os.PathLike[str]"]
-Named = Tuple[str, bytes]  # what a file holds, or would, by the name that errors tell
 
 PING = b"\x0f\0\0\0\x10ping\0\1\0\0\0\0"  # {ping: 1}
 EMPTY = b"\5\0\0\0\0"
@@ -73,11 +74,13 @@ class Fle:
         calls = loaded() if program is None else None
         self.by_library = calls is not None
         if calls is not None:
-            engine = Engine(calls, db, [name for name, _ in files], [content for _, content in files])
+            engine = KeyEngine(calls, db, [name for name, _ in files], [content for _, content in files])
+            self._key_calls: Optional[KeyCalls] = engine
             self._sealing: Union[Kept, Part] = Part(engine, True)
             self._opening: Union[Kept, Part] = Part(engine, False)
             return
         fle = found(program or "fle")
+        self._key_calls = KeysByProgram(fle, files[0], files[2], timeout)
         self._sealing = Kept([fle, "encrypt", db], files, timeout)
         self._opening = Kept([fle, "decrypt"], [files[0], files[2]], timeout)
         try:
@@ -102,8 +105,16 @@ class Fle:
         return self._sealing.ask(command)
 
     def decrypt(self, document: Bytes) -> bytes:
-        """A document, as a reply of the server, with each sealed value opened, and nothing else changed."""
-        return self._opening.ask(document)
+        """A document of at most 48,000,000 bytes, as a reply of the server, with each sealed value opened, and nothing
+        else changed. A process takes 16,777,216 bytes, and a longer document in parts."""
+        return self._opening.ask(document) if self.by_library else opened_whole(document, self._opening.ask)
+
+    def key_calls(self) -> KeyCalls:
+        """What it does with keys that are named."""
+        calls = self._key_calls
+        if calls is None:
+            raise Closed("fle was closed")
+        return calls
 
     def collections(self) -> FrozenSet[bytes]:
         """The names of the collections and views that SCHEMAS lists."""
@@ -118,7 +129,7 @@ class Fle:
 
     def close(self) -> None:
         """Ends both processes, once calls that are at work have ended; a later call raises `Closed`."""
-        self._schemas = None
+        self._schemas = self._key_calls = None
         self._sealing.close()
         self._opening.close()
 

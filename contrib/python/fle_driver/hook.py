@@ -6,7 +6,7 @@ from typing import Any, Iterable, Mapping, Optional
 from .clients import is_async, refuse_bulk_write, want_place
 from .coroutines import Coroutines
 from .reach import REACHING, name_of
-from .replies import may_hold_payloads, opened
+from .replies import may_hold_payloads
 from .scope import Engines, Scope
 from .sent import encoded, sent_of
 from .vault import reads_keys
@@ -42,7 +42,7 @@ class Hook:
     def decrypt(self, response: bytes) -> bytes:
         """A reply with what was sealed opened, all of it by one engine."""
         reply = bytes(response)
-        return opened(reply, self._fle.opening().decrypt) if may_hold_payloads(reply) else reply
+        return self._fle.opening().decrypt(reply) if may_hold_payloads(reply) else reply
 
     def close(self) -> None:
         """What the client's own `close` calls."""

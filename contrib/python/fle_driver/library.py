@@ -45,6 +45,13 @@ BYTES = ctypes.c_char_p, ctypes.c_size_t
 FORMS = {"fle_open": (Answer, (SLOT, *BYTES * 4)), "fle_seal": (Answer, (SLOT, *BYTES * 3)),
          "fle_unseal": (Answer, (SLOT, *BYTES * 2)), "fle_close": (None, (SLOT,))}
 
+# The same of those that library_keys.py makes: flags and a time stand between their bytes.
+FORMS_OF_KEYS = {
+    "fle_seal_value": (Answer, (SLOT, ctypes.c_bool, *BYTES, ctypes.c_bool, *BYTES * 3)),
+    "fle_make_key": (Answer, (SLOT, *BYTES, ctypes.c_int64, *BYTES * 2)),
+    "fle_rewrap_key": (Answer, (SLOT, *BYTES, ctypes.c_int64, *BYTES * 3)),
+}
+
 
 def loaded() -> Optional[ctypes.CDLL]:
     """The library, where the system finds it."""
@@ -52,7 +59,7 @@ def loaded() -> Optional[ctypes.CDLL]:
         calls = ctypes.CDLL(FOUND)
     except OSError:
         return None
-    for name, (answer, arguments) in FORMS.items():
+    for name, (answer, arguments) in {**FORMS, **FORMS_OF_KEYS}.items():
         call = getattr(calls, name)
         call.restype, call.argtypes = answer, arguments
     return calls

@@ -1,15 +1,34 @@
-"""Replies of a server, opened: those that hold nothing sealed stay as they are, long ones are opened in parts."""
+"""Replies of a server, opened by processes: long ones in parts, of which those that hold nothing sealed stay."""
 from __future__ import annotations
 
 from typing import Callable, Iterator
 
-from .errors import Refused, told_at
+from .errors import Refused, ended, told_at
+from .faults import Limit, Status
+from .kept import want_whole
+from .process import LONGEST, Bytes
 from .walk import ARRAY, DOCUMENT, Element, elements, shown, spelled
 
-MOST = 16_777_216  # bytes of a document that `fle` takes
+MOST = 16_777_216  # bytes of a document that a process takes
 HEADS = b"\6\1", b"\6\2"  # how each payload begins: the subtype, and which algorithm sealed it
 
 Open = Callable[[bytes], bytes]
+
+
+def opened_whole(document: Bytes, open_one: Open) -> bytes:
+    """A document of at most `LONGEST` bytes, by what opens one of `MOST`. Of a longer one parts that hold no payload
+    stay as they are; where it isn't BSON, that is all that is told."""
+    want_whole(document)
+    if len(document) <= MOST:
+        return open_one(document)
+    if len(document) > LONGEST:
+        raise ended(Status.Limit, f"fle: {Status.Limit:d} 1 {Limit.Document:d} -\n", b"", 0, [])
+    try:
+        return opened(bytes(document), open_one)
+    except (IndexError, KeyError, ValueError, Refused) as error:
+        if isinstance(error, Refused) and error.status != Status.Malformed:
+            raise
+        raise Refused("no BSON", Status.Malformed, 1) from None
 
 
 def opened(reply: bytes, open_one: Open) -> bytes:

@@ -9,8 +9,7 @@ from bson.binary import STANDARD
 from bson.codec_options import CodecOptions
 from bson.son import SON
 
-from .files import read_all
-from .fle import File, Named
+from .files import File, Named, read_all
 
 Schemas = Union[File, Mapping[str, Union[File, Mapping[str, Any]]]]
 

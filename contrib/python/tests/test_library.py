@@ -11,7 +11,7 @@ from pathlib import Path
 from unittest import mock
 
 from fle_driver import Closed, FaultyFile, FileFault, Fle, InputFault, Limit, Reason, Refused
-from fle_driver.library import FORMS, FOUND, SPARE, Answer, Part, loaded
+from fle_driver.library import FORMS, FORMS_OF_KEYS, FOUND, SPARE, Answer, Part, loaded
 from fle_driver.walk import place_at
 
 from .samples import FILES, KEYS, MASTER, PERSON, SCHEMAS, binary, element, insert, integer, spelled, string
@@ -79,6 +79,33 @@ class WithBoth(unittest.TestCase):
         self.assertEqual(self.library.decrypt(self.library.encrypt(command)), command)
         over = insert(spelled(binary("unprotected", 0, bytes(1 << 24))))
         self.assertEqual(self.same_refusal(over)[2], Limit.Document)
+
+    def test_replies_above_the_length_of_a_command(self):
+        payload = binary("a", 6, b"\1" + bytes(97))
+        person = self.library.encrypt(COMMAND)
+        for filling, number in ((16_000_000, 2), (15_000_000, 3)):
+            part = element(3, "c", spelled(binary("f", 0, bytes(filling))))
+            whole = spelled(element(3, "a", person), part * number, element(3, "b", person))
+            opened = spelled(element(3, "a", COMMAND), part * number, element(3, "b", COMMAND))
+            self.assertTrue(self.library.decrypt(whole) == self.program.decrypt(whole) == opened)
+            whole = spelled(part * number, element(3, "a", spelled(string("b", "c"), payload)))
+            self.assertEqual(self.same_refusal(whole, True)[2:5], (Reason.KeyMissing, (number, 1), "a.a"))
+        for length in (48_000_000, 48_000_001):
+            document = spelled(string("a", "\6\1"), binary("f", 0, bytes(length - 24)))
+            self.assertEqual(len(document), length)
+            if length > 48_000_000:
+                self.assertEqual(self.same_refusal(document, True)[:3], (9, 1, Limit.Document))
+            else:
+                self.assertTrue(self.library.decrypt(document) == self.program.decrypt(document) == document)
+
+    def test_long_replies_that_are_no_bson(self):
+        filling, head = binary("f", 0, bytes(1 << 24)), string("a", "\6\1")
+        for broken in (element(5, "a", b"\xff\xff\xff\x7f\0"), element(99, "a", b""),
+                       element(3, "b", spelled(head, element(99, "a", b"")))):
+            for document in (spelled(head, filling, broken), spelled(filling, broken, head)):
+                raised = [self.told(fle, document, True) for fle in (self.library, self.program)]
+                self.assertEqual([told[:2] for told in raised], [(3, 1), (3, 1)])
+                self.assertEqual(raised[1][2:], (None, (), None, "no BSON"))
 
     def test_threads(self):
         commands = [insert(spelled(string("ssn", str(number)))) for number in range(64)]
@@ -217,7 +244,7 @@ class ClosedBesideACall(unittest.TestCase):
     @unittest.skipUnless(loaded(), "no libfle.so.0 that the system finds")
     def test_a_call_with_arguments_missing(self):
         calls = loaded()
-        for name, (_, arguments) in FORMS.items():
+        for name, (_, arguments) in {**FORMS, **FORMS_OF_KEYS}.items():
             with self.subTest(name), self.assertRaises(TypeError):
                 getattr(calls, name)(*[None] * (len(arguments) - 1))
 

@@ -1,28 +1,30 @@
-"""Each yes of the tables that README.md has beside pymongo's own encryption, by processes."""
+"""The tables that README.md has beside pymongo's own encryption: each yes of `AutoEncryptionOpts`, by processes; those
+of `ClientEncryption` are tested in test_client_encryption.py."""
 import inspect
 import re
 import unittest
-from pathlib import Path
 
 import bson
-import pymongo
-from bson.binary import STANDARD, Binary
+import pymongo.encryption
+from bson.binary import STANDARD
 from bson.codec_options import CodecOptions
 from bson.raw_bson import DEFAULT_RAW_BSON_OPTIONS, RawBSONDocument
-from pymongo.encryption import ClientEncryption
 from pymongo.encryption_options import AutoEncryptionOpts
 
-from fle_driver import (Closed, Ended, FaultyFile, Fle, MasterFault, NotStarted, Reason, Refused, TimedOut, Unsupported,
-                        enable)
-from fle_driver.data_key import made_key
+from fle_driver import ClientEncryption, Closed, Fle, Reason, Refused, Unsupported, enable
 from fle_driver.walk import elements
 
-from .samples import PERSON, TOP, insert, program, sealed, spelled, string
+from . import test_client_encryption
+from .samples import PERSON, TOP, insert, sealed, spelled, string
 from .vaults import COMMAND, FIRST, LOCAL, MAP, SECOND, VAULT, WithVault, rule
 from .wire import batch, begun
 
 SSN = "123-45-6789"
-ROW = re.compile(r"^\| `(\w+)` \| (yes|no) \| \S.* \|$", re.M)
+ROW = re.compile(r"^\| ((?:`\w+`(?:, )?)+) \| (yes|no) \| \S.* \|$", re.M)
+# What pymongo 4.10 has beyond 3.11.
+OF_4 = set("""kms_tls_options crypt_shared_lib_path crypt_shared_lib_required bypass_query_analysis encrypted_fields_map
+    create_encrypted_collection encrypt_expression get_key get_keys get_key_by_alt_name delete_key add_key_alt_name
+    remove_key_alt_name rewrap_many_data_key""".split())
 
 
 def arguments_of(call):
@@ -78,26 +80,21 @@ class Options(WithVault):
         self.wire.replies = [batch("firstBatch", 0, stored().raw)]
         self.assertEqual(client.hr.people.find_one(), {"ssn": SSN})
 
-    def test_ClientEncryption(self):
-        fle = self.made(schemas=None, bypass=True, kms_providers={"local": {"key": LOCAL}})
-        self.assertEqual(fle.decrypt(sealed(COMMAND)), COMMAND)
 
-    def test_create_data_key(self):
+class DataKeys(WithVault):
+    """Those that a `Fle` makes."""
+
+    def test_one_of_a_database(self):
         fle = self.made(schemas=None, bypass=True)
-        key_id = fle.create_data_key("local", key_alt_names=["payroll", "\u00e4lter"])
-        self.assertEqual(self.wire.came[-1]["insert"], "__keyVault")
-        self.assertEqual(bson.decode(self.wire.last("writeConcern")), {"w": "majority"})
+        key_id = fle.create_data_key("local", key_alt_names=["payroll"])
         (key,) = self.wire.last("documents")
-        found = bson.decode(key, CodecOptions(uuid_representation=STANDARD))
-        self.assertEqual((found["keyAltNames"], found["masterKey"]), (["payroll", "\u00e4lter"], {"provider": "local"}))
-        self.assertEqual((key_id, key_id.subtype), (Binary(found["_id"].bytes, 4), 4))
         schema = {"properties": {"ssn": {"encrypt": {**rule(0, bsonType="string")["encrypt"], "keyId": [key_id]}}}}
         new = self.made(schemas={"hr.people": schema}, keys=[FIRST, key])
         self.assertEqual(new.decrypt(new.encrypt(COMMAND)), COMMAND)
         self.reloaded(fle, key)
         self.assertEqual(fle.decrypt(new.encrypt(COMMAND)), COMMAND)
 
-    def test_create_data_key_by_a_client_with_the_hook(self):
+    def test_one_by_a_client_with_the_hook(self):
         for others in ([], ["encryption"]):
             client = self.plain_client()
             fle = self.made(client=client)
@@ -111,57 +108,47 @@ class Options(WithVault):
                 self.assertRaises(Unsupported, fle.create_data_key)
                 self.assertEqual(self.wire.came, [])
 
-    def test_create_data_key_that_makes_none(self):
+    def test_what_is_no_name(self):
         fle = self.made()
         self.wire.forget()
-        for words, error in (({"kms_provider": "aws"}, ValueError), ({"key_alt_names": "payroll"}, TypeError),
-                             ({"key_alt_names": ["a", "a"]}, Ended), ({"key_alt_names": ["a\0"]}, ValueError)):
+        for words, error in (({"kms_provider": "aws"}, ValueError), ({"key_alt_names": "payroll"}, TypeError)):
             with self.subTest(words), self.assertRaises(error):
                 fle.create_data_key(**words)
-        with self.assertRaises(FaultyFile) as faulty:
-            made_key("fle", ("the master key", LOCAL[1:]), [], 60)
-        self.assertEqual((faulty.exception.file, faulty.exception.reason), ("the master key", MasterFault.Length))
-        self.assertRaises(NotStarted, made_key, "/nowhere/fle", ("the master key", LOCAL), [], 60)
-        with program("exec sleep 60") as stays:
-            self.assertRaises(TimedOut, made_key, stays, ("the master key", LOCAL), [], 0.3)
-            Path(stays).write_text("#!/nowhere/sh\n")
-            self.assertRaises(NotStarted, made_key, stays, ("the master key", LOCAL), [], 60)
         self.assertEqual(self.wire.came, [])
 
-    def test_decrypt(self):
-        fle, value = self.made(), stored()["ssn"]
-        self.assertEqual(value.subtype, 6)
-        self.assertEqual(bson.decode(fle.decrypt(bson.encode({"v": value})))["v"], SSN)
-
-    def test_close(self):
+    def test_a_closed_one(self):
         fle = self.made()
         fle.close()
         for call in (fle.reload, fle.create_data_key, lambda: fle.decrypt(spelled(string("a", "b")))):
             self.assertRaises(Closed, call)
 
-    def test___enter__(self):
-        made = self.made()
-        with made as fle:
-            self.assertIs(fle, made)
-            self.assertEqual(fle.decrypt(sealed(COMMAND)), COMMAND)
-
-    def test___exit__(self):
-        with self.assertRaises(KeyError), self.made() as fle:
-            raise KeyError
-        self.assertRaises(Closed, fle.decrypt, COMMAND)
-
 
 class Tables(unittest.TestCase):
-    def test_each_name_has_a_row(self):
+    def rows(self):
+        """Each name of the tables, and its answer."""
         rows = ROW.findall((TOP / "contrib/python/README.md").read_text())
-        methods = [name for name, _ in inspect.getmembers(ClientEncryption, inspect.isfunction)
+        return [(name, answer) for names, answer in rows for name in re.findall(r"`(\w+)`", names)]
+
+    def test_each_name_has_a_row(self):
+        methods = [name for name, _ in inspect.getmembers(pymongo.encryption.ClientEncryption, inspect.isfunction)
                    if not re.match(r"_(?!_)|__init__", name)]
-        names = sorted([*arguments_of(AutoEncryptionOpts), "ClientEncryption", *methods])
-        if pymongo.version_tuple >= (4,):  # it has more of them
-            names = [name for name in names if name in dict(rows)]
-        self.assertEqual(sorted(name for name, _ in rows), names)
+        here = {*arguments_of(AutoEncryptionOpts), "ClientEncryption", *methods}
+        names = [name for name, _ in self.rows()]
+        self.assertEqual(sorted(names), sorted({*names}))
+        self.assertLessEqual(here, {*names})
+        self.assertLessEqual({*names}, here | OF_4)
 
     def test_each_yes_has_a_test(self):
-        for name, answer in ROW.findall((TOP / "contrib/python/README.md").read_text()):
+        tested = [name for case in (Options, test_client_encryption.Values, test_client_encryption.Keys)
+                  for name in dir(case)]
+        for name, answer in self.rows():
             with self.subTest(name):
-                self.assertEqual(hasattr(Options, f"test_{name}"), answer == "yes")
+                self.assertEqual(f"test_{name}" in tested, answer == "yes")
+
+    def test_its_own_have_the_same_arguments(self):
+        for name, method in inspect.getmembers(pymongo.encryption.ClientEncryption, inspect.isfunction):
+            own = getattr(ClientEncryption, name, None)
+            if own and not name.startswith("_"):
+                with self.subTest(name):
+                    common = zip(arguments_of(own), arguments_of(method))
+                    self.assertEqual([one for one, other in common if one != other], [])

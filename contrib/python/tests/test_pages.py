@@ -23,7 +23,7 @@ class Pages(WithClients):
         (person,) = [part.value for field in elements(sealed(insert(spelled(string("ssn", "123-45-6789")))))
                      if field.name == "documents" for part in elements(field.value)]
         vault, written = batch("firstBatch", 0, *documents_of(KEYS.read_bytes())), {"ok": 1, "n": 1}
-        wire.replies = [written, batch("firstBatch", 0, person), vault, written, vault]
+        wire.replies = [written, batch("firstBatch", 0, person), vault, written, vault, vault]
         out, here = io.StringIO(), os.getcwd()
         with tempfile.TemporaryDirectory() as folder, contextlib.redirect_stdout(out):
             for file, name in ((KEYS, "keys.bson"), (SCHEMAS, "schemas.json"), (MASTER, "master.key")):
@@ -45,5 +45,5 @@ class Pages(WithClients):
         self.assertEqual(self.printed("README.md"), "[{'ssn': '123-45-6789'}]\n")
 
     def test_the_page_of_the_package(self):
-        self.assertEqual(self.printed("contrib/python/README.md", "find", "insert", "find"),
-                         "[{'ssn': '123-45-6789'}]\nTypeNotAllowed documents.0.ssn\n")
+        self.assertEqual(self.printed("contrib/python/README.md", "find", "insert", "find", "find"),
+                         "[{'ssn': '123-45-6789'}]\na note\nTypeNotAllowed documents.0.ssn\n")

@@ -6,6 +6,7 @@ from unittest import mock
 from bson.raw_bson import DEFAULT_RAW_BSON_OPTIONS, RawBSONDocument
 
 from fle_driver import Fle, Limit, Reason, Refused
+from fle_driver.process import LONGEST
 from fle_driver.replies import HEADS, MOST, may_hold_payloads, opened
 from fle_driver.walk import elements
 
@@ -79,7 +80,7 @@ class Lengths(unittest.TestCase):
     @classmethod
     def setUpClass(cls):
         cls.person = stored(PERSON)
-        cls.fle = Fle(*FILES)
+        cls.fle = Fle(*FILES, program="fle")
         cls.addClassCleanup(cls.fle.close)
 
     def test_parts_are_put_together_again(self):
@@ -97,9 +98,16 @@ class Lengths(unittest.TestCase):
         whole = reply(filled(MOST, *tail), self.person)
         self.assertEqual(opened(whole, self.fle.decrypt),
                          reply(self.fle.decrypt(filled(MOST, *tail)), self.fle.decrypt(self.person)))
+        self.assertEqual(self.fle.decrypt(whole), opened(whole, self.fle.decrypt))
+        long = spelled(binary("f", 0, bytes(LONGEST - 12)))
+        self.assertEqual(len(long), LONGEST + 1)
         with self.assertRaises(Refused) as refused:
-            self.fle.decrypt(whole)
-        self.assertEqual(refused.exception.reason, Limit.Document)
+            self.fle.decrypt(long)
+        self.assertEqual((refused.exception.status, refused.exception.reason), (9, Limit.Document))
+
+    def test_what_is_no_document(self):
+        for document in (filled(MOST)[:-1], filled(MOST) + b"\0"):
+            self.assertRaises(ValueError, self.fle.decrypt, document)
 
     def test_refusals_tell_the_same_place(self):
         spoiled = self.person[:-1].replace(b"\x06\x01\x00\x11", b"\x06\x01\x00\x12") + b"\0"
