@@ -10,7 +10,7 @@ from bson.binary import UUID_SUBTYPE, Binary
 from bson.codec_options import CodecOptions
 
 from .databases import Databases
-from .errors import Refused
+from .errors import Refused, refused_at
 from .faults import Reason
 from .files import File
 from .fle import Fle
@@ -65,14 +65,15 @@ class ClientEncryption:
         key = key_of(key_id, key_alt_name)
         document = bson.encode({SEALED: value}, codec_options=self._options)
         sealed = self._with_keys(lambda fle: fle.key_calls().seal_value(key, algorithm == RANDOM, document))
-        return Binary(bson.decode(sealed)[SEALED], PAYLOAD)
+        payload: Binary = bson.decode(sealed)[SEALED]
+        return payload
 
     def decrypt(self, value: Binary) -> Any:
         """The value that was sealed."""
         if not isinstance(value, Binary) or value.subtype != PAYLOAD:
             raise TypeError("value to decrypt must be a bson.binary.Binary with subtype 6")
         if bytes([PAYLOAD]) + value[:1] not in HEADS:
-            raise Refused("a binary of subtype 6 that isn't a sealed value", 1, 1, Reason.PayloadShape, (0,), SEALED)
+            raise refused_at(Reason.PayloadShape.name, 1, Reason.PayloadShape, (0,), SEALED)
         document = bson.encode({SEALED: value})
         return bson.decode(self._with_keys(lambda fle: fle.decrypt(document)), self._options)[SEALED]
 

@@ -10,7 +10,8 @@ from bson.max_key import MaxKey
 from bson.min_key import MinKey
 from pymongo.errors import EncryptionError
 
-from fle_driver import ClientEncryption, Closed, Ended, FaultyFile, KeyFault, Limit, MasterFault, Reason, Refused
+from fle_driver import (ClientEncryption, Closed, Ended, FaultyFile, KeyFault, Limit, MasterFault, Reason, Refused,
+                        enable)
 from fle_driver.program_keys import DETERMINISTIC, RANDOM
 from fle_driver.walk import elements
 
@@ -286,6 +287,18 @@ class Keys(WithKeys):
             with self.assertRaises((TypeError, ValueError)):
                 made.rewrap_many_data_key({}, **words)
         self.assertEqual(self.wire.came, [])
+
+    def test_a_client_with_the_hook(self):
+        client = self.plain_client()
+        enable(client, self.made(client=client), others=["encryption"])
+        self.wire.forget()
+        self.answers(FIRST)
+        with ClientEncryption({"local": {"key": LOCAL}}, VAULT, client, OPTIONS, program=self.program) as made:
+            self.assertEqual(made.decrypt(made.encrypt("x", RANDOM, ID)), "x")
+            made.create_data_key("local")
+            result, came = self.rewrapped(made, FIRST)
+        self.assertEqual((result.modified_count, [next(iter(command)) for command in came]), (1, ["find", "update"]))
+        self.assertEqual(bson.decode(came[1]["updates"][0]["u"].raw)["keyAltNames"], ["hr-key"])
 
     def test_get_key(self):
         made = self.made_of(FIRST)
