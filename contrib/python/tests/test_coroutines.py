@@ -10,7 +10,6 @@ from unittest import mock
 
 import bson
 import pymongo
-from bson.codec_options import CodecOptions
 from bson.raw_bson import DEFAULT_RAW_BSON_OPTIONS, RawBSONDocument
 from bson.son import SON
 from pymongo.errors import InvalidOperation

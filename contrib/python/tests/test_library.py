@@ -91,7 +91,7 @@ class WithBoth(unittest.TestCase):
             whole = spelled(part * number, element(3, "a", spelled(string("b", "c"), payload)))
             self.assertEqual(self.same_refusal(whole, True)[2:5], (Reason.KeyMissing, (number, 1), "a.a"))
         for length in (48_000_000, 48_000_001):
-            document = spelled(string("a", "\6\1"), binary("f", 0, bytes(length - 24)))
+            document = spelled(string("a", "\6\1"), binary("f", 0, bytes(length - 23)))
             self.assertEqual(len(document), length)
             if length > 48_000_000:
                 self.assertEqual(self.same_refusal(document, True)[:3], (9, 1, Limit.Document))
