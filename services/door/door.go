@@ -32,7 +32,11 @@ type Door struct {
 
 // New is a door that nobody has come by yet.
 func New(log *journal.Log) *Door {
-	return &Door{log: log, ended: make(chan struct{}), free: make(chan struct{}, Most)}
+	return newDoor(log, Most)
+}
+
+func newDoor(log *journal.Log, most int) *Door {
+	return &Door{log: log, ended: make(chan struct{}), free: make(chan struct{}, most)}
 }
 
 // Ended is closed once no more clients are let in: those that are there ask nothing more.
@@ -79,7 +83,7 @@ func (door *Door) accept(serve func(net.Conn) error, listener net.Listener) {
 			go door.connect(serve, client)
 		default:
 			client.Close()
-			door.say(client, "above "+strconv.Itoa(Most)+" connections")
+			door.say(client, "above "+strconv.Itoa(cap(door.free))+" connections")
 		}
 	}
 }

@@ -38,10 +38,10 @@ func asks(conn net.Conn) error {
 // One connection above the most is closed, with a line; once another one has gone, a new one is served.
 func TestTheMost(t *testing.T) {
 	said, front := &mock.Lines{}, mock.Door(t)
-	door := New(journal.New(said))
+	door := newDoor(journal.New(said), 8)
 	go door.Serve(echo, front)
 	var all []net.Conn
-	for len(all) < Most {
+	for len(all) < 8 {
 		all = append(all, dial(t, front))
 		if err := asks(all[len(all)-1]); err != nil {
 			t.Fatal(len(all), err)
@@ -50,7 +50,7 @@ func TestTheMost(t *testing.T) {
 	if err := asks(dial(t, front)); err == nil {
 		t.Error("one above the most is served")
 	}
-	if !strings.Contains(said.String(), `"why":"above 1000 connections"`) || strings.Count(said.String(), "\n") != 1 {
+	if !strings.Contains(said.String(), `"why":"above 8 connections"`) || strings.Count(said.String(), "\n") != 1 {
 		t.Error(said)
 	}
 	all[0].Close()

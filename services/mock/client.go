@@ -27,7 +27,7 @@ func Dial(t testing.TB, address string) Client {
 		t.Fatal(err)
 	}
 	t.Cleanup(func() { conn.Close() })
-	conn.SetDeadline(time.Now().Add(30 * time.Second))
+	conn.SetDeadline(time.Now().Add(2 * time.Minute))
 	return Client{t, conn}
 }
 
