@@ -110,7 +110,10 @@ func runClient(t *testing.T, words []string, server *mock.Server, service, schem
 	if bytes.Contains(server.Got, []byte("jsonSchema")) {
 		t.Error("what is beside a command came to the server")
 	}
-	sealed := bytes.Count(server.Got, []byte("\x05ssn\x00")) + bytes.Count(server.Got, []byte("\x05salary\x00"))
+	sealed := 0
+	for _, field := range []string{"\x05ssn\x00", "\x05salary\x00"} {
+		sealed += bytes.Count(server.Got, []byte(field))
+	}
 	if sealed < 20 {
 		t.Errorf("the server has %d sealed values", sealed)
 	}

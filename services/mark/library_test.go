@@ -92,6 +92,8 @@ func TestManySchemas(t *testing.T) {
 			t.Fatal(turn, fields)
 		}
 	}
+	rig.engines.lock.Lock()
+	defer rig.engines.lock.Unlock()
 	if kept := len(rig.engines.kept); kept != mostEngines {
 		t.Error(kept)
 	}
