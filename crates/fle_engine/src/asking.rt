@@ -20,13 +20,13 @@ ghost use Rattle.fle_outside.specs.Seen.{EntropySeen};
 ghost use Rattle.payload6.specs.Needs.{need_seen};
 
 use crate::answer::Answer;
-use crate::marker::Marker;
 use crate::refusing::refuse_fault;
 use crate::starting::{Started, begin, start};
 use bson_codec::RawDoc;
 use context_machine::{
     Begun, DecryptNeedKeys, Need, NeedAt, NeedCollInfo, NeedKeys, NeedMarkings, filter_beside,
 };
+use encrypt_schema::Infos;
 use fle_outside::Memory;
 use key_vault::Vault;
 use std::alloc::Global;
@@ -58,15 +58,21 @@ pub struct Asked {
 }
 
 /// The keys that a command of a database needs: its fields by themselves, then its collection, its contents.
-pub fn ask_for_command(alloc: Global, marker: &Marker, keys: &Vault, command: &RawDoc<'_>) -> Asked
+pub fn ask_for_command(
+    alloc: Global,
+    db: &[u8],
+    infos: &Infos,
+    keys: &Vault,
+    command: &RawDoc<'_>,
+) -> Asked
     requires whole { command.now.start ≡ 0 }
     ensures answers { (e : EntropySeen)
-        → AnswerIs (keys_ruling keys.now marker.now.infos marker.now.db.items command.now.tree) command.now.tree e e
+        → AnswerIs (keys_ruling keys.now infos.now db.now command.now.tree) command.now.tree e e
         result.answer }
-    ensures draws { TellsDraws (command_draws (rows_of marker.now.infos command.now.tree) command.now.tree)
+    ensures draws { TellsDraws (command_draws (rows_of infos.now command.now.tree) command.now.tree)
         result.answer result.draws }
 {
-    match start(&marker.db, &marker.infos, command) {
+    match start(db, infos, command) {
         Ok(Started::Passing) => Asked {
             answer: Answer::Made(Vec::new(alloc)),
             draws: 0,

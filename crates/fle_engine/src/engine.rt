@@ -88,7 +88,8 @@ impl Engine {
     {
         seal_command(
             alloc,
-            &self.marker,
+            &self.marker.db,
+            &self.marker.infos,
             &mut self.opener,
             hooks,
             command,

@@ -31,10 +31,12 @@ mod single;
 mod starting;
 
 pub use answer::{Answer, Refused, Wanted};
-pub use asking::Asked;
+pub use asking::{Asked, ask_for_command, ask_for_document, ask_for_info, ask_for_key};
 pub use checking::{Declined, Untaken};
 pub use engine::Engine;
 pub use key_stop::KeyStop;
 pub use loading::EngineFault;
-pub use marker::Marker;
+pub use marker::{Marker, reply_to_command};
 pub use opener::Opener;
+pub use refusing::refuse;
+pub use sealing::seal_command;

@@ -47,7 +47,7 @@ impl Marker {
         ensures answers { (e : EntropySeen)
             → AnswerIs (mark_ruling self.now.infos self.now.db.items command.now.tree) command.now.tree e e result }
     {
-        reply_to_command(alloc, self, command)
+        reply_to_command(alloc, &self.db, &self.infos, command)
     }
 
     /// Whether a command is accepted by itself, as `mark` does: it isn't refused for its fields, its collection or its
@@ -77,13 +77,14 @@ impl Marker {
     }
 }
 
-/// The reply to a command of a database: its fields by themselves, then its collection and its contents.
-fn reply_to_command(alloc: Global, marker: &Marker, command: &RawDoc<'_>) -> Answer
+/// The marking reply to a command of a database, as `Marker::mark`: its fields by themselves, then its collection and
+/// its contents.
+pub fn reply_to_command(alloc: Global, db: &[u8], infos: &Infos, command: &RawDoc<'_>) -> Answer
     requires whole { command.now.start ≡ 0 }
     ensures answers { (e : EntropySeen)
-        → AnswerIs (mark_ruling marker.now.infos marker.now.db.items command.now.tree) command.now.tree e e result }
+        → AnswerIs (mark_ruling infos.now db.now command.now.tree) command.now.tree e e result }
 {
-    match start(&marker.db, &marker.infos, command) {
+    match start(db, infos, command) {
         Ok(Started::Passing) => answer_reply(reply_clear(alloc, command)),
         Ok(Started::Marking(state)) => reply_by_contents(alloc, &state),
         Err(fault) => refuse_fault(alloc, command, fault),

@@ -13,13 +13,13 @@ ghost use Rattle.fle_engine.specs.Sealing.{seal_contents, seal_ruling, seal_unde
 ghost use Rattle.fle_outside.specs.Seen.{EntropySeen};
 
 use crate::answer::{Answer, Wanted};
-use crate::marker::Marker;
 use crate::opener::Opener;
 use crate::refusing::{refuse_fault, refuse_stop};
 use crate::starting::{Started, start};
 use bson_codec::RawDoc;
 use context_machine::{NeedKeys, NeedMarkings, Ready};
 use crypto_hooks::Block256;
+use encrypt_schema::Infos;
 use fle_outside::{Entropy, Failed};
 use key_vault::{KeyCache, Vault};
 use std::alloc::Global;
@@ -27,10 +27,12 @@ use std::alloc::Global;
 /// The most bytes that a sealed command may have.
 const MOST: usize = 48_000_000;
 
-/// Seals a command of a database: its fields by themselves, then its collection, its contents, its keys.
+/// The command of a database with its protected values sealed, as `Engine::seal`: its fields by themselves, then its
+/// collection, its contents, its keys.
 pub fn seal_command<B: Block256, N: Entropy>(
     alloc: Global,
-    marker: &Marker,
+    db: &[u8],
+    infos: &Infos,
     opener: &mut Opener,
     hooks: &B,
     command: &RawDoc<'_>,
@@ -40,10 +42,10 @@ pub fn seal_command<B: Block256, N: Entropy>(
     requires whole { command.now.start ≡ 0 }
     ensures same { (opener.new.keys ≡ opener.old.keys) × (opener.new.cache.master ≡ opener.old.cache.master) }
     ensures answers { AnswerIs
-        (seal_ruling (finder opener.old.keys opener.old.cache.master) marker.now.infos marker.now.db.items
-        command.now.tree) command.now.tree (N.seen entropy.old) (N.seen entropy.new) result }
+        (seal_ruling (finder opener.old.keys opener.old.cache.master) infos.now db.now command.now.tree)
+        command.now.tree (N.seen entropy.old) (N.seen entropy.new) result }
 {
-    match start(&marker.db, &marker.infos, command) {
+    match start(db, infos, command) {
         Ok(Started::Passing) => pass_command(alloc, command),
         Ok(Started::Marking(state)) => seal_by_contents(
             alloc,

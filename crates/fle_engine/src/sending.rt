@@ -63,7 +63,13 @@ impl Engine {
                 draws: 0,
             };
         }
-        ask_for_command(alloc, &self.marker, &self.opener.keys, command)
+        ask_for_command(
+            alloc,
+            &self.marker.db,
+            &self.marker.infos,
+            &self.opener.keys,
+            command,
+        )
     }
 
     /// Whether a database is the engine's own.

@@ -11,5 +11,5 @@ mod numbers;
 mod setup;
 
 pub use infos::{InfosFault, read_infos};
-pub use numbers::{number_of_master, number_of_reason, number_of_vault};
+pub use numbers::{number_of_infos, number_of_master, number_of_reason, number_of_vault};
 pub use setup::{KeysFile, load_infos, load_keys, load_master, load_vault};

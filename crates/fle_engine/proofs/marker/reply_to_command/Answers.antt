@@ -1,8 +1,5 @@
 -- What a command starts as says what it comes to.
-use Rattle.std.proofs.Common.{List, subst, ℕ}
-use Rattle.fle_engine.specs.Answers.{AnswerIs}
 use Rattle.fle_engine.specs.Replies.{mark_ruling}
-use Rattle.fle_engine.specs.Rulings.{Tells}
 use Rattle.fle_engine.proofs.Replied.{marking_replied, passing_replied, refused_replied}
 use Rattle.fle_engine.proofs.marker.reply_to_command.Goals as goal
 
@@ -12,31 +9,27 @@ returns-in-Ok-Passing c =
     let start = rw c.in-Ok-Passing.field-0-is at c.in-Ok-Passing.ensures.starts in
     record {
       answers = λ e.
-          passing_replied c.args.marker.now.infos c.args.marker.now.db.items command.tree c.answer_reply.result e start
+          passing_replied c.args.infos.now c.args.db.now command.tree c.answer_reply.result e start
           (c.answer_reply.ensures.answers _ command.tree e c.reply_clear.ensures.replies);
     }
 
 pub returns-in-Ok-Marking : goal.returns-in-Ok-Marking
 returns-in-Ok-Marking c =
-    let infos = c.args.marker.now.infos in
+    let infos = c.args.infos.now in
     let command = c.args.command.now in
     let start = rw c.in-Ok-Marking.field-0-is at c.in-Ok-Marking.ensures.starts in
     record {
       answers = λ e.
-          subst
-          (λ (db : List ℕ). AnswerIs (mark_ruling infos db command.tree) command.tree e e c.reply_by_contents.result)
-          c.deref.ensures.value
-          (marking_replied infos c.deref.result.now command c.in-Ok-Marking.state c.reply_by_contents.result e start
-          (c.reply_by_contents.ensures.answers e));
+          marking_replied infos c.args.db.now command c.in-Ok-Marking.state c.reply_by_contents.result e start
+          (c.reply_by_contents.ensures.answers e);
     }
 
 pub returns-in-Err : goal.returns-in-Err
 returns-in-Err c =
-    let infos = c.args.marker.now.infos in
+    let infos = c.args.infos.now in
     let command = c.args.command.now in
     record {
       answers = λ e.
-          c.refuse_fault.ensures.answers (mark_ruling infos c.args.marker.now.db.items command.tree) e
-          (subst (λ (db : List ℕ). Tells c.in-Err.fault (mark_ruling infos db command.tree)) c.deref.ensures.value
-          (refused_replied infos c.deref.result.now command c.in-Err.fault c.in-Err.ensures.starts));
+          c.refuse_fault.ensures.answers (mark_ruling infos c.args.db.now command.tree) e
+          (refused_replied infos c.args.db.now command c.in-Err.fault c.in-Err.ensures.starts);
     }

@@ -1,5 +1,7 @@
 -- The database is another, or the command comes to the filter of its keys.
+use Rattle.std.proofs.Common.{List, subst, ℕ}
 use Rattle.encrypt_schema.specs.Commands.Targets.{rows_of}
+use Rattle.fle_engine.specs.Answers.{AnswerIs}
 use Rattle.fle_engine.specs.Asked.{command_draws, keys_ruling}
 use Rattle.fle_engine.proofs.Sent.{sent_away, sent_home}
 use Rattle.fle_engine.proofs.Unmade.{spot_undrawing}
@@ -26,4 +28,7 @@ returns-clause-answers c = λ e.
     let tree = c.args.command.now.tree in
     sent_home m.db.items c.args.db.now (keys_ruling engine.opener.keys m.infos m.db.items tree) tree e
     c.ask_for_command.result.answer c.is_own.result c.is_own.ensures.own c.if-not-is_own.false
-    (c.ask_for_command.ensures.answers e)
+    (subst
+    (λ (own : List ℕ).
+    AnswerIs (keys_ruling engine.opener.keys m.infos own tree) tree e e c.ask_for_command.result.answer)
+    c.deref.ensures.value (c.ask_for_command.ensures.answers e))
