@@ -1,0 +1,2 @@
+mod Elsewhere
+mod Tellings

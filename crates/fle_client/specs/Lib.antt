@@ -1,0 +1,4 @@
+pub mod Told
+pub mod Known
+pub mod Clients
+pub mod Filling
