@@ -5,9 +5,6 @@ use Rattle.std.proofs.Common.{arith, inl, inr, length-append}
 use Rattle.std.specs.Prelude.{unwrap_or}
 use Rattle.std.proofs.Math.Seq.{take-append_seam}
 use Rattle.std.proofs.lemmas.Bool.Decides.{nat_tests}
-use Rattle.bson_codec.specs.Reading.{document}
-use Rattle.bson_codec.specs.declared.fault.BsonFault.{BsonFault}
-use Rattle.bson_tree.specs.Tree.{Items}
 use Rattle.fle_outside.specs.Blocks.{Block}
 use Rattle.fle_outside.specs.Seen.{EntropySeen}
 use Rattle.fle_engine.specs.KeyRulings.{KeyAnswerIs, KeyRuling, WantsFew, makes_key, stops}
@@ -17,9 +14,8 @@ use Rattle.fle_engine.specs.declared.key_stop.KeyStop.TheVariants as key_stops
 use Rattle.fle_stream.specs.Plan.{Plan}
 use Rattle.local_kms.specs.Drawn.{Made}
 use Rattle.fle_c.specs.Blocks.{blocks_in, first_blocks, handed_seen}
-use Rattle.fle_c.specs.Calls.{Tells, document_limit}
-use Rattle.fle_c.specs.Keys.{Drawn, FewBlocks, JudgesKey, KeyTold, ReadsKey, RulesKey, ShowsKey, SizedKey, Writes}
-use Rattle.fle_c.specs.Keys.{stop_told}
+use Rattle.fle_c.specs.Calls.{Tells}
+use Rattle.fle_c.specs.Keys.{Drawn, FewBlocks, KeyTold, RulesKey, ShowsKey, Writes, stop_told}
 use Rattle.fle_c.specs.Telling.{random_wanted}
 use Rattle.fle_c.specs.declared.told.Told.{Told}
 
@@ -108,13 +104,3 @@ few_blocks key_stops.Damaged few = tt
 few_blocks key_stops.Names few = tt
 few_blocks (key_stops.Undrawn wanted) few = few
 few_blocks key_stops.Memory few = tt
-
--- ---- bytes that spell a document
-
-pub key_judged : (v : Items → KeyRuling) (bytes blocks before after : List ℕ) (told : Told) (d : Items)
-    → length bytes ≤ 16777216 → document bytes ≡ Ok d → KeyTold (v d) (blocks_in blocks) before after told
-    → JudgesKey v bytes blocks before after told
-key_judged v bytes blocks before after told d few is tells =
-    let short : nat_lt document_limit (length bytes) ≡ false = grind (arith, nat_tests) in
-    subst (λ (b : Bool). SizedKey b v bytes blocks before after told) (sym short)
-    (subst (λ (read : Result Items BsonFault). ReadsKey v read blocks before after told) (sym is) tells)

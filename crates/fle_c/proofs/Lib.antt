@@ -3,6 +3,7 @@ pub mod Handed
 pub mod Judged
 pub mod Wants
 pub mod Randoms
+pub mod Replies
 pub mod Roomy
 pub mod Wanted
 pub mod KeysTold

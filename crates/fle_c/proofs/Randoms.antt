@@ -113,7 +113,7 @@ counted v c from left answers.Memory few is = tt
 
 -- ---- one value
 
-few_refusal : (o : Option Refusal) (v : Ruling) → AreFew v → AreFew (by_refusal o v)
+pub few_refusal : (o : Option Refusal) (v : Ruling) → AreFew v → AreFew (by_refusal o v)
 few_refusal (Some r) v few = tt
 few_refusal None v few = few
 

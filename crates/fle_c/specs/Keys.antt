@@ -2,20 +2,18 @@
 use Rattle.std.specs.Prelude.{◌≡◌, ◌≤◌, ◌⊎◌, ℕ, ◌-◌, ◌*◌, ◌/◌, ◌++◌, ◌∷◌, nat_lt, Bool, true, false, List, [], codes}
 use Rattle.std.specs.Prelude.{length, take, Option, Some, None, Result, Ok, Err, Vec}
 use Rattle.std.specs.Global.{Global}
-use Rattle.bson_codec.specs.Reading.{document}
-use Rattle.bson_codec.specs.declared.fault.BsonFault.{BsonFault}
 use Rattle.bson_tree.specs.Tree.{Items}
 use Rattle.encrypt_schema.specs.Commands.Reasons.{reason_code}
 use Rattle.encrypt_schema.specs.declared.command.reason.Reason.TheVariants as reasons
 use Rattle.fle_engine.specs.KeyRulings.{KeyRuling, makes_key, new_key_ruling, rewrap_ruling, stops}
-use Rattle.fle_engine.specs.declared.engine.Engine.{Engine}
 use Rattle.fle_engine.specs.declared.key_stop.KeyStop.{KeyStop}
 use Rattle.fle_engine.specs.declared.key_stop.KeyStop.TheVariants as key_stops
+use Rattle.fle_engine.specs.declared.opener.Opener.{Opener}
 use Rattle.fle_outside.specs.Blocks.{Block}
 use Rattle.fle_stream.specs.Plan.{Plan}
 use Rattle.fle_c.specs.Blocks.{blocks_in}
-use Rattle.fle_c.specs.Calls.{Tells, document_limit}
-use Rattle.fle_c.specs.Telling.{bare, fault_told, made_out, made_told, malformed, passed, random_wanted}
+use Rattle.fle_c.specs.Calls.{JudgesAs, Tells, document_limit}
+use Rattle.fle_c.specs.Telling.{bare, fault_told, made_out, made_told, random_wanted}
 use Rattle.fle_c.specs.declared.told.Told.{Told}
 
 -- the version of the library, with a 00 behind it
@@ -41,7 +39,7 @@ FewBlocks _ = Unit {0}
 abbrev pub stop_told : KeyStop → Told
 stop_told (key_stops.Faulty fault) = fault_told fault
 stop_told key_stops.Damaged = numbered 1 (reason_code reasons.KeyDamaged) 0 0
-stop_told key_stops.Names = bare 13
+stop_told key_stops.Names = bare 14
 stop_told (key_stops.Undrawn wanted) = random_wanted wanted.size (16 * wanted.draws)
 stop_told key_stops.Memory = bare 8
 
@@ -68,37 +66,27 @@ RulesKey (stops why) blocks before after told = Tells (stop_told why) before aft
 abbrev pub KeyTold : KeyRuling → List Block → List ℕ → List ℕ → Told → Type 0
 KeyTold v blocks before after told = RulesKey v blocks before after told ⊎ Tells (bare 8) before after told
 
--- bytes that spell a document are answered by what the key document comes to, and those that don't by their first fault
-abbrev pub ReadsKey : (Items → KeyRuling) → Result Items BsonFault → List ℕ → List ℕ → List ℕ → Told → Type 0
-ReadsKey v (Ok d) blocks before after told = KeyTold (v d) (blocks_in blocks) before after told
-ReadsKey v (Err fault) blocks before after told = Tells (malformed fault) before after told
-
--- the same where there aren't too many of them
-abbrev pub SizedKey : Bool → (Items → KeyRuling) → List ℕ → List ℕ → List ℕ → List ℕ → Told → Type 0
-SizedKey true v bytes blocks before after told = Tells (passed 1) before after told
-SizedKey false v bytes blocks before after told = ReadsKey v (document bytes) blocks before after told
-
--- the same of a document of at most 16,777,216 bytes
+-- the same by what a document of at most 16,777,216 bytes comes to
 abbrev pub JudgesKey : (Items → KeyRuling) → List ℕ → List ℕ → List ℕ → List ℕ → Told → Type 0
 JudgesKey v bytes blocks before after told =
-    SizedKey (nat_lt document_limit (length bytes)) v bytes blocks before after told
+    JudgesAs document_limit (λ d. KeyTold (v d) (blocks_in blocks) before after told) bytes before after told
 
--- a key document is sealed anew, from under the master key of an engine, at this time
-abbrev pub Rewraps : Engine → List ℕ → ℕ → List ℕ → List ℕ → List ℕ → List ℕ → Told → Type 0
-Rewraps e master time key blocks before after told =
-    JudgesKey (λ _. rewrap_ruling e.opener.cache.master time master key) key blocks before after told
+-- a key document is sealed anew, from under the master key of an opener, at this time
+abbrev pub Rewraps : Opener → List ℕ → ℕ → List ℕ → List ℕ → List ℕ → List ℕ → Told → Type 0
+Rewraps o master time key blocks before after told =
+    JudgesKey (λ _. rewrap_ruling o.cache.master time master key) key blocks before after told
 
--- a new key is made under the master key of an engine, at this time
-abbrev pub MakesKey : Engine → List ℕ → ℕ → List ℕ → List ℕ → List ℕ → Told → Type 0
-MakesKey e names time blocks before after told =
-    JudgesKey (new_key_ruling e.opener.cache.master time) names blocks before after told
+-- a new key is made under the master key of an opener, at this time
+abbrev pub MakesKey : Opener → List ℕ → ℕ → List ℕ → List ℕ → List ℕ → Told → Type 0
+MakesKey o names time blocks before after told =
+    JudgesKey (new_key_ruling o.cache.master time) names blocks before after told
 
--- the same of the engine in a slot; where none is open, that is told
-abbrev pub RewrapsAs : Option Engine → List ℕ → ℕ → List ℕ → List ℕ → List ℕ → List ℕ → Told → Type 0
-RewrapsAs (Some e) master time key blocks before after told = Rewraps e master time key blocks before after told
+-- a key document is sealed anew where there is a master key; where there is none, that is told as where none is open
+abbrev pub RewrapsAs : Option Opener → List ℕ → ℕ → List ℕ → List ℕ → List ℕ → List ℕ → Told → Type 0
+RewrapsAs (Some o) master time key blocks before after told = Rewraps o master time key blocks before after told
 RewrapsAs None master time key blocks before after told = Tells (bare 11) before after told
 
 -- the same of a new key
-abbrev pub MakesKeyAs : Option Engine → List ℕ → ℕ → List ℕ → List ℕ → List ℕ → Told → Type 0
-MakesKeyAs (Some e) names time blocks before after told = MakesKey e names time blocks before after told
+abbrev pub MakesKeyAs : Option Opener → List ℕ → ℕ → List ℕ → List ℕ → List ℕ → Told → Type 0
+MakesKeyAs (Some o) names time blocks before after told = MakesKey o names time blocks before after told
 MakesKeyAs None names time blocks before after told = Tells (bare 11) before after told

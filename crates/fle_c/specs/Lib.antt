@@ -4,3 +4,4 @@ pub mod Telling
 pub mod Calls
 pub mod Values
 pub mod Keys
+pub mod Filling

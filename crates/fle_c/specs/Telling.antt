@@ -1,8 +1,12 @@
 -- What a call tells its caller: statuses, reasons, places, lengths and random bytes.
 use Rattle.std.specs.Prelude.{◌≡◌, ℕ, ◌-◌, ◌*◌, ◌/◌, ◌<◌, ◌^◌, List, ◌++◌, length, drop, nat_lt, if◌then◌else◌}
+use Rattle.std.specs.Prelude.{Result, Ok, Err}
 use Rattle.bson_codec.specs.Fault.{kind_number}
 use Rattle.bson_codec.specs.declared.fault.BsonFault.{BsonFault}
 use Rattle.encrypt_schema.specs.Commands.Reasons.{reason_code}
+use Rattle.encrypt_schema.specs.declared.command.reason.Reason.{Reason}
+use Rattle.fle_client.specs.declared.client.NoAnswer.{NoAnswer}
+use Rattle.fle_client.specs.declared.client.NoAnswer.TheVariants as unanswered
 use Rattle.fle_engine.specs.declared.answer.Answer.{Answer}
 use Rattle.fle_engine.specs.declared.answer.Answer.TheVariants as answers
 use Rattle.fle_engine.specs.declared.loading.EngineFault.{EngineFault}
@@ -46,7 +50,7 @@ malformed fault = record {
   random = 0;
 }
 
--- there is no engine
+-- there is no client, or a document doesn't fill one
 abbrev pub fault_told : EngineFault → Told
 fault_told faults.Database = bare 2
 fault_told (faults.File file fault document) = record {
@@ -59,6 +63,12 @@ fault_told (faults.File file fault document) = record {
 }
 fault_told faults.Memory = bare 8
 
+-- a client has no answer to a command: it has no master key, which is told as where none is open; or it wasn't told of
+-- the command's collection
+abbrev pub unanswered_told : NoAnswer → Told
+unanswered_told unanswered.NoMaster = bare 11
+unanswered_told unanswered.NoInfo = bare 13
+
 -- an output that takes so many random bytes, for which there is this room, is told by its length, or by the length
 -- that is wanted
 abbrev pub made_told : ℕ → List ℕ → List ℕ → Told
@@ -69,17 +79,21 @@ made_told random room output =
 abbrev pub made_out : List ℕ → List ℕ → List ℕ
 made_out room output = if nat_lt (length room) (length output) then room else output ++ drop (length output) room
 
--- what is told of an answer with so many random bytes, for which there is this room
-abbrev pub answer_told : ℕ → List ℕ → Answer → Told
-answer_told random room (answers.Made output) = made_told random room output.items
-answer_told random room (answers.Refused r) = record {
+-- a document is refused, for a reason, at an offset
+abbrev pub refused_told : Reason → ℕ → Told
+refused_told reason at = record {
   status = 1;
-  reason = reason_code r.reason;
+  reason = reason_code reason;
   file = 0;
-  place = r.at;
+  place = at;
   length = 0;
   random = 0;
 }
+
+-- what is told of an answer with so many random bytes, for which there is this room
+abbrev pub answer_told : ℕ → List ℕ → Answer → Told
+answer_told random room (answers.Made output) = made_told random room output.items
+answer_told random room (answers.Refused r) = refused_told r.reason r.at
 answer_told random room answers.TooLong = passed 2
 answer_told random room (answers.Undrawn wanted) = random_wanted wanted.size random
 answer_told random room answers.Memory = bare 8
@@ -100,6 +114,11 @@ abbrev pub random_of : Answer → ℕ → ℕ → ℕ
 random_of (answers.Made output) handed left = 16 * (handed / 16 - left / 16)
 random_of (answers.Undrawn wanted) handed left = 16 * wanted.draws
 random_of _ handed left = 0
+
+-- the random bytes of what a client answers, where it does; else none
+abbrev pub reply_random : Result Answer NoAnswer → ℕ → ℕ → ℕ
+reply_random (Ok answer) handed left = random_of answer handed left
+reply_random (Err why) handed left = 0
 
 -- so many random bytes can be counted
 abbrev pub AreCounted : Answer → Type 0

@@ -1,21 +1,21 @@
-//! An engine that C keeps, by its address. The address is typed as one of bytes, so that C may be lent the struct.
+//! A client that C keeps, by its address. The address is typed as one of bytes, so that C may be lent the struct.
 
 ghost use Rattle.std.specs.Prelude.{◌≡◌, Option, Some, None, true};
 ghost use Rattle.fle_c.specs.Holding.{is_full, kept_coded};
-ghost use Rattle.fle_engine.specs.declared.engine.Engine.{Engine};
+ghost use Rattle.fle_client.specs.declared.client.Client.{Client};
 
 use crate::parts::Parts;
-use fle_engine::Engine;
+use fle_client::Client;
 use std::alloc::Global;
 use std::marker::Model;
 
-/// An engine, by its address, or none. What is owned there is said by a ghost value.
+/// A client, by its address, or none. What is owned there is said by a ghost value.
 #[repr(C)]
 #[derive(Drop)]
 pub struct Kept {
     at: *mut u8,
     alloc: Global,
-    pub ghost value: { Option Engine } by { kept_coded },
+    pub ghost value: { Option Client } by { kept_coded },
 }
 
 impl Model for Kept {
@@ -25,7 +25,7 @@ impl Model for Kept {
 }
 
 impl Kept {
-    /// No engine.
+    /// No client.
     pub(crate) fn none(alloc: Global) -> Kept
         ensures { result.value ≡ None }
     {
@@ -35,8 +35,8 @@ impl Kept {
         }
     }
 
-    /// The engine of a box that was taken apart.
-    pub(crate) fn of_parts(parts: Parts<Engine, Global>) -> Kept
+    /// The client of a box that was taken apart.
+    pub(crate) fn of_parts(parts: Parts<Client, Global>) -> Kept
         ensures { result.value ≡ Some parts.value }
     {
         let Parts { at, alloc } = parts;
@@ -46,18 +46,18 @@ impl Kept {
         }
     }
 
-    /// The box of the engine, in its parts.
-    pub(crate) fn into_parts(self) -> Parts<Engine, Global>
+    /// The box of the client, in its parts.
+    pub(crate) fn into_parts(self) -> Parts<Client, Global>
         requires { is_full self.value ≡ true }
         ensures { Some result.value ≡ self.value }
     {
         let Kept { at, alloc } = self;
         Parts {
-            at: at as *mut Engine,
+            at: at as *mut Client,
             alloc,
         }
     }
 }
 
-// What is owned at the address is an engine and its block of the heap, and any thread may own these.
+// What is owned at the address is a client and its block of the heap, and any thread may own these.
 unsafe impl Send for Kept {}

@@ -1,7 +1,9 @@
-//! One key document by one engine, from bytes to bytes; and the version.
+//! One key document by one client, from bytes to bytes; and the version.
 
 ghost use Rattle.std.specs.Prelude.{◌≡◌};
-ghost use Rattle.fle_c.specs.Keys.{FewBlocks, MakesKey, Rewraps, ShowsKey, Writes, numbered, stop_told, version};
+ghost use Rattle.fle_c.specs.Calls.{opener_of};
+ghost use Rattle.fle_c.specs.Keys.{FewBlocks, MakesKey, MakesKeyAs, Rewraps, RewrapsAs, ShowsKey, Writes, numbered};
+ghost use Rattle.fle_c.specs.Keys.{stop_told, version};
 ghost use Rattle.fle_engine.specs.KeyRulings.{WantsFew};
 
 use crate::blocks::{BLOCK, Blocks};
@@ -9,7 +11,8 @@ use crate::told::{Told, random_of, tell};
 use bson_codec::check_bson;
 use crypto_hooks::Tables;
 use encrypt_schema::Reason;
-use fle_engine::{Answer, Engine, KeyStop};
+use fle_client::{Client, Keys};
+use fle_engine::{Answer, KeyStop, Opener};
 use std::alloc::Global;
 
 /// A key document, and one of names, has at most this many bytes.
@@ -25,7 +28,7 @@ const NO_MEMORY: u32 = 8;
 const NO_ROOM: u32 = 10;
 
 /// The status of a call that hands in names which a new key can't have.
-const NO_NAMES: u32 = 13;
+const NO_NAMES: u32 = 14;
 
 /// The version, as `fle --version` tells it, with a 00 behind it.
 const VERSION: &[u8] = b"0.2.0\0";
@@ -33,15 +36,33 @@ const VERSION: &[u8] = b"0.2.0\0";
 /// Seals a key document anew, with the block in these bytes.
 pub(crate) fn rewrap_key(
     alloc: Global,
-    engine: &Engine,
+    client: &Client,
     new_master: &[u8],
     time: u64,
     key: &[u8],
     blocks: &[u8],
     out: &mut [u8],
 ) -> Told
-    ensures rewrapped { Rewraps engine.now new_master.now time key.now blocks.now out.old out.new
+    ensures rewrapped { RewrapsAs (opener_of client.now.keys) new_master.now time key.now blocks.now out.old out.new
         result }
+{
+    match &client.keys {
+        Keys::Mastered(opener) => rewrap_under(alloc, opener, new_master, time, key, blocks, out),
+        Keys::Unmastered(_) => Told::not_open(),
+    }
+}
+
+/// The same where there is a master key.
+fn rewrap_under(
+    alloc: Global,
+    opener: &Opener,
+    new_master: &[u8],
+    time: u64,
+    key: &[u8],
+    blocks: &[u8],
+    out: &mut [u8],
+) -> Told
+    ensures rewrapped { Rewraps opener.now new_master.now time key.now blocks.now out.old out.new result }
 {
     if DOCUMENT_LIMIT < key.len() {
         return Told::passed(1);
@@ -49,7 +70,6 @@ pub(crate) fn rewrap_key(
     match check_bson(key) {
         Ok(_document) => {
             let mut entropy = Blocks::new(blocks);
-            let opener = &engine.opener;
             let made = opener.rewrap_key(alloc, &Tables, new_master, time, key, &mut entropy);
             tell_key(made, blocks.len(), entropy.left(), out)
         }
@@ -60,13 +80,30 @@ pub(crate) fn rewrap_key(
 /// Makes a new key document, with the first eight blocks in these bytes.
 pub(crate) fn make_key(
     alloc: Global,
-    engine: &Engine,
+    client: &Client,
     names: &[u8],
     time: u64,
     blocks: &[u8],
     out: &mut [u8],
 ) -> Told
-    ensures made { MakesKey engine.now names.now time blocks.now out.old out.new result }
+    ensures made { MakesKeyAs (opener_of client.now.keys) names.now time blocks.now out.old out.new result }
+{
+    match &client.keys {
+        Keys::Mastered(opener) => make_under(alloc, opener, names, time, blocks, out),
+        Keys::Unmastered(_) => Told::not_open(),
+    }
+}
+
+/// The same where there is a master key.
+fn make_under(
+    alloc: Global,
+    opener: &Opener,
+    names: &[u8],
+    time: u64,
+    blocks: &[u8],
+    out: &mut [u8],
+) -> Told
+    ensures made { MakesKey opener.now names.now time blocks.now out.old out.new result }
 {
     if DOCUMENT_LIMIT < names.len() {
         return Told::passed(1);
@@ -74,7 +111,6 @@ pub(crate) fn make_key(
     match check_bson(names) {
         Ok(names) => {
             let mut entropy = Blocks::new(blocks);
-            let opener = &engine.opener;
             let made = opener.make_key(alloc, &Tables, &names, time, &mut entropy);
             tell_key(made, blocks.len(), entropy.left(), out)
         }

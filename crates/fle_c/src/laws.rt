@@ -5,7 +5,7 @@ ghost use Rattle.fle_c.specs.contracts.slot.Slot as Slots;
 
 use crate::slot::Slot;
 
-/// Any thread may own a slot, with an engine or with none: C may hand one from thread to thread.
+/// Any thread may own a slot, with a client or with none: C may hand one from thread to thread.
 pub fn slots_of_any_thread()
     ensures slot { IsSend Slots.the_row }
 {

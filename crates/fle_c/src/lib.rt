@@ -1,10 +1,14 @@
-//! Sealing and opening in process, for C: an engine is opened once in a slot, and each command or document is a call.
+//! Sealing and opening in process, for C: a client is opened, or started and filled, once in a slot, and each command
+//! or document is a call.
 //!
 //! ```text
 //! fle_slot slot = {0};
-//! fle_answer answer = fle_open(&slot, db, 2, keys, n, infos, m, master, 96);
-//! answer = fle_seal(&slot, command, size, blocks, 256, out, room);
+//! fle_answer answer = fle_start(&slot, 0, master, 96);
+//! answer = fle_put_info(&slot, db, 2, info, n);
+//! answer = fle_put_key(&slot, key, m);
+//! answer = fle_seal(&slot, db, 2, command, size, blocks, 256, out, room);
 //! if (answer.status == 7 || answer.status == 10) .. once more, with answer.random bytes and answer.length of room ..
+//! if (answer.status == 13) .. fle_info_wanted says what to ask a server for; fle_put_info; once more ..
 //! fle_close(&slot);
 //! ```
 //!
@@ -18,7 +22,7 @@ ghost use Rattle.bson_tree.specs.Tree.{Items};
 ghost use Rattle.context_machine.specs.Rings.{Finder};
 ghost use Rattle.encrypt_schema.specs.Language.Collection.{Collection};
 ghost use Rattle.fle_c.specs.Calls.{MarksAs, OpensAs, SealsAs, StaysIn, UnsealsAs, WantsAs, WantsInfoAs};
-ghost use Rattle.fle_c.specs.Calls.{WantsToOpenAs, document_limit};
+ghost use Rattle.fle_c.specs.Calls.{WantsToOpenAs, document_limit, opener_in};
 ghost use Rattle.fle_c.specs.Values.{SealsValueAs, WantsValueKeyAs};
 ghost use Rattle.fle_engine.specs.Loading.{parts_in};
 ghost use Rattle.fle_engine.specs.Rulings.{makes};
@@ -27,6 +31,8 @@ ghost use Rattle.fle_stream.specs.Plan.{Plan};
 
 mod blocks;
 mod calls;
+mod filling;
+mod filling_calls;
 mod kept;
 mod key_calls;
 mod keys;
@@ -35,6 +41,7 @@ mod need;
 mod opening;
 mod parts;
 mod slot;
+mod starting;
 mod told;
 mod values;
 
@@ -46,7 +53,8 @@ use std::alloc::Global;
 use told::Told;
 use values::{ask_for_key, seal_value};
 
-/// Opens an engine in a slot, by the bytes of three files as the program reads them; one that was there is freed first.
+/// Opens a client in a slot, of one database, by the bytes of three files as the program reads them; one that was there
+/// is freed first. It knows each collection of its database: one without an info has no rules.
 #[unsafe(no_mangle)]
 pub extern "C" fn fle_open(
     alloc: Global,
@@ -60,32 +68,34 @@ pub extern "C" fn fle_open(
 {
     let _ = slot.take(alloc);
     match open(alloc, db, keys, infos, master) {
-        Ok(engine) => {
-            slot.put(engine);
+        Ok(client) => {
+            slot.put(client);
             Told::done(0, 0)
         }
         Err(fault) => Told::fault(fault),
     }
 }
 
-/// Seals a command into `out`, with the blocks in these bytes, one for each value of the random algorithm in reading
-/// order. Where these are too few, or the room is, it tells how much of both is wanted.
+/// Seals a command that is sent to this database into `out`, with the blocks in these bytes, one for each value of the
+/// random algorithm in reading order. Where these are too few, or the room is, it tells how much of both is wanted; and
+/// with status 13 that the client wasn't told of the command's collection.
 #[unsafe(no_mangle)]
 pub extern "C" fn fle_seal(
     alloc: Global,
     slot: &mut Slot,
+    db: &[u8],
     command: &[u8],
     blocks: &[u8],
     out: &mut [u8],
 ) -> Told
     ensures stays { StaysIn slot.old.kept.value slot.new.kept.value }
-    ensures sealed { SealsAs slot.old.kept.value command.now blocks.now out.old out.new result }
+    ensures sealed { SealsAs db.now slot.old.kept.value command.now blocks.now out.old out.new result }
 {
-    let Some(mut engine) = slot.take(alloc) else {
+    let Some(mut client) = slot.take(alloc) else {
         return Told::not_open();
     };
-    let told = seal(alloc, &mut engine, command, blocks, out);
-    slot.put(engine);
+    let told = seal(alloc, &mut client, db, command, blocks, out);
+    slot.put(client);
     told
 }
 
@@ -98,19 +108,20 @@ pub extern "C" fn fle_unseal(
     out: &mut [u8],
 ) -> Told
     ensures stays { StaysIn slot.old.kept.value slot.new.kept.value }
-    ensures opened { UnsealsAs slot.old.kept.value document.now out.old out.new result }
+    ensures opened { UnsealsAs (opener_in slot.old.kept.value) document.now out.old out.new result }
     ensures room { length document.now ≤ length out.old → result.status ≡ 10 → ⊥ }
 {
-    let Some(mut engine) = slot.take(alloc) else {
+    let Some(mut client) = slot.take(alloc) else {
         return Told::not_open();
     };
-    let told = unseal(alloc, &mut engine, document, out);
-    slot.put(engine);
+    let told = unseal(alloc, &mut client, document, out);
+    slot.put(client);
     told
 }
 
-/// Writes the marking reply to a command into `out`, which is sent to this database, under the rules of the engine:
-/// neither its keys nor its master key are used.
+/// Writes the marking reply to a command into `out`, which is sent to this database, under the rules of the client:
+/// neither its keys nor its master key are used. It tells with status 13 that it wasn't told of the command's
+/// collection.
 #[unsafe(no_mangle)]
 pub extern "C" fn fle_mark(
     alloc: Global,
@@ -122,11 +133,11 @@ pub extern "C" fn fle_mark(
     ensures stays { StaysIn slot.old.kept.value slot.new.kept.value }
     ensures marked { MarksAs db.now slot.old.kept.value command.now out.old out.new result }
 {
-    let Some(engine) = slot.take(alloc) else {
+    let Some(client) = slot.take(alloc) else {
         return Told::not_open();
     };
-    let told = mark(alloc, &engine, db, command, out);
-    slot.put(engine);
+    let told = mark(alloc, &client, db, command, out);
+    slot.put(client);
     told
 }
 
@@ -143,16 +154,17 @@ pub extern "C" fn fle_info_wanted(
     ensures stays { StaysIn slot.old.kept.value slot.new.kept.value }
     ensures asked { WantsInfoAs db.now slot.old.kept.value command.now out.old out.new result }
 {
-    let Some(engine) = slot.take(alloc) else {
+    let Some(client) = slot.take(alloc) else {
         return Told::not_open();
     };
-    let told = ask_info(alloc, &engine, db, command, out);
-    slot.put(engine);
+    let told = ask_info(alloc, &client, db, command, out);
+    slot.put(client);
     told
 }
 
-/// Writes the filter of the keys into `out` that a command needs, which is sent to this database, and that the engine
-/// lacks; no byte where it lacks none. The random bytes told are those that the command wants as it is sealed.
+/// Writes the filter of the keys into `out` that a command needs, which is sent to this database, and that the client
+/// lacks; no byte where it lacks none. The random bytes told are those that the command wants as it is sealed. It tells
+/// with status 13 that the client wasn't told of the command's collection.
 #[unsafe(no_mangle)]
 pub extern "C" fn fle_keys_wanted(
     alloc: Global,
@@ -164,16 +176,16 @@ pub extern "C" fn fle_keys_wanted(
     ensures stays { StaysIn slot.old.kept.value slot.new.kept.value }
     ensures asked { WantsAs db.now slot.old.kept.value command.now out.old out.new result }
 {
-    let Some(engine) = slot.take(alloc) else {
+    let Some(client) = slot.take(alloc) else {
         return Told::not_open();
     };
-    let told = ask(alloc, &engine, db, command, out);
-    slot.put(engine);
+    let told = ask(alloc, &client, db, command, out);
+    slot.put(client);
     told
 }
 
-/// Writes the filter of the keys into `out` that a document needs which is to be opened, and that the engine lacks; no
-/// byte where it lacks none.
+/// Writes the filter of the keys into `out` that a document needs which is to be opened, and that the client lacks; no
+/// byte where it lacks none. It needs no master key.
 #[unsafe(no_mangle)]
 pub extern "C" fn fle_keys_wanted_open(
     alloc: Global,
@@ -184,16 +196,16 @@ pub extern "C" fn fle_keys_wanted_open(
     ensures stays { StaysIn slot.old.kept.value slot.new.kept.value }
     ensures asked { WantsToOpenAs slot.old.kept.value document.now out.old out.new result }
 {
-    let Some(engine) = slot.take(alloc) else {
+    let Some(client) = slot.take(alloc) else {
         return Told::not_open();
     };
-    let told = ask_to_open(alloc, &engine, document, out);
-    slot.put(engine);
+    let told = ask_to_open(alloc, client.keys.vault(), document, out);
+    slot.put(client);
     told
 }
 
-/// Writes the filter of the key into `out` that an alternate name, or an id of 16 bytes, leads to, where the engine
-/// lacks it; else no byte.
+/// Writes the filter of the key into `out` that an alternate name, or an id of 16 bytes, leads to, where the client
+/// lacks it; else no byte. It needs no master key.
 #[unsafe(no_mangle)]
 pub extern "C" fn fle_value_keys_wanted(
     alloc: Global,
@@ -205,11 +217,11 @@ pub extern "C" fn fle_value_keys_wanted(
     ensures stays { StaysIn slot.old.kept.value slot.new.kept.value }
     ensures asked { WantsValueKeyAs slot.old.kept.value named key.now out.old out.new result }
 {
-    let Some(engine) = slot.take(alloc) else {
+    let Some(client) = slot.take(alloc) else {
         return Told::not_open();
     };
-    let told = ask_for_key(alloc, &engine, named, key, out);
-    slot.put(engine);
+    let told = ask_for_key(alloc, client.keys.vault(), named, key, out);
+    slot.put(client);
     told
 }
 
@@ -227,15 +239,15 @@ pub extern "C" fn fle_seal_value(
     out: &mut [u8],
 ) -> Told
     ensures stays { StaysIn slot.old.kept.value slot.new.kept.value }
-    ensures sealed { SealsValueAs slot.old.kept.value named key.now random document.now blocks.now out.old out.new
-        result }
+    ensures sealed { SealsValueAs (opener_in slot.old.kept.value) named key.now random document.now blocks.now
+        out.old out.new result }
 {
-    let Some(mut engine) = slot.take(alloc) else {
+    let Some(mut client) = slot.take(alloc) else {
         return Told::not_open();
     };
     let told = seal_value(
         alloc,
-        &mut engine,
+        &mut client,
         named,
         key,
         random,
@@ -243,11 +255,11 @@ pub extern "C" fn fle_seal_value(
         blocks,
         out,
     );
-    slot.put(engine);
+    slot.put(client);
     told
 }
 
-/// Frees the engine of a slot, where there is one.
+/// Frees the client of a slot, where there is one.
 #[unsafe(no_mangle)]
 pub extern "C" fn fle_close(alloc: Global, slot: &mut Slot)
     ensures closed { slot.new.kept.value ≡ None }
@@ -255,7 +267,7 @@ pub extern "C" fn fle_close(alloc: Global, slot: &mut Slot)
     let _ = slot.take(alloc);
 }
 
-/// How much room and how many random bytes a command of so many bytes may want, under any engine: at most 48,000,000
+/// How much room and how many random bytes a command of so many bytes may want, under any client: at most 48,000,000
 /// bytes, and 16 for each of 666,666 values.
 #[unsafe(no_mangle)]
 pub extern "C" fn fle_needed(size: usize) -> Need

@@ -1,19 +1,19 @@
-//! A place in C's memory for an engine.
+//! A place in C's memory for a client.
 
 ghost use Rattle.std.specs.Prelude.{◌≡◌, Option, None, Some, true, false, option_map};
 ghost use Rattle.fle_c.specs.Holding.{is_full};
 
 use crate::kept::Kept;
 use crate::parts::Parts;
-use fle_engine::Engine;
+use fle_client::Client;
 use std::alloc::Global;
 use std::mem;
 
-/// An engine, or none; zeros are none.
+/// A client, or none; zeros are none.
 #[repr(C)]
 #[derive(Drop)]
 pub struct Slot {
-    /// The engine.
+    /// The client.
     pub kept: Kept,
     /// There is one.
     pub full: bool,
@@ -31,20 +31,20 @@ impl Slot {
         }
     }
 
-    /// A slot with this engine.
-    fn some(engine: Box<Engine>) -> Slot
-        ensures full { result.kept.value ≡ Some engine.value }
+    /// A slot with this client.
+    fn some(client: Box<Client>) -> Slot
+        ensures full { result.kept.value ≡ Some client.value }
     {
         Slot {
-            kept: Kept::of_parts(Parts::of(engine)),
+            kept: Kept::of_parts(Parts::of(client)),
             full: true,
         }
     }
 
-    /// Takes the engine out, where there is one.
-    pub(crate) fn take(&mut self, alloc: Global) -> Option<Box<Engine>>
+    /// Takes the client out, where there is one.
+    pub(crate) fn take(&mut self, alloc: Global) -> Option<Box<Client>>
         ensures empty { self.new.kept.value ≡ None }
-        ensures engine { option_map (λ b. b.value) result ≡ self.old.kept.value }
+        ensures client { option_map (λ b. b.value) result ≡ self.old.kept.value }
     {
         let Slot { kept, full } = mem::replace(self, Slot::none(alloc));
         if full {
@@ -54,11 +54,11 @@ impl Slot {
         }
     }
 
-    /// Puts an engine into an empty slot.
-    pub(crate) fn put(&mut self, engine: Box<Engine>)
+    /// Puts a client into an empty slot.
+    pub(crate) fn put(&mut self, client: Box<Client>)
         requires empty { self.old.kept.value ≡ None }
-        ensures full { self.new.kept.value ≡ Some engine.value }
+        ensures full { self.new.kept.value ≡ Some client.value }
     {
-        *self = Slot::some(engine);
+        *self = Slot::some(client);
     }
 }

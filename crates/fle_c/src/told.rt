@@ -1,13 +1,17 @@
 //! What a call tells its caller.
 
-ghost use Rattle.std.specs.Prelude.{◌≡◌, List, ℕ};
+ghost use Rattle.std.specs.Prelude.{◌≡◌, IfOk, List, ℕ};
+ghost use Rattle.fle_c.specs.Calls.{AreAskedFew, ShowsAsked, ShowsReply};
 ghost use Rattle.fle_c.specs.Telling.{AreCounted, Shows, answer_told, bare, done, fault_told, made_out, made_told};
-ghost use Rattle.fle_c.specs.Telling.{malformed, passed, random_of, random_wanted, room_wanted, sized};
+ghost use Rattle.fle_c.specs.Telling.{malformed, passed, random_of, random_wanted, refused_told, reply_random};
+ghost use Rattle.fle_c.specs.Telling.{room_wanted, sized, unanswered_told};
 ghost use Rattle.fle_engine.specs.declared.answer.Answer.TheVariants as answers;
 
 use crate::blocks::BLOCK;
 use bson_codec::BsonFault;
-use fle_engine::{Answer, EngineFault, Refused};
+use encrypt_schema::Reason;
+use fle_client::NoAnswer;
+use fle_engine::{Answer, Asked, EngineFault, Refused};
 
 /// The status of a command for which fewer blocks were handed in than it draws.
 const NO_BLOCKS: u32 = 7;
@@ -15,11 +19,17 @@ const NO_BLOCKS: u32 = 7;
 /// The status of a document whose answer has less room than it wants.
 const NO_ROOM: u32 = 10;
 
-/// The status of a call at a slot that no engine is in.
+/// The status of a call at a slot that no client is in, or one without the master key that it needs.
 const NOT_OPEN: u32 = 11;
 
 /// The status of a call that names a key by an id without 16 bytes.
 const NO_ID: u32 = 12;
+
+/// The status of a command of whose collection the client wasn't told.
+const NO_INFO: u32 = 13;
+
+/// The status of a call with a flag that has no meaning.
+const NO_FLAG: u32 = 15;
 
 /// What a call tells its caller: numbers of the program's line, the length of an output, and its random bytes.
 #[repr(C)]
@@ -82,7 +92,7 @@ impl Told {
         Told::sized(NO_BLOCKS, length, random)
     }
 
-    /// No engine is in the slot.
+    /// No client is in the slot, or it has no master key.
     pub(crate) fn not_open() -> Told
         ensures told { result ≡ bare 11 }
     {
@@ -94,6 +104,30 @@ impl Told {
         ensures told { result ≡ bare 12 }
     {
         Told::bare(NO_ID)
+    }
+
+    /// A flag is set that has no meaning.
+    pub(crate) fn no_flag() -> Told
+        ensures told { result ≡ bare 15 }
+    {
+        Told::bare(NO_FLAG)
+    }
+
+    /// A client has no answer to a command.
+    fn unanswered(why: NoAnswer) -> Told
+        ensures told { result ≡ unanswered_told why }
+    {
+        match why {
+            NoAnswer::NoMaster => Told::not_open(),
+            NoAnswer::NoInfo => Told::bare(NO_INFO),
+        }
+    }
+
+    /// There was no memory.
+    pub(crate) fn no_memory() -> Told
+        ensures told { result ≡ bare 8 }
+    {
+        Told::bare(8)
     }
 
     /// An output of so many bytes, which wants so many random bytes, has too little room.
@@ -131,7 +165,7 @@ impl Told {
         }
     }
 
-    /// There is no engine for this fault.
+    /// There is no client for this fault, or a document doesn't fill one.
     pub(crate) fn fault(fault: EngineFault) -> Told
         ensures told { result ≡ fault_told fault }
     {
@@ -157,11 +191,18 @@ impl Told {
     fn refused(refused: &Refused) -> Told
         ensures told { (random : ℕ) (room : List ℕ) → result ≡ answer_told random room (answers.Refused refused.now) }
     {
+        Told::refused_at(refused.reason, refused.at)
+    }
+
+    /// A document is refused, for a reason, at an offset.
+    pub(crate) fn refused_at(reason: Reason, at: u32) -> Told
+        ensures told { result ≡ refused_told reason at }
+    {
         Told {
             status: 1,
-            reason: refused.reason.code() as u32,
+            reason: reason.code() as u32,
             file: 0,
-            place: refused.at as usize,
+            place: at as usize,
             length: 0,
             random: 0,
         }
@@ -178,6 +219,38 @@ pub(crate) fn tell(answer: &Answer, random: usize, out: &mut [u8]) -> Told
         Answer::TooLong => Told::passed(2),
         Answer::Undrawn(wanted) => Told::random_wanted(wanted.size, random),
         Answer::Memory => Told::bare(8),
+    }
+}
+
+/// What a client answers, with so many random bytes; or that it has no answer, and then nothing is written.
+pub(crate) fn tell_reply(reply: &Result<Answer, NoAnswer>, random: usize, out: &mut [u8]) -> Told
+    ensures shows { ShowsReply random reply.now out.old out.new result }
+{
+    match reply {
+        Ok(answer) => tell(answer, random, out),
+        Err(why) => Told::unanswered(*why),
+    }
+}
+
+/// The keys that a client asks for, with the random bytes that the command wants; or that it has no answer.
+pub(crate) fn tell_asked(asked: &Result<Asked, NoAnswer>, out: &mut [u8]) -> Told
+    requires few { AreAskedFew asked.now }
+    ensures shows { ShowsAsked asked.now out.old out.new result }
+{
+    match asked {
+        Ok(asked) => tell(&asked.answer, BLOCK * asked.draws, out),
+        Err(why) => Told::unanswered(*why),
+    }
+}
+
+/// The random bytes of what a client answers, as of an answer, where it does; else none.
+pub(crate) fn reply_random(reply: &Result<Answer, NoAnswer>, handed: usize, left: usize) -> usize
+    requires counted { IfOk reply.now AreCounted }
+    ensures random { result ≡ reply_random reply.now handed left }
+{
+    match reply {
+        Ok(answer) => random_of(answer, handed, left),
+        Err(_) => 0,
     }
 }
 

@@ -1,8 +1,7 @@
-//! One value sealed by one engine, under a key that is named.
+//! One value sealed by one client, under a key that is named.
 
-ghost use Rattle.fle_c.specs.Blocks.{handed_seen};
-ghost use Rattle.fle_c.specs.Calls.{JudgesAs, SameEngine, document_limit, valuing_of};
-ghost use Rattle.fle_c.specs.Values.{ByKey, SealsUnder, WantsKey, algorithm_of};
+ghost use Rattle.fle_c.specs.Calls.{SameClient, opener_of};
+ghost use Rattle.fle_c.specs.Values.{ByKey, SealsUnder, SealsValueAs, WantsKey, algorithm_of};
 ghost use Rattle.payload6.specs.Needs.{need_seen};
 ghost use Rattle.std.specs.Prelude.{◌≡◌};
 
@@ -12,7 +11,9 @@ use bson_codec::check_bson;
 use context_machine::Need;
 use crypto_hooks::Tables;
 use encrypt_schema::Algorithm;
-use fle_engine::Engine;
+use fle_client::{Client, Keys};
+use fle_engine::{Opener, ask_for_key as ask_by_key};
+use key_vault::Vault;
 use std::alloc::Global;
 
 /// A document has at most this many bytes.
@@ -21,7 +22,7 @@ const DOCUMENT_LIMIT: usize = 16_777_216;
 /// Seals the value of a document of one element, under the key of an alternate name or of an id.
 pub(crate) fn seal_value(
     alloc: Global,
-    engine: &mut Engine,
+    client: &mut Client,
     named: bool,
     key: &[u8],
     random: bool,
@@ -29,18 +30,41 @@ pub(crate) fn seal_value(
     blocks: &[u8],
     out: &mut [u8],
 ) -> Told
-    ensures same { SameEngine engine.old engine.new }
-    ensures sealed { ByKey (SealsUnder engine.old (algorithm_of random) document.now blocks.now out.old out.new result)
-        named key.now out.old out.new result }
+    ensures same { SameClient client.old client.new }
+    ensures sealed { SealsValueAs (opener_of client.old.keys) named key.now random document.now blocks.now out.old
+        out.new result }
 {
     let algorithm = algorithm_of(random);
+    match &mut client.keys {
+        Keys::Mastered(opener) => seal_by(
+            alloc, opener, named, key, algorithm, document, blocks, out,
+        ),
+        Keys::Unmastered(_) => Told::not_open(),
+    }
+}
+
+/// The same under keys with their master key, by this algorithm.
+fn seal_by(
+    alloc: Global,
+    opener: &mut Opener,
+    named: bool,
+    key: &[u8],
+    algorithm: Algorithm,
+    document: &[u8],
+    blocks: &[u8],
+    out: &mut [u8],
+) -> Told
+    ensures same { (opener.new.keys ≡ opener.old.keys) × (opener.new.cache.master ≡ opener.old.cache.master) }
+    ensures sealed { ByKey (SealsUnder opener.old algorithm document.now blocks.now out.old out.new result)
+        named key.now out.old out.new result }
+{
     if named {
         let need = Need::Name(key);
-        return seal_under(alloc, engine, need, algorithm, document, blocks, out);
+        return seal_under(alloc, opener, need, algorithm, document, blocks, out);
     }
     if key.len() == BLOCK {
         let need = Need::Id(as_block(key));
-        return seal_under(alloc, engine, need, algorithm, document, blocks, out);
+        return seal_under(alloc, opener, need, algorithm, document, blocks, out);
     }
     Told::no_id()
 }
@@ -59,23 +83,22 @@ fn algorithm_of(random: bool) -> Algorithm
 /// Seals the value of a document of one element, under the key that this leads to.
 fn seal_under(
     alloc: Global,
-    engine: &mut Engine,
+    opener: &mut Opener,
     need: Need<'_>,
     algorithm: Algorithm,
     document: &[u8],
     blocks: &[u8],
     out: &mut [u8],
 ) -> Told
-    ensures same { SameEngine engine.old engine.new }
-    ensures sealed { JudgesAs document_limit (valuing_of engine.old (need_seen need.entry) algorithm) document.now
-        (handed_seen blocks.now 0) out.old out.new result }
+    ensures same { (opener.new.keys ≡ opener.old.keys) × (opener.new.cache.master ≡ opener.old.cache.master) }
+    ensures sealed { SealsUnder opener.old algorithm document.now blocks.now out.old out.new result
+        (need_seen need.entry) }
 {
     if DOCUMENT_LIMIT < document.len() {
         return Told::passed(1);
     }
     match check_bson(document) {
         Ok(document) => {
-            let opener = &mut engine.opener;
             let mut entropy = Blocks::new(blocks);
             let answer = opener.seal_value(
                 alloc,
@@ -92,30 +115,30 @@ fn seal_under(
     }
 }
 
-/// The key of a value, where the engine lacks it.
+/// The key of a value, where it isn't among these.
 pub(crate) fn ask_for_key(
     alloc: Global,
-    engine: &Engine,
+    keys: &Vault,
     named: bool,
     key: &[u8],
     out: &mut [u8],
 ) -> Told
-    ensures asked { ByKey (WantsKey engine.now out.old out.new result) named key.now out.old out.new result }
+    ensures asked { ByKey (WantsKey keys.now out.old out.new result) named key.now out.old out.new result }
 {
     if named {
-        return ask_under(alloc, engine, Need::Name(key), out);
+        return ask_under(alloc, keys, Need::Name(key), out);
     }
     if key.len() == BLOCK {
         let need = Need::Id(as_block(key));
-        return ask_under(alloc, engine, need, out);
+        return ask_under(alloc, keys, need, out);
     }
     Told::no_id()
 }
 
-/// The key that this leads to, where the engine lacks it.
-fn ask_under(alloc: Global, engine: &Engine, need: Need<'_>, out: &mut [u8]) -> Told
-    ensures asked { WantsKey engine.now out.old out.new result (need_seen need.entry) }
+/// The key that this leads to, where it isn't among these.
+fn ask_under(alloc: Global, keys: &Vault, need: Need<'_>, out: &mut [u8]) -> Told
+    ensures asked { WantsKey keys.now out.old out.new result (need_seen need.entry) }
 {
-    let answer = engine.opener.key_wanted(alloc, need);
+    let answer = ask_by_key(alloc, keys, need);
     tell(&answer, 0, out)
 }

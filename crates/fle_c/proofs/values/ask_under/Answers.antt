@@ -1,4 +1,4 @@
--- What an opener answers is told.
+-- What a vault is asked for is told.
 use Rattle.std.proofs.Common.{[]}
 use Rattle.bson_tree.specs.Tree.{no_items}
 use Rattle.fle_c.specs.Blocks.{handed_seen}
@@ -9,9 +9,9 @@ returns c =
     let none = handed_seen [] 0 in
     record {
       asked = record {
-        answer = c.key_wanted-answer.result;
+        answer = c.ask_for_key-answer.result;
         left = none;
-        is = c.key_wanted-answer.ensures.answers no_items none;
+        is = c.ask_for_key-answer.ensures.answers no_items none;
         shown = c.tell.ensures.shows;
       };
     }

@@ -1,12 +1,13 @@
 -- What an opener answers is told, with the block that the value takes.
 use Rattle.std.proofs.Common.{◌≡◌, ◌∙◌, ℕ, ap, length, subst}
+use Rattle.bson_tree.specs.Tree.{Items}
 use Rattle.context_machine.specs.Rings.{finder}
 use Rattle.fle_outside.specs.Seen.{EntropySeen}
 use Rattle.payload6.specs.Needs.{need_seen}
 use Rattle.fle_engine.specs.Answers.{AnswerIs}
 use Rattle.fle_engine.specs.Explicit.{value_ruling}
 use Rattle.fle_c.specs.Blocks.{handed_seen}
-use Rattle.fle_c.specs.Calls.{document_limit, valuing_of}
+use Rattle.fle_c.specs.Calls.{AnswersAs, document_limit, valuing_of}
 use Rattle.fle_c.specs.Telling.{Shows, random_of}
 use Rattle.fle_c.proofs.Judged.{judged}
 use Rattle.fle_c.proofs.Randoms.{counted, shown, value_few}
@@ -14,7 +15,7 @@ use Rattle.fle_c.proofs.values.seal_under.Goals as goal
 
 pub random_of-random-requires : goal.random_of-random-requires
 random_of-random-requires c =
-    let opener = c.args.engine.now.opener in
+    let opener = c.args.opener.now in
     let keys = finder opener.keys opener.cache.master in
     let need = need_seen c.args.need in
     let tree = c.in-Ok.document.tree in
@@ -25,7 +26,7 @@ random_of-random-requires c =
 
 pub returns-in-Ok-clause-sealed : goal.returns-in-Ok-clause-sealed
 returns-in-Ok-clause-sealed c =
-    let opener = c.args.engine.now.opener in
+    let opener = c.args.opener.now in
     let keys = finder opener.keys opener.cache.master in
     let need = need_seen c.args.need in
     let tree = c.in-Ok.document.tree in
@@ -38,8 +39,10 @@ returns-in-Ok-clause-sealed c =
     c.seal_value-answer.ensures.answers in
     let random : c.random_of-random.result ≡ random_of answer (length blocks) (length bytes) =
     c.random_of-random.ensures.random ∙ ap (random_of answer (length blocks)) c.left.ensures.left in
-    judged document_limit (valuing_of c.args.engine.now need c.args.algorithm) c.args.document.now
-    (handed_seen blocks 0) c.args.out.now c.tell.new.out c.tell.result tree c.if-document-gt-DOCUMENT_LIMIT.false
+    judged document_limit
+    (λ (d : Items). AnswersAs (valuing_of opener need c.args.algorithm d) d (handed_seen blocks 0) c.args.out.now
+    c.tell.new.out c.tell.result)
+    c.args.document.now c.args.out.now c.tell.new.out c.tell.result tree c.if-document-gt-DOCUMENT_LIMIT.false
     c.in-Ok.ensures.exact
     (record {
       answer = answer;

@@ -1,18 +1,22 @@
 -- What an opener answers is told, and has room where the document has.
 use Rattle.std.proofs.Common.{[], ap, arith, length}
 use Rattle.bson_tree.specs.Spelling.{doc_bytes}
+use Rattle.bson_tree.specs.Tree.{Items}
 use Rattle.fle_outside.specs.Limits.{output_limit}
 use Rattle.fle_c.specs.Blocks.{handed_seen}
-use Rattle.fle_c.specs.Calls.{opening_of}
+use Rattle.fle_c.specs.Calls.{AnswersAs, opening_of}
 use Rattle.fle_c.proofs.Judged.{judged}
 use Rattle.fle_c.proofs.Roomy.{roomy}
-use Rattle.fle_c.proofs.calls.unseal.Goals as goal
+use Rattle.fle_c.proofs.calls.unseal_under.Goals as goal
 
 pub returns-in-Ok-clause-opened : goal.returns-in-Ok-clause-opened
 returns-in-Ok-clause-opened c =
     let none = handed_seen [] 0 in
-    judged output_limit (opening_of c.args.engine.now) c.args.document.now none c.args.out.now c.tell.new.out
-    c.tell.result c.in-Ok.document.tree c.if-document-gt-OPENED_LIMIT.false c.in-Ok.ensures.exact
+    let out = c.args.out.now in
+    judged output_limit
+    (λ (d : Items). AnswersAs (opening_of c.args.opener.now d) d none out c.tell.new.out c.tell.result)
+    c.args.document.now out c.tell.new.out c.tell.result c.in-Ok.document.tree c.if-document-gt-OPENED_LIMIT.false
+    c.in-Ok.ensures.exact
     (record {
       answer = c.open-answer.result;
       left = none;
