@@ -7,9 +7,14 @@ NOTHING = b"\xa5"  # what stands at `out` before a call
 LETTERS = {"fle_open": b"o", "fle_seal": b"s", "fle_unseal": b"u", "fle_mark": b"m", "fle_keys_wanted": b"k",
            "fle_keys_wanted_open": b"d", "fle_info_wanted": b"i",
            "fle_seal_value": b"v", "fle_value_keys_wanted": b"w",
-           "fle_rewrap_key": b"r", "fle_make_key": b"g", "fle_version": b"z"}
+           "fle_rewrap_key": b"r", "fle_make_key": b"g", "fle_version": b"z",
+           "fle_start": b"b", "fle_put_info": b"p", "fle_forget_info": b"f", "fle_forget_infos": b"x",
+           "fle_put_key": b"q", "fle_forget_keys": b"y"}
 VALUES = "fle_seal_value", "fle_value_keys_wanted"
-TIMED = "fle_rewrap_key", "fle_make_key"  # their second argument is a time, of eight bytes
+# Arguments that are numbers, of eight bytes here: by the call and the place among its arguments.
+NUMBERS = {("fle_rewrap_key", 1): ctypes.c_int64, ("fle_make_key", 1): ctypes.c_int64,
+           ("fle_start", 0): ctypes.c_uint32}
+DONE = 0, 0, 0, 0, 0, 0
 
 
 class Slot(ctypes.Structure):
@@ -46,8 +51,8 @@ class Library:
             if name in VALUES and number == 0:  # two flags: by a name, random
                 words.append(ctypes.c_bool(argument[0]))
                 continue
-            if name in TIMED and number == 1:
-                words.append(ctypes.c_int64(int.from_bytes(argument, "little", signed=True)))
+            if (name, number) in NUMBERS:
+                words.append(NUMBERS[name, number](int.from_bytes(argument, "little", signed=True)))
                 continue
             words += [argument, ctypes.c_size_t(len(argument))]
             if name == "fle_seal_value" and number == 1:

@@ -9,7 +9,7 @@ from reference.reading import documents_of
 from reference.reasons import Reason
 from reference.vault import id_of, new_key, rewrapped
 
-MALFORMED, SETUP, ENTROPY, LIMIT, ROOM, CLOSED, NO_NAMES = 3, 4, 7, 9, 10, 11, 13
+MALFORMED, SETUP, ENTROPY, LIMIT, ROOM, CLOSED, NO_NAMES = 3, 4, 7, 9, 10, 11, 14
 LONGEST = 16_777_216  # bytes of a document
 NAMES = 1_000, 15_999_840  # the most names of a new key, and the most bytes of them
 ID, MATERIAL = (BINARY, "_id", binary(UUID, bytes(16))), (BINARY, "keyMaterial", binary(0, bytes(160)))

@@ -1,7 +1,7 @@
 """Rounds of calls of the library of contrib/c, whose answers the second program of reference/ knows."""
 import random
 
-from library_calls import expect, refusal
+from library_calls import DONE, expect, refusal
 from library_keys import keys_at_the_limits, keys_without_engine, make_keys, rewrap_keys
 from reference.asks import collection_filter, key_filter, needed
 from reference.bson import DOCUMENT, binary, spell, words_of
@@ -21,18 +21,27 @@ with open("examples/people.schemas.bson", "rb") as infos:
 PING = spell([(16, "ping", b"\1\0\0\0")])
 NEVER, UNCOMPARED = (6, 10, 127, 255), (1, 3, 4, 8, 15, 19)  # types that aren't sealed, and not deterministically
 MALFORMED, ENTROPY, LIMIT, ROOM, CLOSED = 3, 7, 9, 10, 11
-SENT = "fle_mark", "fle_info_wanted", "fle_keys_wanted"  # the calls for a command that is sent to a database
 OPENING = "fle_unseal", "fle_keys_wanted_open"
+TELLING = [("fle_put_info", [b"hr", PEOPLE]), ("fle_forget_info", [b"hr", b"people"]), ("fle_forget_infos", []),
+           ("fle_put_key", [PEOPLE]), ("fle_forget_keys", [])]
+
+
+def sent(db, command):
+    """Each call that takes a command that is sent to a database."""
+    return [("fle_seal", [db, command, b""]),
+            *((name, [db, command]) for name in ("fle_mark", "fle_info_wanted", "fle_keys_wanted"))]
 
 
 def calls_with(document):
     """Each call that takes a document, with this one."""
-    return [("fle_seal", [document, b""]), *((name, [b"hr", document]) for name in SENT),
-            *((name, [document]) for name in OPENING), ("fle_seal_value", [bytes(2), bytes(16), document, b""])]
+    return [*sent(b"hr", document), *((name, [document]) for name in OPENING),
+            ("fle_seal_value", [bytes(2), bytes(16), document, b""])]
 
 
 class Round:
     """One round: an engine, its commands and documents."""
+
+    db = "hr"
 
     def __init__(self, chance, library):
         self.chance, self.library = chance, library
@@ -45,7 +54,7 @@ class Round:
     def run(self):
         self.without_engine("before it is open")
         for what in ("open", "open at a full slot"):
-            expect(self.library.call("fle_open", [b"hr", *self.files]), (0, 0, 0, 0, 0, 0), b"", 0, what)
+            expect(self.library.call("fle_open", [b"hr", *self.files]), DONE, b"", 0, what)
         for _ in range(6):
             self.try_command(some_command(self.chance, self.infos))
         for _ in range(4):
@@ -58,7 +67,7 @@ class Round:
 
     def try_command(self, command):
         self.ask(command)
-        refused = judge(self.infos, command, "hr")
+        refused = judge(self.infos, command, self.db)
         if refused:
             self.refuse(command, refused)
         else:
@@ -67,15 +76,18 @@ class Round:
     def without_engine(self, when):
         for name, arguments in [*calls_with(PING), ("fle_value_keys_wanted", [bytes(2), bytes(16)])]:
             expect(self.library.call(name, arguments, 64), (CLOSED, 0, 0, 0, 0, 0), b"", 64, f"{name} {when}")
+        for name, arguments in TELLING:
+            expect(self.library.call(name, arguments), (CLOSED, 0, 0, 0, 0, 0), b"", 0, f"{name} {when}")
         keys_without_engine(self.library)
 
     def refuse(self, command, refused):
         self.reasons.append(refused[1])
-        came = self.library.call("fle_seal", [spell(command), bytes(16)], 64)
+        db = self.db.encode()
+        came = self.library.call("fle_seal", [db, spell(command), bytes(16)], 64)
         expect(came, refusal(command, refused), b"", 64, "a command that is refused")
-        if judge(self.infos, command, "hr"):
+        if judge(self.infos, command, self.db):
             for name in ("fle_mark", "fle_keys_wanted"):
-                expect(self.library.call(name, [b"hr", spell(command)], 64), refusal(command, refused), b"", 64,
+                expect(self.library.call(name, [db, spell(command)], 64), refusal(command, refused), b"", 64,
                        f"{name} of a command that is refused")
 
     def made(self, name, arguments, wanted, random_, what):
@@ -87,13 +99,13 @@ class Round:
 
     def ask(self, command):
         """The filter of the info that a command needs, or the refusal of a field by itself."""
-        bytes_, refused = spell(command), judge_fields({}, command, "hr")
+        words, refused = [self.db.encode(), spell(command)], judge_fields({}, command, self.db)
         if refused:
-            expect(self.library.call("fle_info_wanted", [b"hr", bytes_], 64), refusal(command, refused), b"", 64,
+            expect(self.library.call("fle_info_wanted", words, 64), refusal(command, refused), b"", 64,
                    "the info of a command whose fields are refused")
         else:
             wanted = b"" if command[0][1] in PASSING else collection_filter(words_of(command[0][2]))
-            self.made("fle_info_wanted", [b"hr", bytes_], wanted, 0, "the info of a command")
+            self.made("fle_info_wanted", words, wanted, 0, "the info of a command")
 
     def lacking(self, ids, names):
         """The filter of those of some keys that the vault lacks."""
@@ -103,16 +115,21 @@ class Round:
 
     def tell(self, command):
         """The reply to a command that isn't refused by itself, and the keys that it lacks; another database's is."""
-        marks, bytes_ = marks_of(self.infos, command), spell(command)
+        marks, words = marks_of(self.infos, command), [self.db.encode(), spell(command)]
         random_ = 16 * sum(algorithm == "R" for algorithm, _ in marks.values())
-        self.made("fle_mark", [b"hr", bytes_], reply(self.infos, command), 0, "a reply")
-        self.made("fle_keys_wanted", [b"hr", bytes_], self.lacking(*needed(marks)), random_, "the keys of a command")
-        for name in SENT:
-            expect(self.library.call(name, [self.chance.choice((b"", b"h", b"hrx", b"HR")), bytes_], 64),
-                   (1, 3, 0, 0, 0, 0), b"", 64, f"{name} of another database's command")
+        self.made("fle_mark", words, reply(self.infos, command), 0, "a reply")
+        self.made("fle_keys_wanted", words, self.lacking(*needed(marks)), random_, "the keys of a command")
+        self.send_elsewhere(command)
+
+    def send_elsewhere(self, command):
+        """Another database's command is refused."""
+        other = self.chance.choice((b"", self.db[:-1].encode(), self.db.encode() + b"x", self.db.upper().encode()))
+        for name, arguments in sent(other, spell(command)):
+            expect(self.library.call(name, arguments, 64), (1, 3, 0, 0, 0, 0), b"", 64,
+                   f"{name} of another database's command")
 
     def seal(self, command):
-        bytes_ = spell(command)
+        db, bytes_ = self.db.encode(), spell(command)
         self.tell(command)
         need = self.library.needed(len(bytes_))
         blocks = self.chance.randbytes(need.random)
@@ -125,14 +142,14 @@ class Round:
             raise AssertionError(f"fle_needed says {need.room} bytes of room; wanted are {len(wanted)}")
         call, sizes = self.library.call, (len(wanted), drawn)
         done, room = (0, 0, 0, 0, *sizes), (ROOM, 0, 0, 0, *sizes)
-        expect(call("fle_seal", [bytes_, blocks], len(wanted) + 3), done, wanted, len(wanted) + 3, "a command")
-        expect(call("fle_seal", [bytes_, blocks], len(wanted) - 1), room, b"", len(wanted) - 1, "a byte of room short")
+        expect(call("fle_seal", [db, bytes_, blocks], len(wanted) + 3), done, wanted, len(wanted) + 3, "a command")
+        expect(call("fle_seal", [db, bytes_, blocks], len(wanted) - 1), room, b"", len(wanted) - 1, "a byte too few")
         if drawn:
             few = self.chance.choice((0, self.chance.randrange(drawn), drawn - 1))
             short = self.chance.choice((0, len(wanted)))
-            expect(call("fle_seal", [bytes_, blocks[:few]], short), (ENTROPY, 0, 0, 0, *sizes), b"", short,
+            expect(call("fle_seal", [db, bytes_, blocks[:few]], short), (ENTROPY, 0, 0, 0, *sizes), b"", short,
                    "random bytes too few, and room perhaps")
-        expect(call("fle_seal", [bytes_, blocks[:drawn]], len(wanted)), done, wanted, len(wanted), "just enough")
+        expect(call("fle_seal", [db, bytes_, blocks[:drawn]], len(wanted)), done, wanted, len(wanted), "just enough")
         self.spoil(bytes_)
         self.unseal(documents_of(wanted)[0][0])
 
@@ -219,7 +236,9 @@ class Deepest(Round):
             self.infos = read_infos([info])
             for infos in (spell(info), f"[{as_json(DOCUMENT, info)}]".encode()):
                 opened = self.library.call("fle_open", [b"hr", self.keys, infos, self.master])
-                expect(opened, (0, 0, 0, 0, 0, 0), b"", 0, "open, of a schema at the limit")
+                expect(opened, DONE, b"", 0, "open, of a schema at the limit")
+                put = self.library.call("fle_put_info", [b"hr", spell(info)])
+                expect(put, DONE, b"", 0, "the same schema put in its own place")
                 for command in deep_commands():
                     self.try_command(command)
         for _ in range(16):  # under either algorithm, by ids and by names
@@ -230,7 +249,7 @@ def at_the_limits(library):
     """A command above 16,777,216 bytes, documents that are opened up to 48,000,000, what fle_needed says of any length,
     key documents, and what opens no engine."""
     call = library.call
-    expect(call("fle_open", [b"hr", b"", PEOPLE, bytes(96)]), (0, 0, 0, 0, 0, 0), b"", 0, "open")
+    expect(call("fle_open", [b"hr", b"", PEOPLE, bytes(96)]), DONE, b"", 0, "open")
     one, two = spell([(16, "v", bytes(4))]), spell([(16, "v", bytes(4)), (16, "w", bytes(4))])
     expect(call("fle_seal_value", [bytes(2), bytes(15), one, b""], 16), (12, 0, 0, 0, 0, 0), b"", 16, "an id of 15")
     expect(call("fle_value_keys_wanted", [bytes(2), bytes(17)], 16), (12, 0, 0, 0, 0, 0), b"", 16, "an id of 17")
@@ -253,4 +272,4 @@ def at_the_limits(library):
     for db in (b"", b"x" * 64):
         expect(call("fle_open", [db, b"", PEOPLE, bytes(96)]), (2, 0, 0, 0, 0, 0), b"", 0, "a database's name")
     expect(call("fle_open", [b"hr", b"", PEOPLE, bytes(130)]), (4, 2, 3, 0, 0, 0), b"", 0, "a master key too long")
-    expect(call("fle_seal", [spell([]), b""], 16), (CLOSED, 0, 0, 0, 0, 0), b"", 16, "behind a failed fle_open")
+    expect(call("fle_seal", [b"hr", spell([]), b""], 16), (CLOSED, 0, 0, 0, 0, 0), b"", 16, "behind a failed fle_open")

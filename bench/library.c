@@ -73,7 +73,8 @@ static void seal_in(fle_slot *slot) {
     size_t random = FEW, size = 2 * command.size + SPARE;
     for (bool again = false;; again = true) {
         if (getrandom(blocks, random, 0) != (ssize_t)random) die("no random bytes");
-        fle_answer answer = fle_seal(slot, command.at, command.size, blocks, random, out.at, size);
+        fle_answer answer = fle_seal(slot, (const uint8_t *)db, strlen(db), command.at, command.size, blocks, random,
+                                     out.at, size);
         bool more = answer.status == FLE_ENTROPY || answer.status == FLE_NO_ROOM;
         if (!more || again) {
             out.size = done(answer);

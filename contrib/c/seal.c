@@ -63,11 +63,11 @@ static size_t done(fle_answer answer) {
 }
 
 /* A command sealed: by a call with few random bytes, or else by a second one, with what the first says it wants. */
-static bytes seal(fle_slot *slot, bytes command) {
+static bytes seal(fle_slot *slot, bytes db, bytes command) {
     size_t random = FEW, size = 2 * command.size + SPARE;
     for (bool again = false;; again = true) {
         uint8_t *blocks = random_bytes(random), *out = room(size);
-        fle_answer answer = fle_seal(slot, command.at, command.size, blocks, random, out, size);
+        fle_answer answer = fle_seal(slot, db.at, db.size, command.at, command.size, blocks, random, out, size);
         free(blocks);
         bool more = answer.status == FLE_ENTROPY || answer.status == FLE_NO_ROOM;
         if (again || !more) return (bytes){out, done(answer)};
@@ -83,13 +83,13 @@ static void write_all(const uint8_t *at, size_t size) {
 
 int main(int argc, char **argv) {
     if (argc != 5) return WORDS;
+    bytes db = {(uint8_t *)argv[1], strlen(argv[1])};
     bytes keys = read_all(fopen(argv[2], "rb")), infos = read_all(fopen(argv[3], "rb"));
     bytes master = read_all(fopen(argv[4], "rb")), command = read_all(stdin);
 
     fle_slot slot = FLE_SLOT;
-    done(fle_open(&slot, (const uint8_t *)argv[1], strlen(argv[1]), keys.at, keys.size, infos.at, infos.size, master.at,
-                  master.size));
-    bytes sealed = seal(&slot, command);
+    done(fle_open(&slot, db.at, db.size, keys.at, keys.size, infos.at, infos.size, master.at, master.size));
+    bytes sealed = seal(&slot, db, command);
     uint8_t *opened = room(sealed.size);
     size_t again = done(fle_unseal(&slot, sealed.at, sealed.size, opened, sealed.size));
     fle_close(&slot);

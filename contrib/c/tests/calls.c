@@ -2,12 +2,15 @@
  *
  * A call is a letter and its arguments; an argument of bytes is a length of eight bytes, the lowest first, and so many
  * bytes; room is a length alone.
- *   o db keys infos master    s command blocks room    u document room    c    n size
+ *   o db keys infos master    b flags master (fle_start)    c    n size
+ *   p db info    f db name    x (forget all infos)    q key    y (forget all keys)
+ *   s db command blocks room    u document room
  *   m db command room    k db command room    d document room (the keys of a document)    i db command room
  *   v how key document blocks room    w how key room: how is two bytes, by a name (1) or by an id, random (1) or not
- *   r master time key blocks room    g names time blocks room: time is eight bytes, the lowest first
+ *   r master time key blocks room    g names time blocks room
  *   z room (the version)
- * Behind each but c: six numbers of eight bytes (for n two), and as many bytes as there was room, A5 before the call.
+ * flags and time are eight bytes, the lowest first. Behind each but c: six numbers of eight bytes (for n two), and as
+ * many bytes as there was room, A5 before the call.
  *
  * With a number of slots each call is made on so many at once, on each by a thread of its own, which ends before the
  * next call: so a slot is opened by one thread, sealed under by another, and closed by a third. All have to answer
@@ -69,22 +72,43 @@ static void tell(fle_answer answer, bytes out) {
     if (out.size) fwrite(out.at, 1, out.size, stdout);
 }
 
-/* The time that an argument of eight bytes states. */
-static int64_t time_of(bytes in) {
+/* The number that an argument of eight bytes states. */
+static uint64_t number_of(bytes in) {
     uint64_t n = 0;
     for (size_t i = in.size; i-- > 0;) n = n << 8 | in.at[i];
-    return (int64_t)n;
+    return n;
+}
+
+/* Makes a call that begins or ends an engine, or tells it of infos and keys: one without room. */
+static void make_without_room(turn *t) {
+    const bytes *in = t->in;
+    if (t->letter == 'o') {
+        t->answer =
+            fle_open(&t->slot, in[0].at, in[0].size, in[1].at, in[1].size, in[2].at, in[2].size, in[3].at, in[3].size);
+    } else if (t->letter == 'b') {
+        t->answer = fle_start(&t->slot, (uint32_t)number_of(in[0]), in[1].at, in[1].size);
+    } else if (t->letter == 'p') {
+        t->answer = fle_put_info(&t->slot, in[0].at, in[0].size, in[1].at, in[1].size);
+    } else if (t->letter == 'f') {
+        t->answer = fle_forget_info(&t->slot, in[0].at, in[0].size, in[1].at, in[1].size);
+    } else if (t->letter == 'x') {
+        t->answer = fle_forget_infos(&t->slot);
+    } else if (t->letter == 'q') {
+        t->answer = fle_put_key(&t->slot, in[0].at, in[0].size);
+    } else if (t->letter == 'y') {
+        t->answer = fle_forget_keys(&t->slot);
+    } else {
+        fle_close(&t->slot);
+    }
 }
 
 /* Makes a call, on whichever thread. */
 static void *make(void *of) {
     turn *t = of;
     const bytes *in = t->in, out = t->out;
-    if (t->letter == 'o') {
+    if (t->letter == 's') {
         t->answer =
-            fle_open(&t->slot, in[0].at, in[0].size, in[1].at, in[1].size, in[2].at, in[2].size, in[3].at, in[3].size);
-    } else if (t->letter == 's') {
-        t->answer = fle_seal(&t->slot, in[0].at, in[0].size, in[1].at, in[1].size, out.at, out.size);
+            fle_seal(&t->slot, in[0].at, in[0].size, in[1].at, in[1].size, in[2].at, in[2].size, out.at, out.size);
     } else if (t->letter == 'u') {
         t->answer = fle_unseal(&t->slot, in[0].at, in[0].size, out.at, out.size);
     } else if (t->letter == 'm') {
@@ -97,11 +121,11 @@ static void *make(void *of) {
     } else if (t->letter == 'w') {
         t->answer = fle_value_keys_wanted(&t->slot, in[0].at[0], in[1].at, in[1].size, out.at, out.size);
     } else if (t->letter == 'r') {
-        t->answer = fle_rewrap_key(&t->slot, in[0].at, in[0].size, time_of(in[1]), in[2].at, in[2].size, in[3].at,
-                                   in[3].size, out.at, out.size);
+        t->answer = fle_rewrap_key(&t->slot, in[0].at, in[0].size, (int64_t)number_of(in[1]), in[2].at, in[2].size,
+                                   in[3].at, in[3].size, out.at, out.size);
     } else if (t->letter == 'g') {
-        t->answer = fle_make_key(&t->slot, in[0].at, in[0].size, time_of(in[1]), in[2].at, in[2].size, out.at,
-                                 out.size);
+        t->answer = fle_make_key(&t->slot, in[0].at, in[0].size, (int64_t)number_of(in[1]), in[2].at, in[2].size,
+                                 out.at, out.size);
     } else if (t->letter == 'z') {
         t->answer = fle_version(out.at, out.size);
     } else if (t->letter == 'i') {
@@ -109,7 +133,7 @@ static void *make(void *of) {
     } else if (t->letter == 'd') {
         t->answer = fle_keys_wanted_open(&t->slot, in[0].at, in[0].size, out.at, out.size);
     } else {
-        fle_close(&t->slot);
+        make_without_room(t);
     }
     return NULL;
 }
@@ -139,9 +163,14 @@ static bool alike(const turn *a, const turn *b) {
 
 /* How many arguments of bytes a call has. */
 static int arguments_of(int letter) {
-    if (letter == 'o' || letter == 'v' || letter == 'r') return 4;
-    if (letter == 'g') return 3;
-    return letter == 'c' || letter == 'z' ? 0 : letter == 'u' || letter == 'd' ? 1 : 2;
+    if (strchr("ovr", letter)) return 4;
+    if (strchr("sg", letter)) return 3;
+    if (strchr("udq", letter)) return 1;
+    return strchr("cxyz", letter) ? 0 : 2;
+}
+
+static bool has_room(int letter) {
+    return !strchr("obpfxqyc", letter);
 }
 
 /* Reads a call's arguments, makes it on each slot, and tells the first one's answer, which is that of all. */
@@ -149,7 +178,7 @@ static void run(turn *turns, size_t slots, bool threads, int letter) {
     const int arguments = arguments_of(letter);
     bytes in[4];
     for (int i = 0; i < arguments; i++) in[i] = argument();
-    const size_t size = letter == 'o' || letter == 'c' ? 0 : number();
+    const size_t size = has_room(letter) ? number() : 0;
     for (size_t i = 0; i < slots; i++) {
         turns[i].letter = letter, turns[i].in = in, turns[i].out = room(size);
         memset(&turns[i].answer, 0, sizeof turns[i].answer);
