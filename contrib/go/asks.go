@@ -5,10 +5,9 @@ import "C"
 
 // Mark gives the marking reply to a command that is sent to this database, as mongocryptd answers: whether its schema
 // needs encryption, whether it has values to be sealed, and the command with a marking in the place of each. It uses
-// the rules alone: an engine without keys serves, under any master key.
+// the rules alone: an engine without keys serves, and without a master key.
 //
-// An [Error] has status [Refused], [Malformed], [Limit], [Memory] or [NotOpen]; with reason WrongDb the database isn't
-// that of the engine.
+// An [Error] has status [Refused], [Malformed], [Limit], [Memory], [NotOpen] or [NoInfo], as of [Engine.Seal].
 func (engine *Engine) Mark(db string, command []byte) ([]byte, error) {
 	name, command := []byte(db), append([]byte(nil), command...)
 	answer, reply := engine.write(roomFor(command), func(out []byte) C.fle_answer {
@@ -21,9 +20,9 @@ func (engine *Engine) Mark(db string, command []byte) ([]byte, error) {
 }
 
 // InfoWanted gives the filter of the collection's infos that a command needs which is sent to this database,
-// {name: collection}, for a listCollections; nil where the command passes.
+// {name: collection}, for a listCollections, whether the engine has them or not; nil where the command passes.
 //
-// An [Error] is as of [Engine.Mark], for a field of the command by itself.
+// An [Error] is as of [Engine.Mark], for a field of the command by itself, and never [NoInfo].
 func (engine *Engine) InfoWanted(db string, command []byte) ([]byte, error) {
 	name, command := []byte(db), append([]byte(nil), command...)
 	filter, _, err := engine.ask(command, func(out []byte) C.fle_answer {

@@ -181,7 +181,7 @@ func TestInfoWanted(t *testing.T) {
 func TestRefusalsAreThoseOfSeal(t *testing.T) {
 	for _, one := range refused {
 		engine, command := opened(t, one.infos), file(t, "refused/"+one.file+".bson")
-		_, sealing := engine.Seal(command)
+		_, sealing := engine.Seal("hr", command)
 		reply, marking := engine.Mark("hr", command)
 		filter, random, asking := engine.KeysWanted("hr", command)
 		if one.reason == "KeyMissing" {
@@ -207,6 +207,8 @@ func TestACommandOfAnotherDatabase(t *testing.T) {
 		expect(t, refusal(t, filter, err), Refused, "WrongDb", "")
 		filter, _, err = engine.KeysWanted(db, command)
 		expect(t, refusal(t, filter, err), Refused, "WrongDb", "")
+		bytesOf, err := engine.Seal(db, command)
+		expect(t, refusal(t, bytesOf, err), Refused, "WrongDb", "")
 	}
 }
 

@@ -5,9 +5,10 @@
 // key. Then each command is a call of [Engine.Seal] before it is sent, each reply a call of [Engine.Unseal]. What isn't
 // sealed or opened as asked comes to an [Error], and to no bytes.
 //
-// Who asks servers for infos and keys has the filters from [Engine.InfoWanted], [Engine.KeysWanted] and
-// [Engine.KeysWantedToOpen]; [Engine.Mark] answers as a marking service does. [Engine.SealValue] seals one value under
-// a key that is named, whatever the rules: explicit encryption.
+// Who asks servers for infos and keys begins with [Start] instead, has the filters from [Engine.InfoWanted],
+// [Engine.KeysWanted] and [Engine.KeysWantedToOpen], and hands in what came by [Engine.PutInfo] and [Engine.PutKey].
+// [Engine.Mark] answers as a marking service does. [Engine.SealValue] seals one value under a key that is named,
+// whatever the rules: explicit encryption.
 //
 // Which values are sealed, and the bytes that come out, the library says, which is proved; this package carries bytes
 // to it and back, and is tested. Like the library it wipes no memory.
@@ -34,9 +35,9 @@ const (
 	longest = 48_000_000
 )
 
-// Engine seals and opens under one database, vault, set of rules and master key. Goroutines may call at once: they take
-// turns, since the library takes one call at a time; for calls side by side open several. An engine isn't copied. That
-// of the zero value is closed.
+// Engine seals and opens under keys, rules and a master key: of one database by [Open], of any number by [Start].
+// Goroutines may call at once: they take turns, since the library takes one call at a time; for calls side by side open
+// several. An engine isn't copied. That of the zero value is closed.
 type Engine struct {
 	turn sync.Mutex
 	slot C.fle_slot
@@ -51,6 +52,11 @@ func Open(db string, keys, infos, master []byte) (*Engine, error) {
 	engine, name := new(Engine), []byte(db)
 	answer := C.fle_open(&engine.slot, at(name), size(name), at(keys), size(keys), at(infos), size(infos),
 		at(master), size(master))
+	return begun(engine, answer)
+}
+
+// begun is an engine that was opened, or started, where it was.
+func begun(engine *Engine, answer C.fle_answer) (*Engine, error) {
 	if answer.status != C.FLE_DONE {
 		return nil, ended(answer, nil)
 	}
@@ -58,14 +64,17 @@ func Open(db string, keys, infos, master []byte) (*Engine, error) {
 	return engine, nil
 }
 
-// Seal gives a command with each protected value sealed, or the command as it is where no rule protects one. It copies
-// the command first, so that what is judged is what is sealed, and draws random bytes from crypto/rand.
+// Seal gives a command that is sent to this database with each protected value sealed, or the command as it is where no
+// rule protects one. It copies the command first, so that what is judged is what is sealed, and draws random bytes from
+// crypto/rand.
 //
-// An [Error] has status [Refused], [Malformed], [Limit], [EntropyFault], [Memory] or [NotOpen].
-func (engine *Engine) Seal(command []byte) ([]byte, error) {
-	command = append([]byte(nil), command...)
+// An [Error] has status [Refused], [Malformed], [Limit], [EntropyFault], [Memory], [NotOpen] or [NoInfo]; with reason
+// WrongDb and no fields the database isn't the one that the engine was opened for.
+func (engine *Engine) Seal(db string, command []byte) ([]byte, error) {
+	name, command := []byte(db), append([]byte(nil), command...)
 	return engine.draw(few, roomFor(command), command, func(blocks, out []byte) C.fle_answer {
-		return C.fle_seal(&engine.slot, at(command), size(command), at(blocks), size(blocks), at(out), size(out))
+		return C.fle_seal(&engine.slot, at(name), size(name), at(command), size(command),
+			at(blocks), size(blocks), at(out), size(out))
 	})
 }
 
@@ -148,13 +157,10 @@ func least(one, other int) int {
 	return other
 }
 
-// nothing is where no bytes stand: the library takes any address but NULL.
-var nothing [1]byte
-
-// at is where bytes stand.
+// at is where bytes stand: NULL where there are none.
 func at(bytes []byte) *C.uint8_t {
 	if len(bytes) == 0 {
-		return (*C.uint8_t)(&nothing[0])
+		return nil
 	}
 	return (*C.uint8_t)(&bytes[0])
 }

@@ -42,11 +42,16 @@ func opened(t testing.TB, infos string) *Engine {
 // sealed is a command sealed by an engine, which has to take it.
 func sealed(t testing.TB, engine *Engine, command []byte) []byte {
 	t.Helper()
-	bytes, err := engine.Seal(command)
+	bytes, err := engine.Seal("hr", command)
 	if err != nil {
 		t.Fatal(err)
 	}
 	return bytes
+}
+
+// sealing is what seals commands for hr by an engine.
+func sealing(engine *Engine) func([]byte) ([]byte, error) {
+	return func(command []byte) ([]byte, error) { return engine.Seal("hr", command) }
 }
 
 // comesBack fails where a command isn't sealed and opened again to the same bytes; it gives the sealed ones.
@@ -157,7 +162,7 @@ func TestLargeDocuments(t *testing.T) {
 	for _, tried := range []struct {
 		call func([]byte) ([]byte, error)
 		text int
-	}{{engine.Seal, 1 << 24}, {engine.Unseal, longest}} {
+	}{{sealing(engine), 1 << 24}, {engine.Unseal, longest}} {
 		bytesOf, err := tried.call(insert(document(text("n", string(make([]byte, tried.text))))))
 		if told := refusal(t, bytesOf, err); told.Status != Limit || told.Reason != "Document" {
 			t.Error(told)
@@ -176,7 +181,7 @@ func TestACommandIsNotWrittenTo(t *testing.T) {
 // calls are all that an engine answers with bytes, each made of a document.
 func calls(engine *Engine) []func([]byte) ([]byte, error) {
 	return []func([]byte) ([]byte, error){
-		engine.Seal, engine.Unseal, engine.KeysWantedToOpen,
+		sealing(engine), engine.Unseal, engine.KeysWantedToOpen,
 		func(command []byte) ([]byte, error) { return engine.Mark("hr", command) },
 		func(command []byte) ([]byte, error) { return engine.InfoWanted("hr", command) },
 		func(command []byte) ([]byte, error) {
@@ -218,7 +223,7 @@ func TestWithoutRandomBytesNothingIsSealed(t *testing.T) {
 	engine, before := opened(t, "people.schemas.bson"), rand.Reader
 	defer func() { rand.Reader = before }()
 	rand.Reader = failing{}
-	bytesOf, err := engine.Seal(file(t, "insert.bson"))
+	bytesOf, err := engine.Seal("hr", file(t, "insert.bson"))
 	if told := refusal(t, bytesOf, err); told.Status != EntropyFault || !errors.Is(err, os.ErrDeadlineExceeded) {
 		t.Error(told)
 	}
@@ -233,7 +238,7 @@ func TestGoroutinesTakeTurns(t *testing.T) {
 		go func(command []byte) {
 			defer all.Done()
 			for turn := 0; turn < 50; turn++ {
-				bytesOf, err := engine.Seal(command)
+				bytesOf, err := engine.Seal("hr", command)
 				if err != nil {
 					t.Error(err)
 				}
@@ -278,7 +283,7 @@ func TestCloseBesideCalls(t *testing.T) {
 		go func() {
 			defer all.Done()
 			for {
-				bytesOf, err := engine.Seal(command)
+				bytesOf, err := engine.Seal("hr", command)
 				if err == nil && bytes.Equal(bytesOf, wanted) {
 					continue
 				}

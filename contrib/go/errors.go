@@ -15,10 +15,12 @@ const (
 	Setup        Status = 4  // keys, infos or master are too long or at fault
 	EntropyFault Status = 7  // no random bytes could be had
 	Memory       Status = 8  // no memory could be had
-	Limit        Status = 9  // a command above 16,777,216 bytes; one to be opened, or a sealed form, above 48,000,000
-	NotOpen      Status = 11 // the engine was closed, or never opened
+	Limit        Status = 9  // a command, info or key above 16,777,216 bytes; a reply or a sealed form above 48,000,000
+	NotOpen      Status = 11 // the engine was closed, or never opened; or has no master key, which the call wants
 	NoId         Status = 12 // a key is named by an id that hasn't 16 bytes
-	NoNames      Status = 13 // a new key can't have the names that are handed in
+	NoInfo       Status = 13 // the engine wasn't told of the command's collection
+	NoNames      Status = 14 // a new key can't have the names that are handed in
+	Flags        Status = 15 // the library doesn't know the flags; none are handed in here
 )
 
 // String is the name of the status.
@@ -26,7 +28,8 @@ func (status Status) String() string {
 	return nameOf(uint32(status), "status", "call")
 }
 
-// files are what Open takes, as the library numbers them from 1, and the tables that have their faults.
+// files are what Open takes, or a document of each, as the library numbers them from 1, and the tables that have their
+// faults.
 var files = []struct {
 	name   string
 	tables []string
@@ -105,6 +108,8 @@ func (told *Error) Error() string {
 		return fmt.Sprintf("fle: %v: %s", told.Status, told.Reason)
 	case NoId:
 		return fmt.Sprintf("fle: %v: the id of a key has 16 bytes", told.Status)
+	case NoInfo:
+		return fmt.Sprintf("fle: %v: the engine wasn't told of the collection", told.Status)
 	case NoNames:
 		return fmt.Sprintf("fle: %v: a new key can't have these names", told.Status)
 	case Words:

@@ -20,7 +20,7 @@ func Example() {
 		return
 	}
 	defer engine.Close()
-	sealed, err := engine.Seal(command) // send these bytes
+	sealed, err := engine.Seal("hr", command) // send these bytes
 	fmt.Println(len(command), len(sealed), err)
 	opened, err := engine.Unseal(sealed)
 	fmt.Println(string(opened) == string(command), err)
@@ -41,7 +41,7 @@ func ExampleError() {
 		return
 	}
 	defer engine.Close()
-	_, err = engine.Seal(command)
+	_, err = engine.Seal("hr", command)
 	if told := (*fle.Error)(nil); errors.As(err, &told) {
 		fmt.Println(told.Status, told.Reason, told.Fields, told.Place)
 	}
@@ -62,9 +62,36 @@ func ExampleEngine_KeysWanted() {
 		return
 	}
 	defer engine.Close()
-	filter, random, err := engine.KeysWanted("hr", command) // find by this in the key vault, open an engine with what came
+	filter, random, err := engine.KeysWanted("hr", command) // find by this in the key vault, put what comes
 	fmt.Println(len(filter), random, err)
 	// Output: 103 0 <nil>
+}
+
+func ExampleStart() {
+	keys, _ := os.ReadFile("../../examples/keys.bson")
+	info, _ := os.ReadFile("../../examples/people.schemas.bson")
+	master, _ := os.ReadFile("../../examples/EXAMPLE-ONLY.master")
+	command, _ := os.ReadFile("../../examples/insert.bson")
+
+	engine, err := fle.Start(master)
+	if err != nil {
+		fmt.Println(err)
+		return
+	}
+	defer engine.Close()
+	_, err = engine.Seal("hr", command)
+	fmt.Println(err)
+	filter, err := engine.InfoWanted("hr", command) // for a listCollections of hr
+	fmt.Println(len(filter), err, engine.PutInfo("hr", info))
+	filter, _, err = engine.KeysWanted("hr", command) // for a find in the key vault
+	fmt.Println(len(filter), err, engine.PutKey(keys[:331]))
+	sealed, err := engine.Seal("hr", command)
+	fmt.Println(len(command), len(sealed), err)
+	// Output:
+	// fle: NoInfo: the engine wasn't told of the collection
+	// 22 <nil> <nil>
+	// 103 <nil> <nil>
+	// 88 175 <nil>
 }
 
 func ExampleEngine_SealValue() {

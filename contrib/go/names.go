@@ -21,7 +21,9 @@ var names = map[string]map[uint32]string{
 		10: "NoRoom",
 		11: "NotOpen",
 		12: "NoId",
-		13: "NoNames",
+		13: "NoInfo",
+		14: "NoNames",
+		15: "Flags",
 		// end
 	},
 	"reason": {

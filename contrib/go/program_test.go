@@ -126,7 +126,7 @@ func TestTheProgramOpensValues(t *testing.T) {
 func TestRefusalsAreTheProgramsOwn(t *testing.T) {
 	for _, one := range refused {
 		name := "refused/" + one.file + ".bson"
-		bytesOf, err := opened(t, one.infos).Seal(file(t, name))
+		bytesOf, err := opened(t, one.infos).Seal("hr", file(t, name))
 		told := refusal(t, bytesOf, err)
 		_, line := program(t, file(t, name), "encrypt", "hr", "keys.bson", one.infos, "EXAMPLE-ONLY.master")
 		var place string

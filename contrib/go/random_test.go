@@ -39,7 +39,7 @@ func TestFrontsAreShort(t *testing.T) {
 		command := file(t, name)
 		for _, whole := range [][]byte{command, sealed(t, engine, command)} {
 			for cut := 0; cut < len(whole); cut++ {
-				for _, call := range []func([]byte) ([]byte, error){engine.Seal, engine.Unseal} {
+				for _, call := range []func([]byte) ([]byte, error){sealing(engine), engine.Unseal} {
 					bytesOf, err := call(whole[:cut])
 					told := refusal(t, bytesOf, err)
 					if told.Status != Malformed || told.Reason != "Short" || told.Place != cut {
@@ -53,7 +53,7 @@ func TestFrontsAreShort(t *testing.T) {
 
 func TestBytesBehindADocument(t *testing.T) {
 	engine, command := opened(t, "people.schemas.bson"), file(t, "insert.bson")
-	for _, call := range []func([]byte) ([]byte, error){engine.Seal, engine.Unseal} {
+	for _, call := range []func([]byte) ([]byte, error){sealing(engine), engine.Unseal} {
 		bytesOf, err := call(append(command[:len(command):len(command)], 0))
 		if told := refusal(t, bytesOf, err); told.Reason != "Extra" || told.Place != len(command) {
 			t.Error(told)
@@ -80,7 +80,7 @@ func TestFlippedCommands(t *testing.T) {
 	}
 	comeBack := func(number uint8, at uint16, bit uint8) bool {
 		spoiled, _ := flipped(commands[int(number)%len(commands)], at, bit)
-		bytesOf, err := engine.Seal(spoiled)
+		bytesOf, err := engine.Seal("hr", spoiled)
 		if err != nil {
 			isTold(t, bytesOf, err)
 			return true
@@ -136,7 +136,7 @@ func FuzzCalls(f *testing.F) {
 		if err != nil {
 			isTold(t, plain, err)
 		}
-		command, failed := engine.Seal(bytesOf)
+		command, failed := engine.Seal("hr", bytesOf)
 		if failed != nil {
 			isTold(t, command, failed)
 		} else if err == nil && bytes.Equal(plain, bytesOf) {

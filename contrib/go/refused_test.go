@@ -50,7 +50,7 @@ func words(fields string) []string {
 
 func TestRefusedCommands(t *testing.T) {
 	for _, one := range refused {
-		bytesOf, err := opened(t, one.infos).Seal(file(t, "refused/"+one.file+".bson"))
+		bytesOf, err := opened(t, one.infos).Seal("hr", file(t, "refused/"+one.file+".bson"))
 		expect(t, refusal(t, bytesOf, err), Refused, one.reason, one.fields)
 	}
 }
@@ -72,7 +72,7 @@ func TestRefusedPayloads(t *testing.T) {
 func TestARefusalLeavesTheEngine(t *testing.T) {
 	engine, command := opened(t, "people.schemas.bson"), file(t, "insert.bson")
 	before := sealed(t, engine, command)
-	_, err := engine.Seal(file(t, "refused/null-value.bson"))
+	_, err := engine.Seal("hr", file(t, "refused/null-value.bson"))
 	if err == nil || !bytes.Equal(sealed(t, engine, command), before) {
 		t.Error("behind a refusal a command is sealed otherwise")
 	}
@@ -93,6 +93,8 @@ func TestMessages(t *testing.T) {
 		{Error{Status: Words}, "Words: the name of the database has no byte, or more than 63"},
 		{Error{Status: NotOpen}, "NotOpen"},
 		{Error{Status: NoId}, "NoId: the id of a key has 16 bytes"},
+		{Error{Status: NoInfo}, "NoInfo: the engine wasn't told of the collection"},
+		{Error{Status: Flags}, "Flags"},
 		{Error{Status: 99}, "number 99"},
 	} {
 		if said := one.told.Error(); said != "fle: "+one.said {
@@ -121,7 +123,7 @@ func TestWrongKeys(t *testing.T) {
 			t.Fatal(err)
 		}
 		defer engine.Close()
-		nothing, err := engine.Seal(command)
+		nothing, err := engine.Seal("hr", command)
 		expect(t, refusal(t, nothing, err), Refused, reason, "documents 0 ssn")
 		nothing, err = engine.Unseal(bytesOf)
 		expect(t, refusal(t, nothing, err), Refused, reason, "documents 0 ssn")

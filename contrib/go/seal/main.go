@@ -44,7 +44,7 @@ func main() {
 	engine, err := fle.Open(os.Args[1], files[0], files[1], files[2])
 	want(err, 1)
 	defer engine.Close()
-	sealed, err := engine.Seal(command)
+	sealed, err := engine.Seal(os.Args[1], command)
 	want(err, 1)
 	opened, err := engine.Unseal(sealed)
 	want(err, 1)
