@@ -2,6 +2,7 @@ package mark
 
 import (
 	"bytes"
+	"errors"
 	"os"
 	"sync"
 	"testing"
@@ -69,6 +70,25 @@ func TestMarksOfExamples(t *testing.T) {
 	if !isOK(fields) || mock.Number(mock.Field(fields, "hasEncryptionPlaceholders")) != 0 ||
 		mock.Number(mock.Field(fields, "schemaRequiresEncryption")) != 0 {
 		t.Error(fields)
+	}
+}
+
+// Without rules of its own collection a command isn't marked, and not taken for one without rules.
+func TestRulesOfAnotherCollection(t *testing.T) {
+	command, err := os.ReadFile("../../examples/insert.bson")
+	if err != nil {
+		t.Fatal(err)
+	}
+	for _, infos := range [][]byte{nil, bson.Wrap(bson.AppendText(nil, "name", "staff"))} {
+		engine, err := open("hr", infos)
+		if err != nil {
+			t.Fatal(err)
+		}
+		reply, err := engine.Mark("hr", command)
+		if told := (*fle.Error)(nil); !errors.As(err, &told) || told.Status != fle.NoInfo || reply != nil {
+			t.Errorf("%d bytes, %v", len(reply), err)
+		}
+		engine.Close()
 	}
 }
 

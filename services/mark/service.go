@@ -47,9 +47,13 @@ func New(log *journal.Log) *Service {
 	return service
 }
 
-// open opens an engine by rules alone: without keys it marks under any master key.
+// open starts an engine by rules alone, which marks no command for another collection than that of these infos, or for
+// any where there are none.
 func open(db string, infos []byte) (Engine, error) {
-	engine, err := fle.Open(db, nil, infos, make([]byte, 96))
+	engine, err := fle.Start(nil)
+	if err == nil && infos != nil {
+		err = engine.PutInfo(db, infos)
+	}
 	if err != nil {
 		return nil, err
 	}

@@ -67,7 +67,7 @@ func (session *session) sendMsg(message wire.Message) (*request, error) {
 func judged(rules Rules, read command, msg wire.Msg) (wire.Msg, error) {
 	if read.isJudged(rules) {
 		database := rules[read.db]
-		whole, err := sealed(database.engine(), msg)
+		whole, err := sealed(database.engine(), read.db, msg)
 		if err != nil {
 			return whole, err
 		}

@@ -89,7 +89,10 @@ type fake struct {
 	seal func([]byte) ([]byte, error)
 }
 
-func (engine fake) Seal(command []byte) ([]byte, error) {
+func (engine fake) Seal(db string, command []byte) ([]byte, error) {
+	if db != "hr" {
+		return nil, &fle.Error{Status: fle.Refused, Reason: "WrongDb", Number: 3}
+	}
 	if engine.seal != nil {
 		return engine.seal(command)
 	}

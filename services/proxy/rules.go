@@ -12,7 +12,7 @@ import (
 
 // Engine is what seals commands and opens replies: a *fle.Engine. Goroutines may call one at once.
 type Engine interface {
-	Seal(command []byte) ([]byte, error)
+	Seal(db string, command []byte) ([]byte, error)
 	Unseal(document []byte) ([]byte, error)
 }
 

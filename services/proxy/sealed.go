@@ -19,16 +19,16 @@ var (
 	errForm      = errors.New("Unsupported: a command that was sealed beside its documents")
 )
 
-// sealed seals a message: its body; or its document sequence, as the array that it stands for, in portions beside the
-// body, which has to come back as it was.
-func sealed(engine Engine, msg wire.Msg) (wire.Msg, error) {
+// sealed seals a message that is sent to a database: its body; or its document sequence, as the array that it stands
+// for, in portions beside the body, which has to come back as it was.
+func sealed(engine Engine, db string, msg wire.Msg) (wire.Msg, error) {
 	switch len(msg.Sequences) {
 	case 0:
-		body, err := engine.Seal(msg.Body)
+		body, err := engine.Seal(db, msg.Body)
 		msg.Body = body
 		return msg, err
 	case 1:
-		documents, err := sealedSequence(engine, msg.Body, msg.Sequences[0])
+		documents, err := sealedSequence(engine, db, msg.Body, msg.Sequences[0])
 		msg.Sequences = []wire.Sequence{{Name: msg.Sequences[0].Name, Documents: documents}}
 		return msg, err
 	}
@@ -36,14 +36,15 @@ func sealed(engine Engine, msg wire.Msg) (wire.Msg, error) {
 }
 
 // sealedSequence seals all documents of a sequence. One without any is sealed too, so that the library sees the body.
-func sealedSequence(engine Engine, body []byte, sequence wire.Sequence) ([]byte, error) {
+func sealedSequence(engine Engine, db string, body []byte, sequence wire.Sequence) ([]byte, error) {
 	var behind []byte
 	for done := 0; ; {
 		array, count, left, err := sequence.Array(portion)
 		if err != nil {
 			return nil, err
 		}
-		whole, err := engine.Seal(bson.Wrap(body[4:len(body)-1], bson.Append(nil, bson.Array, sequence.Name, array)))
+		last := bson.Append(nil, bson.Array, sequence.Name, array)
+		whole, err := engine.Seal(db, bson.Wrap(body[4:len(body)-1], last))
 		if err != nil {
 			return nil, numbered(err, sequence.Name, done)
 		}

@@ -38,7 +38,7 @@ func TestPortions(t *testing.T) {
 			return bytes.ReplaceAll(command, []byte(secret), []byte("sealed")), nil
 		}}
 		msg := inserts(one.count, one.length)
-		whole, err := sealed(engine, msg)
+		whole, err := sealed(engine, "hr", msg)
 		if err != nil || calls != one.calls || longest > portion+one.length+200 {
 			t.Fatalf("%d calls, the longest of %d bytes, %v", calls, longest, err)
 		}
@@ -69,7 +69,7 @@ func TestFormsThatAreNotSent(t *testing.T) {
 		"no array":           bytes.ReplaceAll(whole, []byte("\x04documents"), []byte("\x03documents")),
 		"an item of another": bytes.Replace(whole, []byte("\x031\x00"), []byte("\x041\x00"), 1),
 	} {
-		sent, err := sealed(fake{func([]byte) ([]byte, error) { return back, nil }}, msg)
+		sent, err := sealed(fake{func([]byte) ([]byte, error) { return back, nil }}, "hr", msg)
 		if !errors.Is(err, errForm) || len(sent.Sequences[0].Documents) > 0 {
 			t.Errorf("%s: %v", why, err)
 		}

@@ -23,7 +23,9 @@ class Call(enum.IntEnum):
     NoRoom = 10
     NotOpen = 11
     NoId = 12
-    NoNames = 13
+    NoInfo = 13
+    NoNames = 14
+    Flags = 15
 
 
 class Slot(ctypes.Structure):
@@ -42,7 +44,7 @@ class Answer(ctypes.Structure):
 SLOT = ctypes.POINTER(Slot)
 BYTES = ctypes.c_char_p, ctypes.c_size_t
 # What each call answers, and what it takes: with an argument too few it isn't called.
-FORMS = {"fle_open": (Answer, (SLOT, *BYTES * 4)), "fle_seal": (Answer, (SLOT, *BYTES * 3)),
+FORMS = {"fle_open": (Answer, (SLOT, *BYTES * 4)), "fle_seal": (Answer, (SLOT, *BYTES * 4)),
          "fle_unseal": (Answer, (SLOT, *BYTES * 2)), "fle_close": (None, (SLOT,))}
 
 # The same of those that library_keys.py makes: flags and a time stand between their bytes.
@@ -90,8 +92,8 @@ class Engine:
     """Engines of one database and one set of files: one in each thread that calls; a slot takes a call at a time."""
 
     def __init__(self, calls: ctypes.CDLL, db: str, files: Sequence[str], contents: Sequence[bytes]) -> None:
-        self._calls, self._files, self._own = calls, list(files), threading.local()
-        self._arguments: Optional[Tuple[bytes, ...]] = (db.encode(), *contents)
+        self._calls, self._db, self._files, self._own = calls, db.encode(), list(files), threading.local()
+        self._arguments: Optional[Tuple[bytes, ...]] = (self._db, *contents)
         self._opened()
 
     def _opened(self) -> Opened:
@@ -109,7 +111,7 @@ class Engine:
         return opened
 
     def seal(self, command: Bytes) -> bytes:
-        """A command, sealed with random bytes of the system."""
+        """A command that is sent to this database, sealed with random bytes of the system."""
         return self._answer(self._calls.fle_seal, bytes(command), True, FEW)
 
     def unseal(self, document: Bytes) -> bytes:
@@ -122,7 +124,7 @@ class Engine:
         room, again = 2 * len(document) + SPARE, False
         while True:
             out = ctypes.create_string_buffer(room)
-            arguments = [document, os.urandom(random)] if draws else [document]
+            arguments = [self._db, document, os.urandom(random)] if draws else [document]
             answer = self._opened().call(call, arguments, out)
             if answer.status == 0:
                 return out.raw[:answer.length]

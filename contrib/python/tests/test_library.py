@@ -161,6 +161,13 @@ class Handed(unittest.TestCase):
                     self.assertEqual(fle.decrypt(sealed), command)
                     self.assertEqual(drawn.call_count, len(wanted))
 
+    def test_the_database_is_handed_in(self):
+        with Fle(*FILES) as fle:
+            fle._sealing._engine._db = b"pay"
+            with self.assertRaises(Refused) as refused:
+                fle.encrypt(COMMAND)
+            self.assertEqual((refused.exception.reason, refused.exception.place), (Reason.WrongDb, ()))
+
     def test_more_room_than_the_first(self):
         command = insert(*(spelled(string("ssn", str(number))) for number in range(400)))
         with Fle(*FILES) as fle:
