@@ -18,6 +18,8 @@ pub mod Silence
 pub mod Apart
 pub mod TwoWorlds
 pub mod MoreWorlds
+pub mod MoreFields
+pub mod Settled
 pub mod ByPlace
 pub mod ShownPlaces
 pub mod EqualOffences

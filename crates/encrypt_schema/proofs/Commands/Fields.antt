@@ -18,8 +18,10 @@ use Rattle.encrypt_schema.specs.Paths.Dotted.{split, is_dollar}
 use Rattle.encrypt_schema.specs.declared.command.listed.FieldKind.{FieldKind}
 use Rattle.encrypt_schema.specs.declared.command.listed.FieldKind.TheVariants as kinds
 use Rattle.encrypt_schema.specs.declared.command.listed.Listed.TheVariants as lists
-use Rattle.encrypt_schema.specs.Commands.ListedFields.{field_kind, is_command}
-use Rattle.encrypt_schema.specs.Commands.Stations.{Fields, Keys, IndexKeys, Indexes, Own, held_at}
+use Rattle.encrypt_schema.specs.Commands.ListedFields.{delete_item_kind, delete_kind, field_kind, find_kind}
+use Rattle.encrypt_schema.specs.Commands.ListedFields.{insert_kind, is_command, update_item_kind, update_kind}
+use Rattle.encrypt_schema.specs.Commands.Stations.{Fields, Keys, IndexKeys, Indexes, Own, Chosen, Bounds, held_at}
+use Rattle.encrypt_schema.specs.Commands.Stations.{inside_of, other_at}
 use Rattle.encrypt_schema.specs.Commands.Stations.{Entry, Station, Outside, Insert, Update, Delete, Find, Unknown}
 use Rattle.encrypt_schema.specs.Commands.Stations.{Inserts, Updates, Deletes, UpdateItem, DeleteItem, Filter, Cases}
 use Rattle.encrypt_schema.specs.Commands.Stations.{Projection, Test, Elements, Operators, Sets, Argument, operator_of}
@@ -84,25 +86,43 @@ inner_held kinds.Path e = refl
 inner_held kinds.Word e = refl
 inner_held kinds.Unlisted e = refl
 
+inner_inside : (k : FieldKind) → is_inner (inside_of k) ≡ true
+inner_inside kinds.Keys = refl
+inner_inside kinds.IndexKeys = refl
+inner_inside kinds.Hint = refl
+inner_inside (kinds.Own own) = refl
+inner_inside _ = refl
+
+inner_other : (k : FieldKind) (e : Entry) → is_inner (other_at k e) ≡ true
+inner_other k e = inner_cond (is_document e) _ Passed (inner_inside k) refl
+
 -- inside a command there is no command
 inner_child : (rows : List Row) (s : Station) (e : Entry) → is_outside s ≡ false → is_inner (station rows s e) ≡ true
 inner_child rows Outside e h = absurd (false≢true (sym h))
-inner_child rows Insert e h = inner_cond (has_name (codes "documents") e && is_array e) Inserts Passed refl refl
+inner_child rows Insert e h =
+    inner_cond (has_name (codes "documents") e && is_array e) Inserts _ refl (inner_other (insert_kind e.name) e)
 inner_child rows Inserts e h = inner_cond (is_document e) (Document []) Passed refl refl
-inner_child rows Update e h = inner_cond (has_name (codes "updates") e && is_array e) Updates Passed refl refl
-inner_child rows Delete e h = inner_cond (has_name (codes "deletes") e && is_array e) Deletes Passed refl refl
+inner_child rows Update e h =
+    inner_cond (has_name (codes "updates") e && is_array e) Updates _ refl (inner_other (update_kind e.name) e)
+inner_child rows Delete e h =
+    inner_cond (has_name (codes "deletes") e && is_array e) Deletes _ refl (inner_other (delete_kind e.name) e)
 inner_child rows Find e h =
     inner_cond (has_name (codes "filter") e && is_document e) Filter _ refl
-    (inner_cond (has_name (codes "projection") e && is_document e) Projection Passed refl refl)
+    (inner_cond (has_name (codes "projection") e && is_document e) Projection _ refl
+    (inner_other (find_kind e.name) e))
+inner_child rows Projection e h = inner_cond (is_document e) Chosen Passed refl refl
+inner_child rows Chosen e h = inner_cond (has_name (codes "$slice") e && is_array e) Bounds Passed refl refl
 inner_child rows (Fields l) e h = inner_held (field_kind l e.name) e
 inner_child rows Indexes e h = inner_cond (is_document e) (Fields lists.Index) Passed refl refl
 inner_child rows Updates e h = inner_cond (is_document e) UpdateItem Passed refl refl
 inner_child rows Deletes e h = inner_cond (is_document e) DeleteItem Passed refl refl
 inner_child rows UpdateItem e h =
     inner_cond (has_name (codes "q") e && is_document e) Filter _ refl
-    (inner_cond (has_name (codes "u") e && is_document e) _ Passed
-    (inner_cond (is_dollar_first e.names) Operators (Document []) refl refl) refl)
-inner_child rows DeleteItem e h = inner_cond (has_name (codes "q") e && is_document e) Filter Passed refl refl
+    (inner_cond (has_name (codes "u") e && is_document e) _ _
+    (inner_cond (is_dollar_first e.names) Operators (Document []) refl refl)
+    (inner_other (update_item_kind e.name) e))
+inner_child rows DeleteItem e h =
+    inner_cond (has_name (codes "q") e && is_document e) Filter _ refl (inner_other (delete_item_kind e.name) e)
 inner_child rows (Document p) e h = inner_stored (class rows (p ++ e.name ∷ [])) (p ++ e.name ∷ []) (is_document e)
 inner_child rows Filter e h =
     inner_cond (is_logical e.name) _ _ (inner_cond (is_array e) Cases Passed refl refl)

@@ -7,6 +7,8 @@ use Rattle.encrypt_schema.specs.Language.Collection.{Collection}
 use Rattle.encrypt_schema.specs.Language.Row.{Row}
 use Rattle.encrypt_schema.specs.Commands.Stations.{Entry, Station, Outside, Insert, Update, Delete, Find, Fields}
 use Rattle.encrypt_schema.specs.Commands.Stations.{UpdateItem, DeleteItem, Projection, Filter, Test, Argument, Passed}
+use Rattle.encrypt_schema.specs.Commands.Stations.{Chosen, Bounds, Keys, IndexKeys, Own}
+use Rattle.encrypt_schema.specs.Commands.ListedFields.{delete_item_kind, update_item_kind}
 use Rattle.encrypt_schema.specs.Commands.Stations.{Store, Compare, Bare, station, has_role, is_silent, has_name}
 use Rattle.encrypt_schema.specs.Commands.Stations.{is_document, is_dollar_first}
 use Rattle.encrypt_schema.specs.declared.command.reason.Reason.{Reason}
@@ -16,10 +18,10 @@ use Rattle.encrypt_schema.specs.Commands.Offences.{of_view, is_library}
 use Rattle.encrypt_schema.specs.Commands.Targets.{info_of, rows_of, rows_in}
 use Rattle.encrypt_schema.specs.Commands.Visits.{Visit, Refusal, or_else, first_refusal, content_of, command_visits}
 use Rattle.encrypt_schema.specs.Commands.Skeletons.{skeleton}
-use Rattle.encrypt_schema.specs.Commands.More.{of_more, more_of, target_more, view_more}
+use Rattle.encrypt_schema.specs.Commands.More.{beyond_of, of_more, more_of, target_more, view_more}
 use Rattle.encrypt_schema.specs.Commands.More.{more_verdict_on, more_verdict}
 use Rattle.encrypt_schema.proofs.Commands.Tables.{without, plain_cond, no_role, command_without_role}
-use Rattle.encrypt_schema.proofs.Commands.Tables.{listed_plain}
+use Rattle.encrypt_schema.proofs.Commands.Tables.{listed_plain, other_plain}
 use Rattle.encrypt_schema.proofs.Commands.Widths.{veiled}
 use Rattle.encrypt_schema.proofs.Commands.Worlds.{IsVeiled, field_without_role}
 use Rattle.encrypt_schema.proofs.Commands.Silence.{IsQuiet, content_quiet}
@@ -38,54 +40,68 @@ item_plain rows e =
     (plain_cond
     (has_name (codes "u") e && is_document e)
     (plain_cond (is_dollar_first e.names) (no_role refl) (no_role refl))
-    (no_role refl))).no
+    (other_plain (update_item_kind e.name) e))).no
 
 delete_item_plain : (rows : List Row) (e : Entry) → has_role (station rows DeleteItem e) ≡ false
-delete_item_plain rows e = (plain_cond (has_name (codes "q") e && is_document e) (no_role refl) (no_role refl)).no
+delete_item_plain rows e =
+    (plain_cond (has_name (codes "q") e && is_document e) (no_role refl) (other_plain (delete_item_kind e.name) e)).no
 
-read_at : (s u : Station) (e : Entry) → has_role u ≡ false → least (of_more s (veiled u e)) ≡ least (of_more s e)
-read_at s u e h = ap (λ (x : Entry). least (of_more s x)) (unveiled u e h)
+read_at : (s u : Station) (elder : List (List ℕ)) (e : Entry) → has_role u ≡ false
+    → least (of_more s elder (veiled u e)) ≡ least (of_more s elder e)
+read_at s u elder e h = ap (λ (x : Entry). least (of_more s elder x)) (unveiled u e h)
 
 -- of these what is read stays behind a veil: a name, a type
-test_kept : (b : Bool) (s : Station) (e : Entry) → least (of_more s (without e)) ≡ least (of_more s e)
-    → least (of_more s (cond b (without e) e)) ≡ least (of_more s e)
-test_kept true s e h = h
-test_kept false s e h = refl
+test_kept : (b : Bool) (s : Station) (elder : List (List ℕ)) (e : Entry)
+    → least (of_more s elder (without e)) ≡ least (of_more s elder e)
+    → least (of_more s elder (cond b (without e) e)) ≡ least (of_more s elder e)
+test_kept true s elder e h = h
+test_kept false s elder e h = refl
 
-more_read : (rows : List Row) (s : Station) (e : Entry)
-    → least (of_more s (veiled (station rows s e) e)) ≡ least (of_more s e)
-more_read rows Insert e = read_at Insert _ e (field_without_role rows Insert e refl)
-more_read rows Update e = read_at Update _ e (field_without_role rows Update e refl)
-more_read rows Delete e = read_at Delete _ e (field_without_role rows Delete e refl)
-more_read rows Find e = read_at Find _ e (field_without_role rows Find e refl)
-more_read rows UpdateItem e = read_at UpdateItem _ e (item_plain rows e)
-more_read rows DeleteItem e = read_at DeleteItem _ e (delete_item_plain rows e)
-more_read rows Projection e = refl
-more_read rows (Argument n) e = refl
-more_read rows (Test x) e = test_kept (has_role (station rows (Test x) e)) (Test x) e refl
-more_read rows Filter e = test_kept (has_role (station rows Filter e)) Filter e refl
-more_read rows _ e = refl
+more_read : (rows : List Row) (s : Station) (elder : List (List ℕ)) (e : Entry)
+    → least (of_more s elder (veiled (station rows s e) e)) ≡ least (of_more s elder e)
+more_read rows Insert elder e = read_at Insert _ elder e (field_without_role rows Insert e refl)
+more_read rows Update elder e = read_at Update _ elder e (field_without_role rows Update e refl)
+more_read rows Delete elder e = read_at Delete _ elder e (field_without_role rows Delete e refl)
+more_read rows Find elder e = read_at Find _ elder e (field_without_role rows Find e refl)
+more_read rows UpdateItem elder e = read_at UpdateItem _ elder e (item_plain rows e)
+more_read rows DeleteItem elder e = read_at DeleteItem _ elder e (delete_item_plain rows e)
+more_read rows Projection elder e =
+    test_kept (has_role (station rows Projection e)) Projection elder e refl
+more_read rows Chosen elder e = test_kept (has_role (station rows Chosen e)) Chosen elder e refl
+more_read rows Bounds elder e = refl
+more_read rows Keys elder e = refl
+more_read rows IndexKeys elder e = refl
+more_read rows (Own own) elder e = refl
+more_read rows (Argument n) elder e = refl
+more_read rows (Test x) elder e = test_kept (has_role (station rows (Test x) e)) (Test x) elder e refl
+more_read rows Filter elder e = test_kept (has_role (station rows Filter e)) Filter elder e refl
+more_read rows _ elder e = refl
 
 pass_read : (rows table : List Row) (v : Visit)
     → more_of table (record v { entry = veiled (station rows v.parent v.entry) v.entry }) ≡ more_of table v
 pass_read rows [] v = refl
-pass_read rows (row ∷ others) v = more_read rows v.parent v.entry
+pass_read rows (row ∷ others) v = more_read rows v.parent v.elder v.entry
 
 more_veiled : (rows : List Row) → IsVeiled (more_of rows) rows
 more_veiled rows = record { read = pass_read rows rows }
 
-silent_more : (s : Station) (e : Entry) → is_silent s ≡ true → least (of_more s e) ≡ None
-silent_more (Store i) e h = refl
-silent_more (Compare i) e h = refl
-silent_more Bare e h = refl
-silent_more Passed e h = refl
-silent_more _ e h = absurd (false≢true h)
+silent_more : (s : Station) (elder : List (List ℕ)) (e : Entry) → is_silent s ≡ true
+    → least (of_more s elder e) ≡ None
+silent_more (Store i) elder e h = refl
+silent_more (Compare i) elder e h = refl
+silent_more Bare elder e h = refl
+silent_more Passed elder e h = refl
+silent_more _ elder e h = absurd (false≢true h)
+
+-- a library refuses nothing in what isn't looked into
+pub beyond_quiet : IsQuiet beyond_of
+beyond_quiet = record { clear = λ v h. silent_more v.parent v.elder v.entry h }
 
 more_clear : (table : List Row) (v : Visit) → is_silent v.parent ≡ true → more_of table v ≡ None
 more_clear [] v h = refl
-more_clear (row ∷ rows) v h = silent_more v.parent v.entry h
+more_clear (row ∷ rows) v h = silent_more v.parent v.elder v.entry h
 
-more_quiet : (rows : List Row) → IsQuiet (more_of rows)
+pub more_quiet : (rows : List Row) → IsQuiet (more_of rows)
 more_quiet rows = record { clear = more_clear rows }
 
 -- the target pass
@@ -119,7 +135,7 @@ target_clear db Bare elder e h = refl
 target_clear db Passed elder e h = refl
 target_clear db _ elder e h = absurd (false≢true h)
 
-target_quiet : (db : List ℕ) → IsQuiet (target_more db)
+pub target_quiet : (db : List ℕ) → IsQuiet (target_more db)
 target_quiet db = record { clear = λ v h. target_clear db v.parent v.elder v.entry h }
 
 -- the pass for views reads no entry
@@ -134,7 +150,7 @@ view_clear info Bare elder e h = refl
 view_clear info Passed elder e h = refl
 view_clear info _ elder e h = absurd (false≢true h)
 
-view_quiet : (info : Option Collection) → IsQuiet (view_more info)
+pub view_quiet : (info : Option Collection) → IsQuiet (view_more info)
 view_quiet info = record { clear = λ v h. view_clear info v.parent v.elder v.entry h }
 
 -- commands with equal skeletons have the same verdict of a library: it depends on protected values by their types,

@@ -15,8 +15,10 @@ use Rattle.encrypt_schema.specs.Paths.Dotted.{split, is_dollar, positional}
 use Rattle.encrypt_schema.specs.declared.command.listed.FieldKind.{FieldKind}
 use Rattle.encrypt_schema.specs.declared.command.listed.FieldKind.TheVariants as kinds
 use Rattle.encrypt_schema.specs.declared.command.listed.Listed.TheVariants as lists
-use Rattle.encrypt_schema.specs.Commands.ListedFields.{field_kind}
-use Rattle.encrypt_schema.specs.Commands.Stations.{Fields, Keys, IndexKeys, Indexes, Own, held_at}
+use Rattle.encrypt_schema.specs.Commands.ListedFields.{delete_item_kind, delete_kind, field_kind, find_kind}
+use Rattle.encrypt_schema.specs.Commands.ListedFields.{insert_kind, update_item_kind, update_kind}
+use Rattle.encrypt_schema.specs.Commands.Stations.{Fields, Keys, IndexKeys, Indexes, Own, Chosen, Bounds, held_at}
+use Rattle.encrypt_schema.specs.Commands.Stations.{inside_of, other_at}
 use Rattle.encrypt_schema.specs.Commands.Stations.{Entry, Station, Outside, Insert, Update, Delete, Find, Inserts}
 use Rattle.encrypt_schema.specs.Commands.Stations.{Updates, Deletes, UpdateItem, DeleteItem, Filter, Cases, Projection}
 use Rattle.encrypt_schema.specs.Commands.Stations.{Test, Elements, Operators, Sets, Argument, operator_of, Document}
@@ -80,6 +82,16 @@ held_ruled n kinds.Path e = tt
 held_ruled n kinds.Word e = tt
 held_ruled n kinds.Unlisted e = tt
 
+inside_ruled : (n : ℕ) (k : FieldKind) → IsRuled n (inside_of k)
+inside_ruled n kinds.Keys = tt
+inside_ruled n kinds.IndexKeys = tt
+inside_ruled n kinds.Hint = tt
+inside_ruled n (kinds.Own own) = tt
+inside_ruled n _ = tt
+
+other_ruled : (n : ℕ) (k : FieldKind) (e : Entry) → IsRuled n (other_at k e)
+other_ruled n k e = either n (is_document e) (inside_of k) Passed (inside_ruled n k) tt
+
 stored_ruled : (n : ℕ) (c : Class) (path : List (List ℕ)) (b : Bool) → IsRuledClass n c → IsRuled n (stored_at c path b)
 unfolding IsRuledClass
 stored_ruled n (Protected i) path b h = h
@@ -117,22 +129,31 @@ dotted_ruled rows name =
 pub station_ruled : (rows : List Row) (s : Station) (e : Entry) → IsRuled (length rows) s
     → IsRuled (length rows) (station rows s e)
 station_ruled rows Outside e h = command_ruled (length rows) e.names
-station_ruled rows Insert e h = either (length rows) (has_name (codes "documents") e && is_array e) Inserts Passed tt tt
+station_ruled rows Insert e h =
+    either (length rows) (has_name (codes "documents") e && is_array e) Inserts _ tt
+    (other_ruled (length rows) (insert_kind e.name) e)
 station_ruled rows Inserts e h = either (length rows) (is_document e) (Document []) Passed tt tt
-station_ruled rows Update e h = either (length rows) (has_name (codes "updates") e && is_array e) Updates Passed tt tt
-station_ruled rows Delete e h = either (length rows) (has_name (codes "deletes") e && is_array e) Deletes Passed tt tt
+station_ruled rows Update e h =
+    either (length rows) (has_name (codes "updates") e && is_array e) Updates _ tt
+    (other_ruled (length rows) (update_kind e.name) e)
+station_ruled rows Delete e h =
+    either (length rows) (has_name (codes "deletes") e && is_array e) Deletes _ tt
+    (other_ruled (length rows) (delete_kind e.name) e)
 station_ruled rows Find e h =
     either (length rows) (has_name (codes "filter") e && is_document e) Filter _ tt
-    (either (length rows) (has_name (codes "projection") e && is_document e) Projection Passed tt tt)
+    (either (length rows) (has_name (codes "projection") e && is_document e) Projection _ tt
+    (other_ruled (length rows) (find_kind e.name) e))
 station_ruled rows (Fields l) e h = held_ruled (length rows) (field_kind l e.name) e
 station_ruled rows Indexes e h = either (length rows) (is_document e) (Fields lists.Index) Passed tt tt
 station_ruled rows Updates e h = either (length rows) (is_document e) UpdateItem Passed tt tt
 station_ruled rows Deletes e h = either (length rows) (is_document e) DeleteItem Passed tt tt
 station_ruled rows UpdateItem e h =
     either (length rows) (has_name (codes "q") e && is_document e) Filter _ tt
-    (either (length rows) (has_name (codes "u") e && is_document e) (update_of e.names) Passed
-    (update_ruled (length rows) e.names) tt)
-station_ruled rows DeleteItem e h = either (length rows) (has_name (codes "q") e && is_document e) Filter Passed tt tt
+    (either (length rows) (has_name (codes "u") e && is_document e) (update_of e.names) _
+    (update_ruled (length rows) e.names) (other_ruled (length rows) (update_item_kind e.name) e))
+station_ruled rows DeleteItem e h =
+    either (length rows) (has_name (codes "q") e && is_document e) Filter _ tt
+    (other_ruled (length rows) (delete_item_kind e.name) e)
 station_ruled rows (Document path) e h =
     stored_ruled (length rows) (class rows (path ++ e.name ∷ [])) (path ++ e.name ∷ []) (is_document e)
     (class_ruled rows (path ++ e.name ∷ []))
@@ -153,7 +174,10 @@ station_ruled rows Operators e h =
 station_ruled rows Sets e h =
     stored_ruled (length rows) (dotted rows e.name) (split e.name) (is_document e) (dotted_ruled rows e.name)
 station_ruled rows (Argument name) e h = tt
-station_ruled rows Projection e h = tt
+station_ruled rows Projection e h = either (length rows) (is_document e) Chosen Passed tt tt
+station_ruled rows Chosen e h =
+    either (length rows) (has_name (codes "$slice") e && is_array e) Bounds Passed tt tt
+station_ruled rows Bounds e h = tt
 station_ruled rows Keys e h = tt
 station_ruled rows IndexKeys e h = tt
 station_ruled rows (Own own) e h = tt

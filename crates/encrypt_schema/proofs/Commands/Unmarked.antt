@@ -15,8 +15,10 @@ use Rattle.encrypt_schema.specs.Paths.Dotted.{split, is_dollar, positional}
 use Rattle.encrypt_schema.specs.declared.command.listed.FieldKind.{FieldKind}
 use Rattle.encrypt_schema.specs.declared.command.listed.FieldKind.TheVariants as kinds
 use Rattle.encrypt_schema.specs.declared.command.listed.Listed.TheVariants as lists
-use Rattle.encrypt_schema.specs.Commands.ListedFields.{field_kind}
-use Rattle.encrypt_schema.specs.Commands.Stations.{Fields, Keys, IndexKeys, Indexes, Own, held_at}
+use Rattle.encrypt_schema.specs.Commands.ListedFields.{delete_item_kind, delete_kind, field_kind, find_kind}
+use Rattle.encrypt_schema.specs.Commands.ListedFields.{insert_kind, update_item_kind, update_kind}
+use Rattle.encrypt_schema.specs.Commands.Stations.{Fields, Keys, IndexKeys, Indexes, Own, Chosen, Bounds, held_at}
+use Rattle.encrypt_schema.specs.Commands.Stations.{inside_of, other_at}
 use Rattle.encrypt_schema.specs.Commands.Stations.{Entry, Station, Outside, Insert, Update, Delete, Find, Inserts}
 use Rattle.encrypt_schema.specs.Commands.Stations.{Updates, Deletes, UpdateItem, DeleteItem, Filter, Cases, Projection}
 use Rattle.encrypt_schema.specs.Commands.Stations.{Test, Elements, Operators, Sets, Argument, operator_of, Document}
@@ -80,24 +82,41 @@ free_held kinds.Path e = refl
 free_held kinds.Word e = refl
 free_held kinds.Unlisted e = refl
 
+free_inside : (k : FieldKind) → is_free (inside_of k) ≡ true
+free_inside kinds.Keys = refl
+free_inside kinds.IndexKeys = refl
+free_inside kinds.Hint = refl
+free_inside (kinds.Own own) = refl
+free_inside _ = refl
+
+free_other : (k : FieldKind) (e : Entry) → is_free (other_at k e) ≡ true
+free_other k e = free_cond (is_document e) _ Passed (free_inside k) refl
+
 free_child : (s : Station) (e : Entry) → is_free s ≡ true → is_free (station [] s e) ≡ true
 free_child Outside e h = command_free e.names
-free_child Insert e h = free_cond (has_name (codes "documents") e && is_array e) Inserts Passed refl refl
+free_child Insert e h =
+    free_cond (has_name (codes "documents") e && is_array e) Inserts _ refl (free_other (insert_kind e.name) e)
 free_child Inserts e h = free_cond (is_document e) (Document []) Passed refl refl
-free_child Update e h = free_cond (has_name (codes "updates") e && is_array e) Updates Passed refl refl
-free_child Delete e h = free_cond (has_name (codes "deletes") e && is_array e) Deletes Passed refl refl
+free_child Update e h =
+    free_cond (has_name (codes "updates") e && is_array e) Updates _ refl (free_other (update_kind e.name) e)
+free_child Delete e h =
+    free_cond (has_name (codes "deletes") e && is_array e) Deletes _ refl (free_other (delete_kind e.name) e)
 free_child Find e h =
     free_cond (has_name (codes "filter") e && is_document e) Filter _ refl
-    (free_cond (has_name (codes "projection") e && is_document e) Projection Passed refl refl)
+    (free_cond (has_name (codes "projection") e && is_document e) Projection _ refl
+    (free_other (find_kind e.name) e))
+free_child Projection e h = free_cond (is_document e) Chosen Passed refl refl
+free_child Chosen e h = free_cond (has_name (codes "$slice") e && is_array e) Bounds Passed refl refl
 free_child (Fields l) e h = free_held (field_kind l e.name) e
 free_child Indexes e h = free_cond (is_document e) (Fields lists.Index) Passed refl refl
 free_child Updates e h = free_cond (is_document e) UpdateItem Passed refl refl
 free_child Deletes e h = free_cond (is_document e) DeleteItem Passed refl refl
 free_child UpdateItem e h =
     free_cond (has_name (codes "q") e && is_document e) Filter _ refl
-    (free_cond (has_name (codes "u") e && is_document e) _ Passed
-    (free_cond (is_dollar_first e.names) Operators (Document []) refl refl) refl)
-free_child DeleteItem e h = free_cond (has_name (codes "q") e && is_document e) Filter Passed refl refl
+    (free_cond (has_name (codes "u") e && is_document e) _ _
+    (free_cond (is_dollar_first e.names) Operators (Document []) refl refl) (free_other (update_item_kind e.name) e))
+free_child DeleteItem e h =
+    free_cond (has_name (codes "q") e && is_document e) Filter _ refl (free_other (delete_item_kind e.name) e)
 free_child (Document p) e h =
     ap (λ (c : Class). is_free (stored_at c (p ++ e.name ∷ []) (is_document e))) (class_none (p ++ e.name ∷ []))
 free_child Filter e h =

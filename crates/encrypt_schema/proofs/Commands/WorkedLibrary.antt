@@ -1,6 +1,6 @@
 -- The definitions on commands of a library, by computation. Places are child numbers joined by dots.
 use Rattle.std.proofs.Common.{◌≡◌, [], ◌∷◌, codes, refl}
-use Rattle.std.specs.Prelude.{None}
+use Rattle.std.specs.Prelude.{None, Option}
 use Rattle.bson_tree.specs.Tree.{Items, Tree, node, item, no_items}
 use Rattle.encrypt_schema.specs.declared.command.marks.Role.TheVariants as role
 use Rattle.encrypt_schema.specs.declared.command.reason.Reason.TheVariants.{NotACommand, BadField, BelowProtected}
@@ -11,12 +11,15 @@ use Rattle.encrypt_schema.specs.Paths.Classes.{class}
 use Rattle.encrypt_schema.specs.Paths.Dotted.{is_dollar, is_position, positional, split}
 use Rattle.encrypt_schema.specs.Commands.ListedFields.{is_count_word, is_envelope_word, is_index_keys, is_index_option}
 use Rattle.encrypt_schema.specs.Commands.ListedFields.{is_index_type, is_index_word, is_indexing_word, is_modify_keys}
-use Rattle.encrypt_schema.specs.Commands.ListedFields.{is_modify_word, is_own, is_own_branch}
+use Rattle.encrypt_schema.specs.Commands.ListedFields.{is_find_option, is_find_word, is_modify_word, is_own}
+use Rattle.encrypt_schema.specs.Commands.ListedFields.{is_own_branch}
 use Rattle.encrypt_schema.specs.Commands.Pointers.{targets_of}
 use Rattle.encrypt_schema.specs.Commands.Stations.{is_logical, is_passed, is_set}
 use Rattle.encrypt_schema.specs.Commands.Offences.{is_index_key, is_own_field, is_said, ruled_offence, target_offence}
-use Rattle.encrypt_schema.specs.Commands.Offences.{text_wrong}
-use Rattle.encrypt_schema.specs.Commands.Visits.{is_payload, roles, content_verdict, target_verdict}
+use Rattle.encrypt_schema.specs.Commands.Offences.{is_again, text_wrong}
+use Rattle.encrypt_schema.specs.Commands.More.{more_of}
+use Rattle.encrypt_schema.specs.Commands.Visits.{is_payload, roles, content_verdict, target_verdict, Refusal}
+use Rattle.encrypt_schema.specs.Commands.Visits.{command_visits, first_refusal}
 use Rattle.encrypt_schema.proofs.Commands.Examples.{text, int, yes, empty, one, on_hr, mark_at, refusal, people}
 
 -- {findAndModify: "people", query: {ssn: "x"}, update: {$set: {ssn: "y"}}, sort: {ssn: 1}, $db: "hr"}
@@ -42,6 +45,10 @@ pub modify_unknown : target_verdict (codes "hr") 0 modify ≡ refusal NotAComman
 unfolding is_passed named target_offence
 modify_unknown = refl
 
+-- the first place that a library refuses beyond the contents
+abbrev beyond : Items → Option Refusal
+beyond c = first_refusal (more_of people) (command_visits people 0 c)
+
 -- {findAndModify: "people", query: {}, remove: true, sort: {ssn: "x"}, $db: "hr"}, refused at 3.0
 abbrev pub value_as_order : Items
 value_as_order =
@@ -49,8 +56,8 @@ value_as_order =
     (item (codes "query") empty
     (item (codes "remove") yes (item (codes "sort") (node 3 (one (codes "ssn") (text (codes "x")))) on_hr)))
 
-pub value_as_order_refused : content_verdict people 0 value_as_order ≡ refusal FieldNotAllowed 66
-unfolding is_modify_keys is_modify_word is_passed is_said named ruled_offence
+pub value_as_order_refused : beyond value_as_order ≡ refusal FieldNotAllowed 66
+unfolding is_modify_keys is_modify_word is_passed is_said named
 value_as_order_refused = refl
 
 -- {findAndModify: "people", update: [], $db: "hr"}, refused at 1
@@ -109,8 +116,8 @@ abbrev pub count_in_session : Items
 count_in_session =
     item (codes "count") (text (codes "people")) (item (codes "lsid") (node 3 (one (codes "x") (int 1))) on_hr)
 
-pub count_in_session_refused : content_verdict people 0 count_in_session ≡ refusal FieldNotAllowed 35
-unfolding is_count_word is_envelope_word is_own is_own_branch is_own_field is_passed named ruled_offence
+pub count_in_session_refused : beyond count_in_session ≡ refusal FieldNotAllowed 35
+unfolding is_count_word is_envelope_word is_own is_own_branch is_own_field is_passed named
 count_in_session_refused = refl
 
 -- {distinct: "people", key: a path, $db: "hr"}
@@ -135,18 +142,18 @@ create_index index =
 
 -- {key: {ssn: "text"}, name: "n"}
 pub index_accepted :
-    content_verdict people 0
+    beyond
     (create_index (item (codes "key") (node 3 (one (codes "ssn") (text (codes "text"))))
     (one (codes "name") (text (codes "n"))))) ≡ None
 unfolding is_envelope_word is_index_key is_index_keys is_index_option is_index_type is_index_word is_indexing_word
-    is_passed is_said named ruled_offence
+    is_passed is_said named
 index_accepted = refl
 
 -- {key: {ssn: "x"}}, refused at 1.0.0.0
 pub index_refused :
-    content_verdict people 0 (create_index (one (codes "key") (node 3 (one (codes "ssn") (text (codes "x"))))))
+    beyond (create_index (one (codes "key") (node 3 (one (codes "ssn") (text (codes "x"))))))
     ≡ refusal FieldNotAllowed 64
-unfolding is_index_key is_index_type is_indexing_word is_passed is_said named ruled_offence
+unfolding is_index_key is_index_type is_indexing_word is_passed is_said named
 index_refused = refl
 
 -- {key: {ssn: 1}, partialFilterExpression: {}}, refused at 1.0.1
@@ -155,6 +162,43 @@ pub partial_refused :
     (create_index (item (codes "key") (node 3 (one (codes "ssn") (int 1)))
     (one (codes "partialFilterExpression") empty)))
     ≡ refusal FieldNotAllowed 94
-unfolding is_index_key is_index_keys is_index_option is_index_type is_index_word is_indexing_word is_passed is_said
-    named ruled_offence
+unfolding is_index_keys is_index_option is_index_word is_indexing_word is_passed named ruled_offence
 partial_refused = refl
+
+-- {find: "people", sort: order, $db: "hr"}
+abbrev pub find_sorted : Tree → Items
+find_sorted order = item (codes "find") (text (codes "people")) (item (codes "sort") order on_hr)
+
+-- {ssn: 1}
+pub sorted_accepted : beyond (find_sorted (node 3 (one (codes "ssn") (int 1)))) ≡ None
+unfolding is_envelope_word is_find_option is_find_word is_passed is_said named
+sorted_accepted = refl
+
+-- {ssn: "x"}, refused at 1.0; the verbs let it out
+pub sorted_by_value : beyond (find_sorted (node 3 (one (codes "ssn") (text (codes "x"))))) ≡ refusal FieldNotAllowed 36
+unfolding is_envelope_word is_find_option is_find_word is_passed is_said named
+sorted_by_value = refl
+
+pub sorted_by_value_let_out :
+    content_verdict people 0 (find_sorted (node 3 (one (codes "ssn") (text (codes "x"))))) ≡ None
+unfolding is_again is_passed named ruled_offence
+sorted_by_value_let_out = refl
+
+-- {find: "people", projection: {ssn: {$slice: bounds}}, $db: "hr"}
+abbrev pub find_sliced : Tree → Items
+find_sliced bounds =
+    item (codes "find") (text (codes "people"))
+    (item (codes "projection") (node 3 (one (codes "ssn") (node 3 (one (codes "$slice") bounds)))) on_hr)
+
+-- [1, 2]
+pub slice_accepted :
+    beyond (find_sliced (node 4 (item (codes "0") (int 1) (one (codes "1") (int 2))))) ≡ None
+unfolding is_envelope_word is_find_option is_find_word is_passed is_said named
+slice_accepted = refl
+
+-- [1, "x"], refused at 1.0.0.1
+pub slice_refused :
+    beyond (find_sliced (node 4 (item (codes "0") (int 1) (one (codes "1") (text (codes "x"))))))
+    ≡ refusal FieldNotAllowed 68
+unfolding is_envelope_word is_find_option is_find_word is_passed is_said named
+slice_refused = refl

@@ -6,6 +6,7 @@ use Rattle.bson_tree.specs.Tree.{Tree, leaf, node, Items, no_items, item}
 use Rattle.bson_tree.specs.Spelling.{framed, value_bytes, items_bytes}
 use Rattle.encrypt_schema.specs.declared.command.reason.Reason.{Reason}
 use Rattle.encrypt_schema.specs.Language.Row.{Row}
+use Rattle.encrypt_schema.specs.Commands.ListedFields.{delete_kind, find_kind, insert_kind, update_kind}
 use Rattle.encrypt_schema.specs.Commands.Stations.{Entry, Station, Outside, Insert, Update, Delete, Find, Inserts}
 use Rattle.encrypt_schema.specs.Commands.Stations.{Updates, Deletes, Filter, Projection, Store, Compare, Passed}
 use Rattle.encrypt_schema.specs.Commands.Stations.{is_document, is_array, has_name, station, has_role}
@@ -20,6 +21,7 @@ use Rattle.encrypt_schema.specs.Commands.Visits.{station_of}
 use Rattle.encrypt_schema.specs.Commands.Skeletons.{Skeleton, hole, plain, branch, Skeletons, no_more, more}
 use Rattle.encrypt_schema.specs.Commands.Skeletons.{skeleton_in, skeletons, skeleton, width_of, widths_of}
 use Rattle.encrypt_schema.proofs.Commands.Tables.{without, station_without, reasons_without, command_without_role}
+use Rattle.encrypt_schema.proofs.Commands.Tables.{other_plain}
 use Rattle.encrypt_schema.proofs.Commands.Widths.{entry_in, names_kept, width_kept, widths_kept, veiled, entry_kept}
 use Rattle.encrypt_schema.proofs.Commands.Widths.{station_kept}
 use Rattle.bson_tree.proofs.Sizes.{framed_size}
@@ -217,13 +219,16 @@ pub record IsVeiled (pass : Visit → Option Reason) (rows : List Row) : Type 0 
 -- no field of a marked command is protected
 pub field_without_role : (rows : List Row) (s : Station) (e : Entry) → is_marked s ≡ true
     → has_role (station rows s e) ≡ false
-field_without_role rows Insert e h = no_role_cond
-    (has_name (codes "documents") e && is_array e) Inserts Passed refl refl
-field_without_role rows Update e h = no_role_cond (has_name (codes "updates") e && is_array e) Updates Passed refl refl
-field_without_role rows Delete e h = no_role_cond (has_name (codes "deletes") e && is_array e) Deletes Passed refl refl
+field_without_role rows Insert e h =
+    no_role_cond (has_name (codes "documents") e && is_array e) Inserts _ refl (other_plain (insert_kind e.name) e).no
+field_without_role rows Update e h =
+    no_role_cond (has_name (codes "updates") e && is_array e) Updates _ refl (other_plain (update_kind e.name) e).no
+field_without_role rows Delete e h =
+    no_role_cond (has_name (codes "deletes") e && is_array e) Deletes _ refl (other_plain (delete_kind e.name) e).no
 field_without_role rows Find e h =
     no_role_cond (has_name (codes "filter") e && is_document e) Filter _ refl
-    (no_role_cond (has_name (codes "projection") e && is_document e) Projection Passed refl refl)
+    (no_role_cond (has_name (codes "projection") e && is_document e) Projection _ refl
+    (other_plain (find_kind e.name) e).no)
 field_without_role rows _ e h = absurd (false≢true h)
 
 -- so it has no veil

@@ -1,6 +1,7 @@
--- MongoDB's manual, Database Commands: `count`, `findAndModify`, `distinct` and `createIndexes`, with what the Go
--- driver 1.8.4 adds to each command (x/mongo/driver/operation.go): the fields that such a command may have, and what
--- each holds
+-- MongoDB's manual, Database Commands: `count`, `findAndModify`, `distinct` and `createIndexes`, and of `insert`,
+-- `update`, `delete` and `find` what they hold beside filters, updates and stored documents, with what the Go driver
+-- 1.8.4 adds to each command (x/mongo/driver/operation.go): the fields that such a command may have, and what each
+-- holds
 use Rattle.std.specs.Prelude.{ℕ, Bool, true, false, List, [], ◌∷◌, codes, if◌then◌else◌}
 use Rattle.encrypt_schema.specs.declared.command.listed.FieldKind.{FieldKind}
 use Rattle.encrypt_schema.specs.declared.command.listed.FieldKind.TheVariants as kinds
@@ -35,6 +36,71 @@ reading_kind name =
     if named name (codes "hint") then kinds.Hint
     else if named name (codes "collation") then kinds.Own owns.Collation
     else envelope_kind name
+
+-- one value, in an insert
+unfoldable pub is_insert_word : List ℕ → Bool
+is_insert_word name = is_among name (codes "insert" ∷ codes "ordered" ∷ codes "bypassDocumentValidation" ∷ [])
+
+-- insert: its fields but `documents`
+abbrev pub insert_kind : List ℕ → FieldKind
+insert_kind name = if is_insert_word name then kinds.Word else envelope_kind name
+
+-- one value, in an update
+unfoldable pub is_update_word : List ℕ → Bool
+is_update_word name = is_among name (codes "update" ∷ codes "ordered" ∷ codes "bypassDocumentValidation" ∷ [])
+
+-- update: its fields but `updates`
+abbrev pub update_kind : List ℕ → FieldKind
+update_kind name = if is_update_word name then kinds.Word else envelope_kind name
+
+-- one value, in a delete
+unfoldable pub is_delete_word : List ℕ → Bool
+is_delete_word name = is_among name (codes "delete" ∷ codes "ordered" ∷ [])
+
+-- delete: its fields but `deletes`
+abbrev pub delete_kind : List ℕ → FieldKind
+delete_kind name = if is_delete_word name then kinds.Word else envelope_kind name
+
+-- one value, in a find: how many documents are shown, and where
+unfoldable pub is_find_word : List ℕ → Bool
+is_find_word name =
+    is_among name
+    (codes "find" ∷ codes "limit" ∷ codes "skip" ∷ codes "batchSize" ∷ codes "singleBatch" ∷ codes "returnKey"
+    ∷ codes "showRecordId" ∷ [])
+
+-- one value, in a find: how it looks
+unfoldable pub is_find_option : List ℕ → Bool
+is_find_option name =
+    is_among name
+    (codes "tailable" ∷ codes "awaitData" ∷ codes "noCursorTimeout" ∷ codes "oplogReplay" ∷ codes "snapshot"
+    ∷ codes "maxScan" ∷ codes "allowPartialResults" ∷ codes "allowDiskUse" ∷ [])
+
+-- find: its fields but `filter` and `projection`
+abbrev pub find_kind : List ℕ → FieldKind
+find_kind name =
+    if named name (codes "sort") then kinds.Keys
+    else if is_find_word name then kinds.Word
+    else if is_find_option name then kinds.Word
+    else reading_kind name
+
+-- a field that any item of updates or deletes may have
+abbrev pub item_kind : List ℕ → FieldKind
+item_kind name =
+    if named name (codes "hint") then kinds.Hint
+    else if named name (codes "collation") then kinds.Own owns.Collation
+    else kinds.Unlisted
+
+-- one value, in an item of updates
+unfoldable pub is_update_item_word : List ℕ → Bool
+is_update_item_word name = is_among name (codes "upsert" ∷ codes "multi" ∷ [])
+
+-- an item of updates: its fields but `q` and `u`
+abbrev pub update_item_kind : List ℕ → FieldKind
+update_item_kind name = if is_update_item_word name then kinds.Word else item_kind name
+
+-- an item of deletes: its fields but `q`
+abbrev pub delete_item_kind : List ℕ → FieldKind
+delete_item_kind name = if named name (codes "limit") then kinds.Word else item_kind name
 
 -- one value, in a count
 unfoldable pub is_count_word : List ℕ → Bool

@@ -1,26 +1,29 @@
--- MongoDB's manual, Database Commands: what a library refuses of `insert`, `update`, `delete` and `find` beyond their
--- own rules, since it sends nothing of a field that isn't listed; and its verdict on any command.
+-- MongoDB's manual, Database Commands: what a library refuses of a command beyond the rules for its filters, updates
+-- and stored documents, since it sends nothing of a field that isn't listed, and no value where none belongs; and its
+-- verdict on any command.
 use Rattle.std.specs.Prelude.{ℕ, Bool, true, false, not, ◌&&◌, ◌||◌, List, [], ◌∷◌, ◌++◌, codes, Option, None}
 use Rattle.std.specs.Prelude.{if◌then◌else◌}
 use Rattle.bson_tree.specs.Tree.{Items}
 use Rattle.encrypt_schema.specs.declared.command.listed.FieldKind.{FieldKind}
 use Rattle.encrypt_schema.specs.declared.command.listed.FieldKind.TheVariants as kinds
-use Rattle.encrypt_schema.specs.declared.command.listed.OwnDocument.{OwnDocument}
-use Rattle.encrypt_schema.specs.declared.command.listed.OwnDocument.TheVariants as owns
 use Rattle.encrypt_schema.specs.declared.command.operators.Operator.TheVariants.{Unset}
 use Rattle.encrypt_schema.specs.declared.command.reason.Reason.{Reason}
-use Rattle.encrypt_schema.specs.declared.command.reason.Reason.TheVariants.{FieldNotAllowed, View}
+use Rattle.encrypt_schema.specs.declared.command.reason.Reason.TheVariants.{BadField, FieldNotAllowed, View}
 use Rattle.encrypt_schema.specs.Language.Collection.{Collection}
-use Rattle.encrypt_schema.specs.Language.Names.{named, is_among}
+use Rattle.encrypt_schema.specs.Language.Names.{is_among}
 use Rattle.encrypt_schema.specs.Language.Row.{Row}
-use Rattle.encrypt_schema.specs.Commands.ListedFields.{envelope_kind, reading_kind, is_own, is_own_branch}
+use Rattle.encrypt_schema.specs.Commands.ListedFields.{delete_item_kind, delete_kind, find_kind, insert_kind}
+use Rattle.encrypt_schema.specs.Commands.ListedFields.{update_item_kind, update_kind}
 use Rattle.encrypt_schema.specs.Commands.Offences.{when, unless, least, is_string, is_empty, has_none, is_view, text_of}
-use Rattle.encrypt_schema.specs.Commands.Offences.{of_field, of_target, of_view, is_said, is_library}
+use Rattle.encrypt_schema.specs.Commands.Offences.{is_index_key, is_library, is_own_field, is_said}
+use Rattle.encrypt_schema.specs.Commands.Offences.{of_field, of_target, of_view}
 use Rattle.encrypt_schema.specs.Commands.Stations.{Entry, Station, Insert, Update, Delete, Find, UpdateItem}
-use Rattle.encrypt_schema.specs.Commands.Stations.{DeleteItem, Projection, Filter, Test, Argument, is_document}
-use Rattle.encrypt_schema.specs.Commands.Stations.{is_array, has_name}
+use Rattle.encrypt_schema.specs.Commands.Stations.{DeleteItem, Projection, Chosen, Bounds, Keys, IndexKeys, Own, Filter}
+use Rattle.encrypt_schema.specs.Commands.Stations.{Test, Argument, Inserts, Document, Sets, Elements, Store, Compare}
+use Rattle.encrypt_schema.specs.Commands.Stations.{Bare, Passed, is_document, is_array, has_name}
 use Rattle.encrypt_schema.specs.Commands.Targets.{info_of, rows_of}
 use Rattle.encrypt_schema.specs.Commands.Visits.{Visit, Refusal, or_else, first_refusal, content_of, command_visits}
+use Rattle.encrypt_schema.specs.Commands.Visits.{content_verdict}
 
 -- the target pass of a library: of its own commands as of marked ones
 abbrev pub target_more : List ℕ → Visit → Option Reason
@@ -33,72 +36,81 @@ view_more info v =
     least
     (when (is_library v.parent && has_none v.elder && is_view info) View ++ of_view info v.parent v.elder v.entry)
 
--- names of a document of MongoDB's own names
-abbrev pub are_own : OwnDocument → List (List ℕ) → Bool
-are_own own [] = true
-are_own own (name ∷ names) = (is_own own name || is_own_branch own name) && are_own own names
+-- a field that is no filter, no update and no stored document: it doesn't hold what one of its kind holds
+abbrev pub other_wrong : FieldKind → Entry → List Reason
+other_wrong kinds.Word e = when (is_document e || is_array e) FieldNotAllowed
+other_wrong kinds.Keys e = unless (is_document e) BadField
+other_wrong kinds.Hint e = unless (is_document e || is_string e) FieldNotAllowed
+other_wrong (kinds.Own own) e = unless (is_document e) FieldNotAllowed
+other_wrong _ e = FieldNotAllowed ∷ []
 
--- a field holds this, as far as it tells itself: of what is inside a document the names alone are read
-abbrev pub holds : FieldKind → Entry → Bool
-holds kinds.Word e = not (is_document e || is_array e)
-holds (kinds.Own own) e = is_document e && are_own own e.names
-holds kinds.Hint e = is_string e
-holds _ e = false
+-- a field beside those that are judged by their own rules: it stands for the second time; else by what it holds
+abbrev pub of_other : List (List ℕ) → FieldKind → List (List ℕ) → Entry → List Reason
+of_other read kind elder e =
+    if is_among e.name read then [] else if is_among e.name elder then BadField ∷ [] else other_wrong kind e
 
--- a field that is listed: one that is judged by its own rules; one of these names, with one value; or of such a kind
-abbrev pub is_taken : List (List ℕ) → List (List ℕ) → FieldKind → Entry → Bool
-is_taken read words kind e = is_among e.name read || (is_among e.name words && holds kinds.Word e || holds kind e)
+-- the value of `$slice`, and of `$meta`
+abbrev pub chosen_wrong : Entry → List Reason
+chosen_wrong e =
+    if has_name (codes "$slice") e then unless (is_said e.tag || is_array e) FieldNotAllowed
+    else unless (has_name (codes "$meta") e && is_string e) FieldNotAllowed
 
--- a field that an item of updates or deletes may have
-abbrev pub item_kind : List ℕ → FieldKind
-item_kind name =
-    if named name (codes "hint") then kinds.Hint
-    else if named name (codes "collation") then kinds.Own owns.Collation
-    else kinds.Unlisted
-
--- what a library refuses beyond the rules of `insert`, `update`, `delete` and `find`, by what the parent is
-abbrev pub of_more : Station → Entry → List Reason
-of_more Insert e =
-    unless
-    (is_taken (codes "documents" ∷ []) (codes "insert" ∷ codes "ordered" ∷ codes "bypassDocumentValidation" ∷ [])
-    (envelope_kind e.name) e)
-    FieldNotAllowed
-of_more Update e =
-    unless
-    (is_taken (codes "updates" ∷ []) (codes "update" ∷ codes "ordered" ∷ codes "bypassDocumentValidation" ∷ [])
-    (envelope_kind e.name) e)
-    FieldNotAllowed
-of_more Delete e =
-    unless
-    (is_taken (codes "deletes" ∷ []) (codes "delete" ∷ codes "ordered" ∷ []) (envelope_kind e.name) e)
-    FieldNotAllowed
-of_more Find e =
-    unless
-    (is_taken (codes "filter" ∷ codes "projection" ∷ [])
-    (codes "find" ∷ codes "limit" ∷ codes "skip" ∷ codes "batchSize" ∷ codes "singleBatch" ∷ codes "returnKey"
-    ∷ codes "showRecordId" ∷ codes "tailable" ∷ codes "awaitData" ∷ codes "noCursorTimeout" ∷ codes "oplogReplay"
-    ∷ codes "snapshot" ∷ codes "maxScan" ∷ codes "allowPartialResults" ∷ codes "allowDiskUse" ∷ [])
-    (reading_kind e.name) e)
-    FieldNotAllowed
+-- what a library refuses beyond the rules of each command, by what the parent is
+abbrev pub of_more : Station → List (List ℕ) → Entry → List Reason
+of_more Insert elder e = of_other (codes "documents" ∷ []) (insert_kind e.name) elder e
+of_more Update elder e = of_other (codes "updates" ∷ []) (update_kind e.name) elder e
+of_more Delete elder e = of_other (codes "deletes" ∷ []) (delete_kind e.name) elder e
+of_more Find elder e = of_other (codes "filter" ∷ codes "projection" ∷ []) (find_kind e.name) elder e
 -- the items of updates and deletes
-of_more UpdateItem e =
-    unless
-    (is_taken (codes "q" ∷ codes "u" ∷ []) (codes "upsert" ∷ codes "multi" ∷ []) (item_kind e.name) e)
-    FieldNotAllowed
-of_more DeleteItem e =
-    unless (is_taken (codes "q" ∷ []) (codes "limit" ∷ []) (item_kind e.name) e) FieldNotAllowed
--- a choice of fields: numbers and bools
-of_more Projection e = unless (is_said e.tag) FieldNotAllowed
+of_more UpdateItem elder e = of_other (codes "q" ∷ codes "u" ∷ []) (update_item_kind e.name) elder e
+of_more DeleteItem elder e = of_other (codes "q" ∷ []) (delete_item_kind e.name) elder e
+-- a projection: numbers and bools, `$slice` of these, `$meta`
+of_more Projection elder e = unless (is_said e.tag || is_document e) FieldNotAllowed
+of_more Chosen elder e = chosen_wrong e
+of_more Bounds elder e = unless (is_said e.tag) FieldNotAllowed
+-- an order, or a choice of fields; the keys of an index; a document of MongoDB's own names
+of_more Keys elder e = unless (is_said e.tag) FieldNotAllowed
+of_more IndexKeys elder e = unless (is_index_key e) FieldNotAllowed
+of_more (Own own) elder e = unless (is_own_field own e) FieldNotAllowed
 -- what holds no value of its field says no other: `$unset`, `$exists`, `$comment`
-of_more (Argument Unset) e = unless (is_said e.tag || (is_string e && is_empty (text_of e.raw))) FieldNotAllowed
-of_more (Test x) e = when (has_name (codes "$exists") e && not (is_said e.tag)) FieldNotAllowed
-of_more Filter e = when (has_name (codes "$comment") e && not (is_string e)) FieldNotAllowed
-of_more _ e = []
+of_more (Argument Unset) elder e = unless (is_said e.tag || (is_string e && is_empty (text_of e.raw))) FieldNotAllowed
+of_more (Test x) elder e = when (has_name (codes "$exists") e && not (is_said e.tag)) FieldNotAllowed
+of_more Filter elder e = when (has_name (codes "$comment") e && not (is_string e)) FieldNotAllowed
+of_more _ elder e = []
+
+-- what the rules settle, so that a library refuses nothing in it beyond them: stored documents, values that are
+-- compared one by one, what isn't looked into
+abbrev pub is_settled : Station → Bool
+is_settled Inserts = true
+is_settled (Document path) = true
+is_settled Sets = true
+is_settled (Elements x) = true
+is_settled (Store i) = true
+is_settled (Compare i) = true
+is_settled Bare = true
+is_settled Passed = true
+is_settled _ = false
+
+-- the offence of a place beyond those rules
+abbrev pub beyond_of : Visit → Option Reason
+beyond_of v = least (of_more v.parent v.elder v.entry)
 
 -- the pass of a library: without rules nothing is refused
 abbrev pub more_of : List Row → Visit → Option Reason
 more_of [] v = None
-more_of (row ∷ rows) v = least (of_more v.parent v.entry)
+more_of (row ∷ rows) v = beyond_of v
+
+-- the verdict of that pass on a command that begins at `at`
+abbrev pub beyond_verdict : List Row → ℕ → Items → Option Refusal
+beyond_verdict rows at c = first_refusal (more_of rows) (command_visits rows at c)
+
+-- the verdict of a library on the contents of a command: that of the content pass; else that of its own
+abbrev pub contents_verdict : List Row → ℕ → Items → Option Refusal
+contents_verdict rows at c = or_else (content_verdict rows at c) (beyond_verdict rows at c)
+
+-- the verdict of its target pass on a command: it looks at the command and its fields, whatever the rules are
+abbrev pub target_more_verdict : List ℕ → ℕ → Items → Option Refusal
+target_more_verdict db at c = first_refusal (target_more db) (command_visits [] at c)
 
 -- the verdict of a library on places: the three passes, with its own commands, and its own behind them
 abbrev pub more_verdict_on : List ℕ → Option Collection → List Row → List Visit → Option Refusal
