@@ -28,7 +28,7 @@ use Rattle.encrypt_schema.proofs.Commands.Elements.{told_as}
 use Rattle.encrypt_schema.proofs.Commands.Parts.{unruled, with_rows}
 use Rattle.encrypt_schema.proofs.Commands.Unmarked.{no_rows_no_roles}
 use Rattle.command_marker.specs.Commands.{first_name, is_library_command, is_marked_command, TellsMarks}
-use Rattle.command_marker.specs.Fields.{is_library_name}
+use Rattle.command_marker.specs.Fields.{is_library_name, is_marked_name}
 use Rattle.command_marker.specs.Places.{name_station}
 use Rattle.command_marker.specs.declared.places.CommandName.{CommandName}
 use Rattle.command_marker.specs.declared.places.CommandName.TheVariants as names
@@ -98,6 +98,12 @@ pub library_first : (c : Items) → is_library_command c ≡ is_library_name (fi
 unfolding named is_passed
 library_first no_items = refl
 library_first (item name t is) = refl
+
+-- so is a marked one
+pub marked_first : (c : Items) → is_marked_name (first_name c) ≡ is_marked_command c
+unfolding named is_passed
+marked_first no_items = refl
+marked_first (item name t is) = refl
 
 -- which command of a library it is
 

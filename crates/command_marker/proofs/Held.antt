@@ -104,7 +104,8 @@ pub held_as : (rows : List Row) (kind other : FieldKind) (e : Entry) (result : R
 held_as rows kind other e result is told = subst (λ (k : FieldKind). Holds rows k e result) (sym is) told
 
 -- a choice of two stations that have no reasons of their own
-no_reasons : (rows : List Row) (b : Bool) (s u : Station) (e : Entry) → of_role rows s e ≡ [] → of_role rows u e ≡ []
+pub no_reasons : (rows : List Row) (b : Bool) (s u : Station) (e : Entry) → of_role rows s e ≡ []
+    → of_role rows u e ≡ []
     → of_role rows (cond b s u) e ≡ []
 no_reasons rows true s u e p q = p
 no_reasons rows false s u e p q = q

@@ -1,23 +1,29 @@
 -- The elements of commands and of their parts, judged by the fields that are read.
 use Rattle.std.proofs.Common.{◌≡◌, ◌==◌, Bool, true, false, cond, not, ◌&&◌, ◌||◌, ℕ, codes, List, Some, None, Result}
-use Rattle.std.proofs.Common.{Ok, Err, refl, sym, subst}
+use Rattle.std.proofs.Common.{Ok, Err, refl, sym, subst, ◌∙◌}
 use Rattle.std.proofs.lemmas.Bool.{false≢true}
 use Rattle.std.proofs.lemmas.Slice.Eq.{bytes_eq-Decides}
 use Rattle.bson_tree.specs.Tree.{Tree, tag_of, kids_of}
 use Rattle.encrypt_schema.specs.declared.command.reason.Reason.{Reason}
-use Rattle.encrypt_schema.specs.declared.command.reason.Reason.TheVariants.{BadField, Pipeline}
+use Rattle.encrypt_schema.specs.declared.command.reason.Reason.TheVariants.{BadField, FieldNotAllowed, Pipeline}
 use Rattle.encrypt_schema.specs.Language.Names.{named, is_among}
 use Rattle.encrypt_schema.specs.Language.Row.{Row}
 use Rattle.encrypt_schema.specs.Commands.Stations.{Insert, Update, Delete, Find, Updates, Deletes, UpdateItem}
-use Rattle.encrypt_schema.specs.Commands.Stations.{DeleteItem, is_dollar_first, update_of, station}
-use Rattle.encrypt_schema.specs.Commands.Offences.{ruled_offence, is_again}
+use Rattle.encrypt_schema.specs.Commands.Stations.{DeleteItem, is_dollar_first, update_of, station, Entry, Bounds, Keys}
+use Rattle.encrypt_schema.specs.Commands.Stations.{IndexKeys, Own}
+use Rattle.encrypt_schema.specs.declared.command.listed.OwnDocument.{OwnDocument}
+use Rattle.encrypt_schema.specs.Commands.ListedFields.{delete_item_kind, delete_kind, find_kind, insert_kind}
+use Rattle.encrypt_schema.specs.Commands.ListedFields.{update_item_kind, update_kind}
+use Rattle.encrypt_schema.specs.Commands.Offences.{ruled_offence, is_again, least, of_row}
 use Rattle.encrypt_schema.specs.Commands.Visits.{names_of, entry}
 use Rattle.encrypt_schema.specs.declared.command.walking.Next.{Next}
 use Rattle.encrypt_schema.specs.declared.command.walking.Next.TheVariants as nexts
 use Rattle.filter_rules.specs.declared.places.FilterPlace.TheVariants as filters
 use Rattle.command_marker.specs.declared.places.CommandPlace.{CommandPlace}
 use Rattle.command_marker.specs.declared.places.CommandPlace.TheVariants as places
-use Rattle.command_marker.specs.Places.{Judges, read_as, unusable_reason}
+use Rattle.command_marker.specs.Places.{IsOther, Judges, read_as, unusable_reason}
+use Rattle.command_marker.proofs.OtherFields.{delete_item_offence, delete_offence, find_offence, insert_offence}
+use Rattle.command_marker.proofs.OtherFields.{update_item_offence, update_offence}
 
 -- what holds of a word holds of a name that equals it
 at_word : (P : List ℕ → Type 0) (name word : List ℕ) → named name word ≡ true → P word → P name
@@ -31,8 +37,12 @@ documents_at : (rows : List Row) (elder : List (List ℕ)) (t : Tree) (fits agai
 unfolding named ruled_offence is_again
 documents_at rows elder t true true p q = rw (p, q) refl
 documents_at rows elder t true false p q = (rw p refl, tt, rw (p, q) refl)
-documents_at rows elder t false true p q = rw (p, q) refl
-documents_at rows elder t false false p q = rw (p, q) refl
+documents_at rows elder t false true p q =
+    let row : Some BadField ≡ least (of_row rows Insert elder (entry (codes "documents") t)) = rw (p, q) refl in
+    row ∙ sym (insert_offence rows elder (entry (codes "documents") t))
+documents_at rows elder t false false p q =
+    let row : Some BadField ≡ least (of_row rows Insert elder (entry (codes "documents") t)) = rw (p, q) refl in
+    row ∙ sym (insert_offence rows elder (entry (codes "documents") t))
 
 pub documents_read : (rows : List Row) (elder : List (List ℕ)) (name : List ℕ) (t : Tree)
     (result : Result (Next CommandPlace) Reason) → named name (codes "documents") ≡ true
@@ -46,10 +56,13 @@ documents_read rows elder name t result h is =
 
 -- any other field
 pub insert_other : (rows : List Row) (elder : List (List ℕ)) (name : List ℕ) (t : Tree)
-    → named name (codes "documents") ≡ false
-    → Judges rows Insert elder (entry name t) (Ok nexts.Passed)
+    (next : Next CommandPlace)
+    → named name (codes "documents") ≡ false → IsOther rows (insert_kind name) (entry name t) next
+    → Judges rows Insert elder (entry name t) (Ok next)
 unfolding ruled_offence is_again
-insert_other rows elder name t p = (rw p refl, tt, rw p refl)
+insert_other rows elder name t next p told =
+    let row : None ≡ least (of_row rows Insert elder (entry name t)) = rw p refl in
+    (rw p told.0, told.1, row ∙ sym (insert_offence rows elder (entry name t)))
 
 -- an update: `updates`
 updates_at : (rows : List Row) (elder : List (List ℕ)) (t : Tree) (fits again : Bool) → (tag_of t == 4) ≡ fits
@@ -58,8 +71,12 @@ updates_at : (rows : List Row) (elder : List (List ℕ)) (t : Tree) (fits again 
 unfolding named ruled_offence is_again
 updates_at rows elder t true true p q = rw (p, q) refl
 updates_at rows elder t true false p q = (rw p refl, tt, rw (p, q) refl)
-updates_at rows elder t false true p q = rw (p, q) refl
-updates_at rows elder t false false p q = rw (p, q) refl
+updates_at rows elder t false true p q =
+    let row : Some BadField ≡ least (of_row rows Update elder (entry (codes "updates") t)) = rw (p, q) refl in
+    row ∙ sym (update_offence rows elder (entry (codes "updates") t))
+updates_at rows elder t false false p q =
+    let row : Some BadField ≡ least (of_row rows Update elder (entry (codes "updates") t)) = rw (p, q) refl in
+    row ∙ sym (update_offence rows elder (entry (codes "updates") t))
 
 pub updates_read : (rows : List Row) (elder : List (List ℕ)) (name : List ℕ) (t : Tree)
     (result : Result (Next CommandPlace) Reason) → named name (codes "updates") ≡ true
@@ -76,8 +93,12 @@ update_let_at : (rows : List Row) (elder : List (List ℕ)) (t : Tree) (again : 
     → is_among (codes "let") elder ≡ again
     → Some (unusable_reason again) ≡ ruled_offence rows Update elder (entry (codes "let") t)
 unfolding named ruled_offence is_again
-update_let_at rows elder t true q = rw q refl
-update_let_at rows elder t false q = rw q refl
+update_let_at rows elder t true q =
+    let row : Some BadField ≡ least (of_row rows Update elder (entry (codes "let") t)) = rw q refl in
+    row ∙ sym (update_offence rows elder (entry (codes "let") t))
+update_let_at rows elder t false q =
+    let row : Some FieldNotAllowed ≡ least (of_row rows Update elder (entry (codes "let") t)) = rw q refl in
+    row ∙ sym (update_offence rows elder (entry (codes "let") t))
 
 pub update_let_unusable : (rows : List Row) (elder : List (List ℕ)) (name : List ℕ) (t : Tree)
     → named name (codes "let") ≡ true
@@ -89,10 +110,14 @@ update_let_unusable rows elder name t h =
 
 -- any other field
 pub update_other : (rows : List Row) (elder : List (List ℕ)) (name : List ℕ) (t : Tree)
+    (next : Next CommandPlace)
     → named name (codes "updates") ≡ false → named name (codes "let") ≡ false
-    → Judges rows Update elder (entry name t) (Ok nexts.Passed)
+    → IsOther rows (update_kind name) (entry name t) next
+    → Judges rows Update elder (entry name t) (Ok next)
 unfolding ruled_offence is_again
-update_other rows elder name t p q = (rw p refl, tt, rw (p, q) refl)
+update_other rows elder name t next p q told =
+    let row : None ≡ least (of_row rows Update elder (entry name t)) = rw (p, q) refl in
+    (rw p told.0, told.1, row ∙ sym (update_offence rows elder (entry name t)))
 
 -- a delete: `deletes`
 deletes_at : (rows : List Row) (elder : List (List ℕ)) (t : Tree) (fits again : Bool) → (tag_of t == 4) ≡ fits
@@ -101,8 +126,12 @@ deletes_at : (rows : List Row) (elder : List (List ℕ)) (t : Tree) (fits again 
 unfolding named ruled_offence is_again
 deletes_at rows elder t true true p q = rw (p, q) refl
 deletes_at rows elder t true false p q = (rw p refl, tt, rw (p, q) refl)
-deletes_at rows elder t false true p q = rw (p, q) refl
-deletes_at rows elder t false false p q = rw (p, q) refl
+deletes_at rows elder t false true p q =
+    let row : Some BadField ≡ least (of_row rows Delete elder (entry (codes "deletes") t)) = rw (p, q) refl in
+    row ∙ sym (delete_offence rows elder (entry (codes "deletes") t))
+deletes_at rows elder t false false p q =
+    let row : Some BadField ≡ least (of_row rows Delete elder (entry (codes "deletes") t)) = rw (p, q) refl in
+    row ∙ sym (delete_offence rows elder (entry (codes "deletes") t))
 
 pub deletes_read : (rows : List Row) (elder : List (List ℕ)) (name : List ℕ) (t : Tree)
     (result : Result (Next CommandPlace) Reason) → named name (codes "deletes") ≡ true
@@ -119,8 +148,12 @@ delete_let_at : (rows : List Row) (elder : List (List ℕ)) (t : Tree) (again : 
     → is_among (codes "let") elder ≡ again
     → Some (unusable_reason again) ≡ ruled_offence rows Delete elder (entry (codes "let") t)
 unfolding named ruled_offence is_again
-delete_let_at rows elder t true q = rw q refl
-delete_let_at rows elder t false q = rw q refl
+delete_let_at rows elder t true q =
+    let row : Some BadField ≡ least (of_row rows Delete elder (entry (codes "let") t)) = rw q refl in
+    row ∙ sym (delete_offence rows elder (entry (codes "let") t))
+delete_let_at rows elder t false q =
+    let row : Some FieldNotAllowed ≡ least (of_row rows Delete elder (entry (codes "let") t)) = rw q refl in
+    row ∙ sym (delete_offence rows elder (entry (codes "let") t))
 
 pub delete_let_unusable : (rows : List Row) (elder : List (List ℕ)) (name : List ℕ) (t : Tree)
     → named name (codes "let") ≡ true
@@ -132,10 +165,14 @@ delete_let_unusable rows elder name t h =
 
 -- any other field
 pub delete_other : (rows : List Row) (elder : List (List ℕ)) (name : List ℕ) (t : Tree)
+    (next : Next CommandPlace)
     → named name (codes "deletes") ≡ false → named name (codes "let") ≡ false
-    → Judges rows Delete elder (entry name t) (Ok nexts.Passed)
+    → IsOther rows (delete_kind name) (entry name t) next
+    → Judges rows Delete elder (entry name t) (Ok next)
 unfolding ruled_offence is_again
-delete_other rows elder name t p q = (rw p refl, tt, rw (p, q) refl)
+delete_other rows elder name t next p q told =
+    let row : None ≡ least (of_row rows Delete elder (entry name t)) = rw (p, q) refl in
+    (rw p told.0, told.1, row ∙ sym (delete_offence rows elder (entry name t)))
 
 -- a find: `filter`
 filter_at : (rows : List Row) (elder : List (List ℕ)) (t : Tree) (fits again : Bool) → (tag_of t == 3) ≡ fits
@@ -181,8 +218,12 @@ projection_read rows elder name t result h is =
 find_min_at : (rows : List Row) (elder : List (List ℕ)) (t : Tree) (again : Bool) → is_among (codes "min") elder ≡ again
     → Some (unusable_reason again) ≡ ruled_offence rows Find elder (entry (codes "min") t)
 unfolding named ruled_offence is_again
-find_min_at rows elder t true q = rw q refl
-find_min_at rows elder t false q = rw q refl
+find_min_at rows elder t true q =
+    let row : Some BadField ≡ least (of_row rows Find elder (entry (codes "min") t)) = rw q refl in
+    row ∙ sym (find_offence rows elder (entry (codes "min") t))
+find_min_at rows elder t false q =
+    let row : Some FieldNotAllowed ≡ least (of_row rows Find elder (entry (codes "min") t)) = rw q refl in
+    row ∙ sym (find_offence rows elder (entry (codes "min") t))
 
 pub find_min_unusable : (rows : List Row) (elder : List (List ℕ)) (name : List ℕ) (t : Tree)
     → named name (codes "min") ≡ true
@@ -196,8 +237,12 @@ find_min_unusable rows elder name t h =
 find_max_at : (rows : List Row) (elder : List (List ℕ)) (t : Tree) (again : Bool) → is_among (codes "max") elder ≡ again
     → Some (unusable_reason again) ≡ ruled_offence rows Find elder (entry (codes "max") t)
 unfolding named ruled_offence is_again
-find_max_at rows elder t true q = rw q refl
-find_max_at rows elder t false q = rw q refl
+find_max_at rows elder t true q =
+    let row : Some BadField ≡ least (of_row rows Find elder (entry (codes "max") t)) = rw q refl in
+    row ∙ sym (find_offence rows elder (entry (codes "max") t))
+find_max_at rows elder t false q =
+    let row : Some FieldNotAllowed ≡ least (of_row rows Find elder (entry (codes "max") t)) = rw q refl in
+    row ∙ sym (find_offence rows elder (entry (codes "max") t))
 
 pub find_max_unusable : (rows : List Row) (elder : List (List ℕ)) (name : List ℕ) (t : Tree)
     → named name (codes "max") ≡ true
@@ -211,8 +256,12 @@ find_max_unusable rows elder name t h =
 find_let_at : (rows : List Row) (elder : List (List ℕ)) (t : Tree) (again : Bool) → is_among (codes "let") elder ≡ again
     → Some (unusable_reason again) ≡ ruled_offence rows Find elder (entry (codes "let") t)
 unfolding named ruled_offence is_again
-find_let_at rows elder t true q = rw q refl
-find_let_at rows elder t false q = rw q refl
+find_let_at rows elder t true q =
+    let row : Some BadField ≡ least (of_row rows Find elder (entry (codes "let") t)) = rw q refl in
+    row ∙ sym (find_offence rows elder (entry (codes "let") t))
+find_let_at rows elder t false q =
+    let row : Some FieldNotAllowed ≡ least (of_row rows Find elder (entry (codes "let") t)) = rw q refl in
+    row ∙ sym (find_offence rows elder (entry (codes "let") t))
 
 pub find_let_unusable : (rows : List Row) (elder : List (List ℕ)) (name : List ℕ) (t : Tree)
     → named name (codes "let") ≡ true
@@ -245,23 +294,27 @@ find_unusable rows elder name t h =
     (find_let_unusable rows elder name t))
 
 -- any other field
-find_rest : (rows : List Row) (elder : List (List ℕ)) (name : List ℕ) (t : Tree) → named name (codes "filter") ≡ false
+find_rest : (rows : List Row) (elder : List (List ℕ)) (name : List ℕ) (t : Tree) (next : Next CommandPlace)
+    → named name (codes "filter") ≡ false
     → named name (codes "projection") ≡ false → named name (codes "min") ≡ false → named name (codes "max") ≡ false
-    → named name (codes "let") ≡ false
-    → Judges rows Find elder (entry name t) (Ok nexts.Passed)
+    → named name (codes "let") ≡ false → IsOther rows (find_kind name) (entry name t) next
+    → Judges rows Find elder (entry name t) (Ok next)
 unfolding ruled_offence is_again
-find_rest rows elder name t p q r s u = (rw (p, q) refl, tt, rw (p, q, r, s, u) refl)
+find_rest rows elder name t next p q r s u told =
+    let row : None ≡ least (of_row rows Find elder (entry name t)) = rw (p, q, r, s, u) refl in
+    (rw (p, q) told.0, told.1, row ∙ sym (find_offence rows elder (entry name t)))
 
-pub find_other : (rows : List Row) (elder : List (List ℕ)) (name : List ℕ) (t : Tree)
+pub find_other : (rows : List Row) (elder : List (List ℕ)) (name : List ℕ) (t : Tree) (next : Next CommandPlace)
     → named name (codes "filter") ≡ false → named name (codes "projection") ≡ false
     → (named name (codes "min") || (named name (codes "max") || named name (codes "let"))) ≡ false
-    → Judges rows Find elder (entry name t) (Ok nexts.Passed)
-find_other rows elder name t p q h =
+    → IsOther rows (find_kind name) (entry name t) next
+    → Judges rows Find elder (entry name t) (Ok next)
+find_other rows elder name t next p q h told =
     let k = second_of_two (named name (codes "min")) (named name (codes "max") || named name (codes "let")) h in
-    find_rest rows elder name t p q
+    find_rest rows elder name t next p q
     (first_of_two (named name (codes "min")) (named name (codes "max") || named name (codes "let")) h)
     (first_of_two (named name (codes "max")) (named name (codes "let")) k)
-    (second_of_two (named name (codes "max")) (named name (codes "let")) k)
+    (second_of_two (named name (codes "max")) (named name (codes "let")) k) told
 
 -- an item of `updates`: `q`
 query_at : (rows : List Row) (elder : List (List ℕ)) (t : Tree) (fits again : Bool) → (tag_of t == 3) ≡ fits
@@ -288,8 +341,13 @@ array_filters_at : (rows : List Row) (elder : List (List ℕ)) (t : Tree) (again
     → is_among (codes "arrayFilters") elder ≡ again
     → Some (unusable_reason again) ≡ ruled_offence rows UpdateItem elder (entry (codes "arrayFilters") t)
 unfolding named ruled_offence is_again
-array_filters_at rows elder t true q = rw q refl
-array_filters_at rows elder t false q = rw q refl
+array_filters_at rows elder t true q =
+    let row : Some BadField ≡ least (of_row rows UpdateItem elder (entry (codes "arrayFilters") t)) = rw q refl in
+    row ∙ sym (update_item_offence rows elder (entry (codes "arrayFilters") t))
+array_filters_at rows elder t false q =
+    let row : Some FieldNotAllowed ≡ least (of_row rows UpdateItem elder (entry (codes "arrayFilters") t)) =
+    rw q refl in
+    row ∙ sym (update_item_offence rows elder (entry (codes "arrayFilters") t))
 
 pub array_filters_unusable : (rows : List Row) (elder : List (List ℕ)) (name : List ℕ) (t : Tree)
     → named name (codes "arrayFilters") ≡ true
@@ -303,8 +361,12 @@ array_filters_unusable rows elder name t h =
 constants_at : (rows : List Row) (elder : List (List ℕ)) (t : Tree) (again : Bool) → is_among (codes "c") elder ≡ again
     → Some (unusable_reason again) ≡ ruled_offence rows UpdateItem elder (entry (codes "c") t)
 unfolding named ruled_offence is_again
-constants_at rows elder t true q = rw q refl
-constants_at rows elder t false q = rw q refl
+constants_at rows elder t true q =
+    let row : Some BadField ≡ least (of_row rows UpdateItem elder (entry (codes "c") t)) = rw q refl in
+    row ∙ sym (update_item_offence rows elder (entry (codes "c") t))
+constants_at rows elder t false q =
+    let row : Some FieldNotAllowed ≡ least (of_row rows UpdateItem elder (entry (codes "c") t)) = rw q refl in
+    row ∙ sym (update_item_offence rows elder (entry (codes "c") t))
 
 pub constants_unusable : (rows : List Row) (elder : List (List ℕ)) (name : List ℕ) (t : Tree)
     → named name (codes "c") ≡ true
@@ -362,20 +424,25 @@ change_station rows name t h d =
     (rw d refl)
 
 -- any other element
-update_item_rest : (rows : List Row) (elder : List (List ℕ)) (name : List ℕ) (t : Tree) → named name (codes "q") ≡ false
+update_item_rest : (rows : List Row) (elder : List (List ℕ)) (name : List ℕ) (t : Tree) (next : Next CommandPlace)
+    → named name (codes "q") ≡ false
     → named name (codes "u") ≡ false → named name (codes "arrayFilters") ≡ false → named name (codes "c") ≡ false
-    → Judges rows UpdateItem elder (entry name t) (Ok nexts.Passed)
+    → IsOther rows (update_item_kind name) (entry name t) next
+    → Judges rows UpdateItem elder (entry name t) (Ok next)
 unfolding ruled_offence is_again
-update_item_rest rows elder name t p q r s = (rw (p, q) refl, tt, rw (p, q, r, s) refl)
+update_item_rest rows elder name t next p q r s told =
+    let row : None ≡ least (of_row rows UpdateItem elder (entry name t)) = rw (p, q, r, s) refl in
+    (rw (p, q) told.0, told.1, row ∙ sym (update_item_offence rows elder (entry name t)))
 
-pub update_item_other : (rows : List Row) (elder : List (List ℕ)) (name : List ℕ) (t : Tree)
+pub update_item_other : (rows : List Row) (elder : List (List ℕ)) (name : List ℕ) (t : Tree) (next : Next CommandPlace)
     → named name (codes "q") ≡ false → named name (codes "u") ≡ false
     → (named name (codes "arrayFilters") || named name (codes "c")) ≡ false
-    → Judges rows UpdateItem elder (entry name t) (Ok nexts.Passed)
-update_item_other rows elder name t p q h =
-    update_item_rest rows elder name t p q
+    → IsOther rows (update_item_kind name) (entry name t) next
+    → Judges rows UpdateItem elder (entry name t) (Ok next)
+update_item_other rows elder name t next p q h told =
+    update_item_rest rows elder name t next p q
     (first_of_two (named name (codes "arrayFilters")) (named name (codes "c")) h)
-    (second_of_two (named name (codes "arrayFilters")) (named name (codes "c")) h)
+    (second_of_two (named name (codes "arrayFilters")) (named name (codes "c")) h) told
 
 -- an item of `deletes`: `q`
 delete_query_at : (rows : List Row) (elder : List (List ℕ)) (t : Tree) (fits again : Bool) → (tag_of t == 3) ≡ fits
@@ -399,10 +466,32 @@ delete_query_read rows elder name t result h is =
 
 -- any other element
 pub delete_item_other : (rows : List Row) (elder : List (List ℕ)) (name : List ℕ) (t : Tree)
-    → named name (codes "q") ≡ false
-    → Judges rows DeleteItem elder (entry name t) (Ok nexts.Passed)
+    (next : Next CommandPlace)
+    → named name (codes "q") ≡ false → IsOther rows (delete_item_kind name) (entry name t) next
+    → Judges rows DeleteItem elder (entry name t) (Ok next)
 unfolding ruled_offence is_again
-delete_item_other rows elder name t p = (rw p refl, tt, rw p refl)
+delete_item_other rows elder name t next p told =
+    let row : None ≡ least (of_row rows DeleteItem elder (entry name t)) = rw p refl in
+    (rw p told.0, told.1, row ∙ sym (delete_item_offence rows elder (entry name t)))
+
+-- of these nothing is refused by the rules, whatever they hold
+pub bounds_judged : (rows : List Row) (elder : List (List ℕ)) (e : Entry) → Judges rows Bounds elder e (Ok nexts.Passed)
+unfolding ruled_offence
+bounds_judged rows elder e = (refl, tt, refl)
+
+pub keys_judged : (rows : List Row) (elder : List (List ℕ)) (e : Entry) → Judges rows Keys elder e (Ok nexts.Passed)
+unfolding ruled_offence
+keys_judged rows elder e = (refl, tt, refl)
+
+pub index_keys_judged : (rows : List Row) (elder : List (List ℕ)) (e : Entry)
+    → Judges rows IndexKeys elder e (Ok nexts.Passed)
+unfolding ruled_offence
+index_keys_judged rows elder e = (refl, tt, refl)
+
+pub own_judged : (rows : List Row) (own : OwnDocument) (elder : List (List ℕ)) (e : Entry)
+    → Judges rows (Own own) elder e (Ok nexts.Passed)
+unfolding ruled_offence
+own_judged rows own elder e = (refl, tt, refl)
 
 -- the items of `updates`: documents that state `q` and `u`
 update_items_at : (rows : List Row) (elder : List (List ℕ)) (name : List ℕ) (t : Tree) (document query change : Bool)

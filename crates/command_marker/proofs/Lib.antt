@@ -17,3 +17,8 @@ pub mod ToldPlaces
 pub mod Judged
 pub mod Held
 pub mod Wholes
+pub mod OtherFields
+pub mod Projected
+pub mod BeyondTests
+pub mod Checked
+pub mod TargetsMore

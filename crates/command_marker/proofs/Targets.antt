@@ -66,7 +66,7 @@ pub other_none : (t : Tree) (word : List ℕ) → (tag_of t == 2) ≡ false
 other_none t word e = ap (λ (b : Bool). b && not (named (text_of (raw_of t)) word)) (sym e)
 
 -- the station of a command by the tests of its name, and what it is by none
-abbrev station_by : (i u d f p : Bool) → Station → Station
+abbrev pub station_by : (i u d f p : Bool) → Station → Station
 station_by i u d f p s = cond i Insert (cond u Update (cond d Delete (cond f Find (cond p Passed s))))
 
 marked_by : (i u d f p : Bool) (s : Station) → is_marked s ≡ false
@@ -154,7 +154,7 @@ either_none true = refl
 either_none false = refl
 
 -- `$db` stands among names and one more
-seen_more : (others : List (List ℕ)) (name : List ℕ)
+pub seen_more : (others : List (List ℕ)) (name : List ℕ)
     → is_among (codes "$db") (others ++ name ∷ []) ≡ (is_among (codes "$db") others || is_db name)
 unfolding is_db
 seen_more [] name = either_none (named (codes "$db") name) ∙ same_name (codes "$db") name _ _ refl refl
@@ -185,7 +185,7 @@ marked_offence db Delete elder e h = refl
 marked_offence db Find elder e h = refl
 marked_offence db _ elder e h = absurd (false≢true h)
 
-later_reason : (db command : List ℕ) (others : List (List ℕ)) (e : Entry)
+pub later_reason : (db command : List ℕ) (others : List (List ℕ)) (e : Entry)
     → least (of_field db (command ∷ others) e) ≡ least (later_reasons db command (is_among (codes "$db") others) e)
 later_reason db command others e =
     ap

@@ -25,6 +25,17 @@ first_reasons e =
     when (not (is_marked_name e.name)) NotACommand
     ++ when (is_marked_name e.name && (not (is_string e) || is_empty (text_of e.raw))) BadField
 
+-- the name of a command that a library takes
+abbrev pub is_wide_name : List ℕ → Bool
+is_wide_name name = is_marked_name name || is_library_name name
+
+-- the first field of a command that doesn't pass, to a library: no command that it takes; one whose value is no string,
+-- or is the empty one
+abbrev pub first_more : Entry → List Reason
+first_more e =
+    when (not (is_wide_name e.name)) NotACommand
+    ++ when (is_wide_name e.name && (not (is_string e) || is_empty (text_of e.raw))) BadField
+
 -- a later field of a command of this name, on the database `db`, where `$db` was seen before or not
 abbrev pub later_reasons : List ℕ → List ℕ → Bool → Entry → List Reason
 later_reasons db command seen e =

@@ -8,3 +8,4 @@ pub mod Written
 pub mod MarkedPlaces
 pub mod ToldPlaces
 pub mod Places
+pub mod Checked

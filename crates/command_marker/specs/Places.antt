@@ -1,12 +1,16 @@
 -- MongoDB commands: what the places of commands stand for, and what the judge of an element answers
-use Rattle.std.specs.Prelude.{◌≡◌, ℕ, Bool, false, List, Option, Some, None, Result, Ok, Err, ⊤, refl, if◌then◌else◌}
+use Rattle.std.specs.Prelude.{◌≡◌, ℕ, Bool, false, List, [], ◌∷◌, codes, Option, Some, None, Result, Ok, Err, ⊤, refl}
+use Rattle.std.specs.Prelude.{if◌then◌else◌}
 use Rattle.encrypt_schema.specs.declared.command.reason.Reason.{Reason}
 use Rattle.encrypt_schema.specs.declared.command.reason.Reason.TheVariants.{BadField, FieldNotAllowed}
 use Rattle.encrypt_schema.specs.Language.Row.{Row}
 use Rattle.encrypt_schema.specs.Commands.Offences.{ruled_offence}
 use Rattle.encrypt_schema.specs.Commands.Stations.{Entry, Station, Insert, Update, Delete, Find, Inserts, Updates}
 use Rattle.encrypt_schema.specs.Commands.Stations.{Deletes, UpdateItem, DeleteItem, Projection, station, has_role}
-use Rattle.encrypt_schema.specs.Commands.Stations.{Fields, Keys, IndexKeys, Indexes, Own, held_at}
+use Rattle.encrypt_schema.specs.Commands.Stations.{Fields, Keys, IndexKeys, Indexes, Own, Chosen, Bounds, held_at}
+use Rattle.encrypt_schema.specs.Commands.Stations.{other_at}
+use Rattle.encrypt_schema.specs.Commands.ListedFields.{delete_item_kind, delete_kind, find_kind, insert_kind}
+use Rattle.encrypt_schema.specs.Commands.ListedFields.{update_item_kind, update_kind}
 use Rattle.encrypt_schema.specs.Commands.Offences.{least, held_wrong}
 use Rattle.encrypt_schema.specs.declared.command.listed.FieldKind.{FieldKind}
 use Rattle.encrypt_schema.specs.Views.Walking.{station_next, StandsNext}
@@ -14,6 +18,8 @@ use Rattle.encrypt_schema.specs.declared.command.walking.Next.{Next}
 use Rattle.encrypt_schema.specs.declared.command.walking.Next.TheVariants as nexts
 use Rattle.filter_rules.specs.Places as filters
 use Rattle.update_rules.specs.UpdatePlaces.{UpdateStands, update_station, update_unprotected}
+use Rattle.command_marker.specs.declared.other_kinds.Holder.{Holder}
+use Rattle.command_marker.specs.declared.other_kinds.Holder.TheVariants as holders
 use Rattle.command_marker.specs.declared.places.CommandName.{CommandName}
 use Rattle.command_marker.specs.declared.places.CommandName.TheVariants as names
 use Rattle.command_marker.specs.declared.places.CommandPlace.{CommandPlace}
@@ -35,6 +41,8 @@ command_station places.Deletes rows = Deletes
 command_station places.UpdateItem rows = UpdateItem
 command_station places.DeleteItem rows = DeleteItem
 command_station places.Projection rows = Projection
+command_station places.Chosen rows = Chosen
+command_station places.Bounds rows = Bounds
 command_station (places.Fields listed) rows = Fields listed
 command_station places.Keys rows = Keys
 command_station places.IndexKeys rows = IndexKeys
@@ -60,6 +68,8 @@ command_unprotected places.Deletes rows = refl
 command_unprotected places.UpdateItem rows = refl
 command_unprotected places.DeleteItem rows = refl
 command_unprotected places.Projection rows = refl
+command_unprotected places.Chosen rows = refl
+command_unprotected places.Bounds rows = refl
 command_unprotected (places.Fields listed) rows = refl
 command_unprotected places.Keys rows = refl
 command_unprotected places.IndexKeys rows = refl
@@ -81,6 +91,29 @@ Judges rows s elder e result = Answers rows (station rows s e) (ruled_offence ro
 -- a listed field that holds this is judged right
 abbrev pub Holds : List Row → FieldKind → Entry → Result (Next CommandPlace) Reason → Type 0
 Holds rows kind e result = Answers rows (held_at kind e) (least (held_wrong rows kind e)) result
+
+-- what a field of this name holds that is no filter, no update and no stored document
+abbrev pub holder_kind : Holder → List ℕ → FieldKind
+holder_kind holders.Insert name = insert_kind name
+holder_kind holders.Update name = update_kind name
+holder_kind holders.Delete name = delete_kind name
+holder_kind holders.Find name = find_kind name
+holder_kind holders.UpdateItem name = update_item_kind name
+holder_kind holders.DeleteItem name = delete_item_kind name
+
+-- the names of fields that are judged by their own rules
+abbrev pub holder_reads : Holder → List (List ℕ)
+holder_reads holders.Insert = codes "documents" ∷ []
+holder_reads holders.Update = codes "updates" ∷ []
+holder_reads holders.Delete = codes "deletes" ∷ []
+holder_reads holders.Find = codes "filter" ∷ codes "projection" ∷ []
+holder_reads holders.UpdateItem = codes "q" ∷ codes "u" ∷ []
+holder_reads holders.DeleteItem = codes "q" ∷ []
+
+-- such a field is this
+abbrev pub IsOther : List Row → FieldKind → Entry → Next CommandPlace → Type 0
+IsOther rows kind e next =
+    (station_next command_station rows next ≡ other_at kind e) × StandsNext CommandStands rows next
 
 -- a value of the right type, at this place; or why it is refused
 abbrev pub inside_if : Bool → CommandPlace → Reason → Result (Next CommandPlace) Reason

@@ -11,6 +11,8 @@ use crate::fields::{read_array, read_document, unusable};
 use crate::names::{
     is_deletes, is_documents, is_filter, is_let, is_max, is_min, is_projection, is_updates,
 };
+use crate::other_kinds::Holder;
+use crate::others::other_field;
 use crate::places::{CommandName, CommandPlace};
 use bson_codec::{RawDoc, RawItem};
 use encrypt_schema::{Next, Reason};
@@ -48,7 +50,7 @@ fn judge_insert(
     if is_documents(name) {
         return read_array(CommandPlace::Inserts, document, k, item);
     }
-    Ok(Next::Passed)
+    Ok(other_field(Holder::Insert, item))
 }
 
 /// Judges field `k` of an update.
@@ -67,7 +69,7 @@ fn judge_update(
     if is_let(name) {
         return Err(unusable(document, k, item));
     }
-    Ok(Next::Passed)
+    Ok(other_field(Holder::Update, item))
 }
 
 /// Judges field `k` of a delete.
@@ -86,7 +88,7 @@ fn judge_delete(
     if is_let(name) {
         return Err(unusable(document, k, item));
     }
-    Ok(Next::Passed)
+    Ok(other_field(Holder::Delete, item))
 }
 
 /// Whether a find can't use the field of this name.
@@ -117,5 +119,5 @@ fn judge_find(
     if is_unusable(name) {
         return Err(unusable(document, k, item));
     }
-    Ok(Next::Passed)
+    Ok(other_field(Holder::Find, item))
 }

@@ -1,17 +1,19 @@
 //! The contents of commands: which of their values are marked, and where one is refused.
 
-ghost use Rattle.std.specs.Prelude.{◌≡◌, codes, not, true};
+ghost use Rattle.std.specs.Prelude.{◌≡◌, codes, not, true, List};
 ghost use Rattle.encrypt_schema.specs.Language.Names.{is_among};
 ghost use Rattle.encrypt_schema.specs.declared.command.reason.Reason.TheVariants.{BadField};
 ghost use Rattle.encrypt_schema.specs.Commands.Offences.{both_or_none, command_lacks, when};
 ghost use Rattle.encrypt_schema.specs.Commands.Stations.{Fields, command_of};
 ghost use Rattle.encrypt_schema.specs.Commands.Visits.{command_visits, names_of};
 ghost use Rattle.encrypt_schema.specs.Views.Walking.{MarksPlaces};
-ghost use Rattle.command_marker.specs.Commands.{first_name, is_library_command, is_marked_command};
-ghost use Rattle.command_marker.specs.Places.{name_station};
+ghost use Rattle.command_marker.specs.Commands.{first_name, is_library_command, is_marked_command, is_wide_command};
+ghost use Rattle.command_marker.specs.Places.{CommandStands, command_station, name_station};
+ghost use Rattle.encrypt_schema.specs.Language.Row.{Row};
 
 use crate::names::{
-    is_count, is_delete, is_distinct, is_find_and_modify, is_insert, is_library_name, is_update,
+    is_count, is_delete, is_distinct, is_find_and_modify, is_insert, is_library_name, is_marked,
+    is_update,
 };
 use crate::places::{CommandName, CommandPlace};
 use bson_codec::RawDoc;
@@ -85,6 +87,16 @@ pub fn is_library(command: &RawDoc<'_>) -> bool
     is_library_name(first_name(command))
 }
 
+/// Whether it is a command that a library takes: one whose values are protected, or one that a library alone takes.
+pub fn is_wide(command: &RawDoc<'_>) -> bool
+    ensures wide { result ≡ is_wide_command command.now.tree }
+{
+    if is_marked(first_name(command)) {
+        return true;
+    }
+    is_library(command)
+}
+
 /// Which command of a library it is.
 fn library_name(command: &RawDoc<'_>) -> Listed
     requires library { is_library_command command.now.tree ≡ true }
@@ -101,6 +113,18 @@ fn library_name(command: &RawDoc<'_>) -> Listed
         return Listed::Distinct;
     }
     Listed::CreateIndexes
+}
+
+/// The place of a command that a library takes.
+pub(crate) fn wide_place(command: &RawDoc<'_>) -> CommandPlace
+    requires wide { is_wide_command command.now.tree ≡ true }
+    ensures station { (rows : List Row) → command_station result rows ≡ command_of (names_of command.now.tree) }
+    ensures stands { (rows : List Row) → CommandStands result rows }
+{
+    if is_library(command) {
+        return CommandPlace::Fields(library_name(command));
+    }
+    CommandPlace::Command(command_name(command))
 }
 
 /// Whether a distinct lacks `key`.

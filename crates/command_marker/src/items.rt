@@ -1,21 +1,21 @@
-//! The items of commands: what stands in their arrays, and in projections.
+//! The items of commands: what stands in their arrays.
 
-ghost use Rattle.std.specs.Prelude.{◌≡◌, ◌==◌, ◌||◌, ◌&&◌, not, codes, true, ℕ, List, take};
+ghost use Rattle.std.specs.Prelude.{◌≡◌, ◌==◌, ◌||◌, ◌&&◌, codes, true, ℕ, List, take};
 ghost use Rattle.bson_tree.specs.Tree.{kids_of, tag_of};
 ghost use Rattle.encrypt_schema.specs.Language.Names.{is_among, named};
 ghost use Rattle.encrypt_schema.specs.Language.Row.{Row};
-ghost use Rattle.encrypt_schema.specs.Commands.Offences.{is_slice_or_meta};
 ghost use Rattle.encrypt_schema.specs.Commands.Stations.{Inserts, Updates, Deletes, UpdateItem, DeleteItem};
-ghost use Rattle.encrypt_schema.specs.Commands.Stations.{Projection, update_of};
+ghost use Rattle.encrypt_schema.specs.Commands.Stations.{update_of};
 ghost use Rattle.encrypt_schema.specs.Commands.Visits.{entry, names_of};
 ghost use Rattle.command_marker.specs.Places.{Judges};
 ghost use Rattle.update_rules.specs.UpdatePlaces.{UpdateStands, update_station};
 
 use crate::fields::{read_document, stands_again, unusable};
 use crate::names::{
-    is_array_filters, is_change, is_constants, is_meta, is_query, is_slice, states_change,
-    states_query,
+    is_array_filters, is_change, is_constants, is_query, states_change, states_query,
 };
+use crate::other_kinds::Holder;
+use crate::others::other_field;
 use crate::places::CommandPlace;
 use bson_codec::{RawDoc, RawItem};
 use bson_tree::types;
@@ -91,7 +91,7 @@ pub(crate) fn judge_delete_item(
         let filter = CommandPlace::Filter(FilterPlace::Filter);
         return read_document(filter, document, k, item);
     }
-    Ok(Next::Passed)
+    Ok(other_field(Holder::DeleteItem, item))
 }
 
 /// Whether an item of `updates` can't use the field of this name.
@@ -122,7 +122,7 @@ pub(crate) fn judge_update_item(
     if is_unusable(name) {
         return Err(unusable(document, k, item));
     }
-    Ok(Next::Passed)
+    Ok(other_field(Holder::UpdateItem, item))
 }
 
 /// Judges element `k` of an item of `updates`, which is its update.
@@ -157,51 +157,5 @@ pub(crate) fn change_place(rows: &Rows, item: &RawItem<'_>) -> UpdatePlace
     match item.child() {
         Some(update) => update_place(rows, &update),
         None => UpdatePlace::Document(rows.root()),
-    }
-}
-
-/// Whether a document has one name alone, and that is `$slice` or `$meta`.
-fn is_slice_or_meta(document: &RawDoc<'_>) -> bool
-    ensures { result ≡ is_slice_or_meta (names_of document.now.tree) }
-{
-    let mut items = document.items();
-    match items.next() {
-        Some(first) => match items.next() {
-            Some(_) => false,
-            None => is_slice(first.name()) || is_meta(first.name()),
-        },
-        None => false,
-    }
-}
-
-/// Whether a value is a document, or an array, with one name alone, and that is `$slice` or `$meta`.
-fn holds_slice_or_meta(item: &RawItem<'_>) -> bool
-    ensures { result ≡ is_slice_or_meta (names_of (kids_of item.now.tree)) }
-{
-    match item.child() {
-        Some(inside) => is_slice_or_meta(&inside),
-        None => false,
-    }
-}
-
-/// Whether an element of a projection can't be used: an array, or a document without `$slice` or `$meta` alone.
-fn is_refused_projection(item: &RawItem<'_>) -> bool
-    ensures { result
-        ≡ ((tag_of item.now.tree == 4) || ((tag_of item.now.tree == 3)
-        && not (is_slice_or_meta (names_of (kids_of item.now.tree))))) }
-{
-    item.tag() == types::ARRAY || (item.tag() == types::DOCUMENT && !holds_slice_or_meta(item))
-}
-
-/// Judges an element of a projection.
-#[tactic(auto, unfolding(encrypt_schema::specs::Commands::Offences::ruled_offence))]
-pub(crate) fn judge_projection(item: &RawItem<'_>) -> Result<Next<CommandPlace>, Reason>
-    ensures judged { (rows : List Row) (elder : List (List ℕ)) →
-        Judges rows Projection elder (entry item.now.name item.now.tree) result }
-{
-    if is_refused_projection(item) {
-        Err(Reason::FieldNotAllowed)
-    } else {
-        Ok(Next::Passed)
     }
 }

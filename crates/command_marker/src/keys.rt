@@ -4,7 +4,7 @@ ghost use Rattle.std.specs.Prelude.{◌≡◌, ◌==◌, ◌&&◌, ℕ, List};
 ghost use Rattle.bson_tree.specs.Tree.{tag_of};
 ghost use Rattle.encrypt_schema.specs.Commands.ListedFields.{is_index_type};
 ghost use Rattle.encrypt_schema.specs.Commands.Offences.{is_index_key, is_said, text_of};
-ghost use Rattle.encrypt_schema.specs.Commands.Stations.{IndexKeys, Indexes, Keys};
+ghost use Rattle.encrypt_schema.specs.Commands.Stations.{Indexes};
 ghost use Rattle.encrypt_schema.specs.Commands.Visits.{entry, raw_of};
 ghost use Rattle.encrypt_schema.specs.Language.Row.{Row};
 ghost use Rattle.command_marker.specs.Places.{Judges};
@@ -16,23 +16,10 @@ use encrypt_schema::{Listed, Next, Reason, is_named};
 
 /// Whether an order, or a choice of fields, is said by a value of this type: a number or a bool.
 #[tactic(auto, unfolding(encrypt_schema::specs::Commands::Offences::is_said))]
-fn is_said(tag: u8) -> bool
+pub(crate) fn is_said(tag: u8) -> bool
     ensures { result ≡ is_said tag }
 {
     tag == types::DOUBLE || tag == types::BOOL || tag == types::INT || tag == types::LONG
-}
-
-/// Judges an element of an order, or of a choice of fields.
-#[tactic(auto, unfolding(encrypt_schema::specs::Commands::Offences::ruled_offence))]
-pub(crate) fn judge_keys(item: &RawItem<'_>) -> Result<Next<CommandPlace>, Reason>
-    ensures judged { (rows : List Row) (elder : List (List ℕ)) →
-        Judges rows Keys elder (entry item.now.name item.now.tree) result }
-{
-    if is_said(item.tag()) {
-        Ok(Next::Passed)
-    } else {
-        Err(Reason::FieldNotAllowed)
-    }
 }
 
 /// Whether this is the name of a type of index.
@@ -71,23 +58,10 @@ fn names_type(item: &RawItem<'_>) -> bool
 
 /// Whether the keys of an index may have this value: a number, a bool, or the name of a type of index.
 #[tactic(auto, unfolding(encrypt_schema::specs::Commands::Offences::is_index_key))]
-fn is_index_key(item: &RawItem<'_>) -> bool
+pub(crate) fn is_index_key(item: &RawItem<'_>) -> bool
     ensures { result ≡ is_index_key (entry item.now.name item.now.tree) }
 {
     is_said(item.tag()) || names_type(item)
-}
-
-/// Judges an element of the keys of an index.
-#[tactic(auto, unfolding(encrypt_schema::specs::Commands::Offences::ruled_offence))]
-pub(crate) fn judge_index_keys(item: &RawItem<'_>) -> Result<Next<CommandPlace>, Reason>
-    ensures judged { (rows : List Row) (elder : List (List ℕ)) →
-        Judges rows IndexKeys elder (entry item.now.name item.now.tree) result }
-{
-    if is_index_key(item) {
-        Ok(Next::Passed)
-    } else {
-        Err(Reason::FieldNotAllowed)
-    }
 }
 
 /// Judges an element of `indexes`.

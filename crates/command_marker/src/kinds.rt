@@ -89,7 +89,7 @@ fn is_write_concern(name: &[u8]) -> bool
 }
 
 /// Whether this is the name of a hint.
-fn is_hint(name: &[u8]) -> bool
+pub(crate) fn is_hint(name: &[u8]) -> bool
     ensures { result ≡ named name.now (codes "hint") }
 {
     is_named(name, b"hint")
@@ -135,7 +135,7 @@ pub(crate) fn envelope_kind(name: &[u8]) -> FieldKind
 }
 
 /// What a field of this name holds, which a command that reads a collection may have.
-fn reading_kind(name: &[u8]) -> FieldKind
+pub(crate) fn reading_kind(name: &[u8]) -> FieldKind
     ensures { result ≡ reading_kind name.now }
 {
     if is_hint(name) {

@@ -16,6 +16,10 @@
 //! It reads no schema and seals nothing, and whether the collection is a view is the caller's to ask.
 #![tactic(auto)]
 
+mod beyond;
+mod beyond_fields;
+mod beyond_values;
+mod checking;
 mod commands;
 mod contents;
 mod destination;
@@ -28,18 +32,21 @@ pub mod laws;
 mod listed;
 mod marked;
 mod names;
+mod other_kinds;
+mod others;
 mod owned;
 mod places;
+mod projections;
 mod replying;
 mod sizes;
 mod splicing;
 mod stop;
 mod targeting;
 
-pub use contents::is_library;
+pub use contents::{is_library, is_wide};
 pub use destination::Target;
-pub use marked::{Marked, mark_command, mark_library};
+pub use marked::{Marked, mark_command, mark_more, mark_wide};
 pub use replying::{reply, reply_clear};
 pub use splicing::{key_of, next_mark, step_of};
 pub use stop::ReplyFault;
-pub use targeting::target;
+pub use targeting::{target, target_more};

@@ -1,11 +1,12 @@
 //! Commands with the marks of their protected values.
 
-ghost use Rattle.std.specs.Prelude.{◌≡◌, None, false, true};
+ghost use Rattle.std.specs.Prelude.{◌≡◌, None, Ok, false, true};
 ghost use Rattle.encrypt_schema.specs.Commands.Visits.{content_verdict, roles};
-ghost use Rattle.command_marker.specs.Commands.{MarksAs, TellsMarks, is_library_command, is_marked_command};
-ghost use Rattle.command_marker.specs.Commands.{passes};
+ghost use Rattle.command_marker.specs.Commands.{MarksAs, MarksMore, TellsMarks, TellsMore, is_library_command};
+ghost use Rattle.command_marker.specs.Commands.{is_marked_command, is_wide_command, passes};
 
-use crate::contents::{mark_contents, mark_listed};
+use crate::checking::check_contents;
+use crate::contents::{is_library, mark_contents, mark_listed};
 use bson_codec::RawDoc;
 use encrypt_schema::{MarkFault, Marks, Rows};
 use std::alloc::Global;
@@ -89,20 +90,17 @@ pub fn mark_command<'a>(
     }
 }
 
-/// Marks the protected values of a command that a library takes beyond those, a count, a findAndModify, a distinct or a
-/// createIndexes, as `is_library` tells; else the first place that is refused, by its contents. Of a field that isn't
-/// listed nothing is sent: it is refused. What its filters and updates hold is judged as in the other commands, so a
-/// value of `$exists`, `$comment` or `$unset` stands as it is. Without rules nothing is marked and nothing is refused.
-/// `Memory` may come at any time.
-pub fn mark_library<'a>(
+/// Marks the protected values of a command that a library takes, as `is_wide` tells: by its contents alone, as
+/// `mark_command` does. A library asks `mark_more` in its place before it sends anything.
+pub fn mark_wide<'a>(
     alloc: Global,
     rows: &'a Rows,
     command: RawDoc<'a>,
 ) -> Result<Marked<'a>, MarkFault>
-    requires library { is_library_command command.tree ≡ true }
+    requires wide { is_wide_command command.tree ≡ true }
     ensures marks { MarksAs rows.now command.entry result }
 {
-    match listed_marks(alloc, rows, &command) {
+    match wide_marks(alloc, rows, &command) {
         Ok(marks) => Ok(Marked {
             marks,
             command,
@@ -112,7 +110,63 @@ pub fn mark_library<'a>(
     }
 }
 
-/// The marks of the protected values of such a command.
+/// Marks the protected values of a command that a library takes: one of those, or a count, a findAndModify, a distinct
+/// or a createIndexes, as `is_wide` tells; else the first place that is refused, by its contents, and if none is, the
+/// first that a library refuses beyond these: of a field that isn't listed nothing is sent, and no value where none
+/// belongs. Without rules nothing is marked and nothing is refused. `Memory` may come at any time.
+pub fn mark_more<'a>(
+    alloc: Global,
+    rows: &'a Rows,
+    command: RawDoc<'a>,
+) -> Result<Marked<'a>, MarkFault>
+    requires wide { is_wide_command command.tree ≡ true }
+    ensures marks { MarksMore rows.now command.entry result }
+{
+    match more_marks(alloc, rows, &command) {
+        Ok(marks) => Ok(Marked {
+            marks,
+            command,
+            rows,
+        }),
+        Err(fault) => Err(fault),
+    }
+}
+
+/// The marks of the protected values of such a command, if a library doesn't refuse its contents.
+fn more_marks(alloc: Global, rows: &Rows, command: &RawDoc<'_>) -> Result<Marks, MarkFault>
+    requires wide { is_wide_command command.now.tree ≡ true }
+    ensures marks { TellsMore rows.now command.now result }
+{
+    match wide_marks(alloc, rows, command) {
+        Ok(marks) => checked(rows, command, marks),
+        Err(fault) => Err(fault),
+    }
+}
+
+/// The marks of a command, if a library refuses nothing beyond its contents.
+fn checked(rows: &Rows, command: &RawDoc<'_>, marks: Marks) -> Result<Marks, MarkFault>
+    requires wide { is_wide_command command.now.tree ≡ true }
+    requires marked { TellsMarks rows.now command.now (Ok marks) }
+    ensures marks { TellsMore rows.now command.now result }
+{
+    match check_contents(rows, command) {
+        Ok(()) => Ok(marks),
+        Err(fault) => Err(fault),
+    }
+}
+
+/// The marks of the protected values of such a command, if its contents aren't refused.
+fn wide_marks(alloc: Global, rows: &Rows, command: &RawDoc<'_>) -> Result<Marks, MarkFault>
+    requires wide { is_wide_command command.now.tree ≡ true }
+    ensures marks { TellsMarks rows.now command.now result }
+{
+    if is_library(command) {
+        return listed_marks(alloc, rows, command);
+    }
+    marks_of(alloc, rows, command)
+}
+
+/// The marks of the protected values of a command that a library alone takes.
 fn listed_marks(alloc: Global, rows: &Rows, command: &RawDoc<'_>) -> Result<Marks, MarkFault>
     requires library { is_library_command command.now.tree ≡ true }
     ensures marks { TellsMarks rows.now command.now result }

@@ -6,7 +6,7 @@ ghost use Rattle.encrypt_schema.specs.Language.Names.{is_among, named};
 ghost use Rattle.encrypt_schema.specs.Commands.Visits.{names_of};
 ghost use Rattle.encrypt_schema.specs.Commands.Offences.{is_db};
 ghost use Rattle.encrypt_schema.specs.Commands.Stations.{is_passed};
-ghost use Rattle.command_marker.specs.Fields.{is_library_name, is_marked_name};
+ghost use Rattle.command_marker.specs.Fields.{is_library_name, is_marked_name, is_wide_name};
 
 use bson_codec::RawItem;
 use encrypt_schema::{has_name, is_named};
@@ -94,6 +94,13 @@ pub(crate) fn is_library_name(name: &[u8]) -> bool
         return false;
     }
     is_one_of_a_library(name)
+}
+
+/// Whether this is the name of a command that a library takes.
+pub(crate) fn is_wide_name(name: &[u8]) -> bool
+    ensures { result ≡ is_wide_name name.now }
+{
+    is_marked(name) || is_library_name(name)
 }
 
 /// Whether this is the name of a command that passes unchanged.

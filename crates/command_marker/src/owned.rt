@@ -1,18 +1,14 @@
 //! Documents whose names are MongoDB's own: sessions, cluster times, preferences, concerns, collations.
 
-ghost use Rattle.std.specs.Prelude.{◌≡◌, ◌==◌, ◌||◌, ℕ, List};
+ghost use Rattle.std.specs.Prelude.{◌≡◌, ◌==◌, ◌||◌};
 ghost use Rattle.bson_tree.specs.Tree.{tag_of};
 ghost use Rattle.encrypt_schema.specs.Commands.ListedFields.{is_own, is_own_branch};
 ghost use Rattle.encrypt_schema.specs.Commands.Offences.{is_own_field};
-ghost use Rattle.encrypt_schema.specs.Commands.Stations.{Own};
 ghost use Rattle.encrypt_schema.specs.Commands.Visits.{entry};
-ghost use Rattle.encrypt_schema.specs.Language.Row.{Row};
-ghost use Rattle.command_marker.specs.Places.{Judges};
 
-use crate::places::CommandPlace;
 use bson_codec::RawItem;
 use bson_tree::types;
-use encrypt_schema::{Next, OwnDocument, Reason, is_named};
+use encrypt_schema::{OwnDocument, is_named};
 
 /// Whether a session has one value of this name.
 #[tactic(auto, unfolding(encrypt_schema::specs::Commands::ListedFields::is_own))]
@@ -200,21 +196,8 @@ pub(crate) fn is_branch(item: &RawItem<'_>) -> bool
 
 /// Whether such a document has an element of this name and type.
 #[tactic(auto, unfolding(encrypt_schema::specs::Commands::Offences::is_own_field))]
-fn is_own_field(own: OwnDocument, item: &RawItem<'_>) -> bool
+pub(crate) fn is_own_field(own: OwnDocument, item: &RawItem<'_>) -> bool
     ensures { result ≡ is_own_field own (entry item.now.name item.now.tree) }
 {
     is_own_branch(own, item.name()) || (is_own(own, item.name()) && !is_branch(item))
-}
-
-/// Judges an element of a document whose names are MongoDB's own.
-#[tactic(auto, unfolding(encrypt_schema::specs::Commands::Offences::ruled_offence))]
-pub(crate) fn judge_own(own: OwnDocument, item: &RawItem<'_>) -> Result<Next<CommandPlace>, Reason>
-    ensures judged { (rows : List Row) (elder : List (List ℕ)) →
-        Judges rows (Own own) elder (entry item.now.name item.now.tree) result }
-{
-    if is_own_field(own, item) {
-        Ok(Next::Passed)
-    } else {
-        Err(Reason::FieldNotAllowed)
-    }
 }

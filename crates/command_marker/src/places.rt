@@ -10,12 +10,11 @@ ghost use Rattle.update_rules.specs.UpdatePlaces.{UpdateStands, update_station};
 
 use crate::commands::judge_command;
 use crate::items::{
-    judge_delete_item, judge_deletes, judge_inserts, judge_projection, judge_update_item,
-    judge_updates,
+    judge_delete_item, judge_deletes, judge_inserts, judge_update_item, judge_updates,
 };
-use crate::keys::{judge_index_keys, judge_indexes, judge_keys};
+use crate::keys::judge_indexes;
 use crate::listed::judge_listed;
-use crate::owned::judge_own;
+use crate::projections::{judge_chosen, judge_projection};
 use bson_codec::{RawDoc, RawItem};
 use encrypt_schema::{JudgingPlace, Listed, Next, OwnDocument, Reason, Rows};
 use filter_rules::FilterPlace;
@@ -51,6 +50,10 @@ pub(crate) enum CommandPlace {
     DeleteItem,
     /// The projection of a find.
     Projection,
+    /// A document in a projection.
+    Chosen,
+    /// The array of a `$slice`.
+    Bounds,
     /// A document of which each field is listed.
     Fields(Listed),
     /// An order, or a choice of fields.
@@ -88,10 +91,12 @@ impl JudgingPlace for CommandPlace {
             CommandPlace::DeleteItem => judge_delete_item(document, k, item),
             CommandPlace::Projection => judge_projection(item),
             CommandPlace::Fields(listed) => judge_listed(listed, rows, document, k, item),
-            CommandPlace::Keys => judge_keys(item),
-            CommandPlace::IndexKeys => judge_index_keys(item),
+            CommandPlace::Chosen => judge_chosen(item),
+            CommandPlace::Bounds => Ok(Next::Passed),
+            CommandPlace::Keys => Ok(Next::Passed),
+            CommandPlace::IndexKeys => Ok(Next::Passed),
             CommandPlace::Indexes => judge_indexes(item),
-            CommandPlace::Own(own) => judge_own(own, item),
+            CommandPlace::Own(_own) => Ok(Next::Passed),
             CommandPlace::Filter(at) => judge_in_filter(at, rows, document, k, item),
             CommandPlace::Update(at) => judge_in_update(at, rows, document, k, item),
         }
@@ -108,6 +113,8 @@ impl JudgingPlace for CommandPlace {
             CommandPlace::UpdateItem => false,
             CommandPlace::DeleteItem => false,
             CommandPlace::Projection => false,
+            CommandPlace::Chosen => false,
+            CommandPlace::Bounds => false,
             CommandPlace::Fields(_) => false,
             CommandPlace::Keys => false,
             CommandPlace::IndexKeys => false,

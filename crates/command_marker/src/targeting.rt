@@ -4,11 +4,11 @@ ghost use Rattle.std.specs.Prelude.{◌≡◌, ◌||◌, ◌&&◌, not, true, fa
 ghost use Rattle.encrypt_schema.specs.Language.Names.{named};
 ghost use Rattle.encrypt_schema.specs.Commands.Offences.{is_empty, is_string, least, text_of};
 ghost use Rattle.encrypt_schema.specs.Commands.Visits.{entry, raw_of};
-ghost use Rattle.command_marker.specs.Commands.{AimsAt, Refuses};
-ghost use Rattle.command_marker.specs.Fields.{first_reasons, later_reasons, later_refusal};
+ghost use Rattle.command_marker.specs.Commands.{AimsAt, AimsMore, Refuses};
+ghost use Rattle.command_marker.specs.Fields.{first_more, first_reasons, later_reasons, later_refusal};
 
 use crate::destination::Target;
-use crate::names::{is_db, is_marked, is_passed};
+use crate::names::{is_db, is_marked, is_passed, is_wide_name};
 use bson_codec::{RawDoc, RawItem, RawIter};
 use bson_tree::types;
 use encrypt_schema::{MarkFault, Reason, is_named};
@@ -44,6 +44,48 @@ pub fn target<'a>(db: &[u8], command: &RawDoc<'a>) -> Result<Target<'a>, MarkFau
         Ok(()) => Ok(Target::Collection(name_in(&first))),
         Err(fault) => Err(fault),
     }
+}
+
+/// The same of a command that a library takes, which also knows a count, a findAndModify, a distinct and a
+/// createIndexes.
+pub fn target_more<'a>(db: &[u8], command: &RawDoc<'a>) -> Result<Target<'a>, MarkFault>
+    ensures aims { AimsMore db.now command.now result }
+{
+    let mut fields = command.items();
+    let Some(first) = fields.next() else {
+        return Err(MarkFault::Refused {
+            reason: Reason::NotACommand,
+            at: 0,
+        });
+    };
+    let name = first.name();
+    if is_passed(name) {
+        return Ok(Target::Pass);
+    }
+    let _ = first.value();
+    if let Some(reason) = first_more(&first) {
+        return Err(MarkFault::Refused {
+            reason,
+            at: first.start() as u32,
+        });
+    }
+    match check_fields(db, name, fields) {
+        Ok(()) => Ok(Target::Collection(name_in(&first))),
+        Err(fault) => Err(fault),
+    }
+}
+
+/// Why a library refuses the first field of a command that doesn't pass.
+fn first_more(field: &RawItem<'_>) -> Option<Reason>
+    ensures { result ≡ least (first_more (entry field.now.name field.now.tree)) }
+{
+    if !is_wide_name(field.name()) {
+        return Some(Reason::NotACommand);
+    }
+    if names_nothing(field) {
+        return Some(Reason::BadField);
+    }
+    None
 }
 
 /// Why the first field of a command that doesn't pass is refused.
@@ -130,7 +172,7 @@ fn names_another(field: &RawItem<'_>, word: &[u8]) -> bool
 }
 
 /// Whether there is no byte.
-fn is_empty(bytes: &[u8]) -> bool
+pub(crate) fn is_empty(bytes: &[u8]) -> bool
     ensures { result ≡ is_empty bytes.now }
 {
     match bytes {

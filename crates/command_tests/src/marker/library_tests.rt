@@ -4,9 +4,9 @@
 use crate::documents::{document_of, rows_of};
 use crate::marker::target_tests::{Outcome, compared, outcome_of, refusal, stored};
 use bson_codec::RawDoc;
-use command_marker::{is_library, mark_library};
+use command_marker::{is_wide, mark_more};
 use encrypt_schema::{Reason, Rows};
-use sample_documents::{INSERT, PEOPLE_SCHEMA, PING};
+use sample_documents::{PEOPLE_SCHEMA, PING};
 use std::alloc::Global;
 
 /// `{findAndModify: "people", query: {ssn: "x"}, update: {$set: {ssn: "y"}}, sort: {ssn: int 1}, $db: "hr"}`.
@@ -46,12 +46,29 @@ const PARTIAL: &[u8] =
 \x00\x00\x03partialFilterExpression\x00\x05\x00\x00\x00\x00\x00\x00\x02$db\x00\x03\
 \x00\x00\x00hr\x00\x00";
 
-/// What becomes of a command of a library under these rules; `None` where it is none, or where there was no memory.
+/// `{find: "people", sort: {ssn: "x"}, $db: "hr"}`.
+const FIND_BY_VALUE: &[u8] =
+    b"8\x00\x00\x00\x02find\x00\x07\x00\x00\x00people\x00\x03sort\x00\x10\x00\x00\x00\x02s\
+sn\x00\x02\x00\x00\x00x\x00\x00\x02$db\x00\x03\x00\x00\x00hr\x00\x00";
+
+/// `{find: "people", projection: {ssn: {$slice: [int 1, "x"]}}, $db: "hr"}`.
+const SLICE_BY_VALUE: &[u8] =
+    b"Z\x00\x00\x00\x02find\x00\x07\x00\x00\x00people\x00\x03projection\x00,\x00\x00\x00\
+\x03ssn\x00\x22\x00\x00\x00\x04$slice\x00\x15\x00\x00\x00\x100\x00\x01\x00\x00\x00\
+\x021\x00\x02\x00\x00\x00x\x00\x00\x00\x00\x02$db\x00\x03\x00\x00\x00hr\x00\x00";
+
+/// `{find: "people", lsid: {id: {ssn: "x"}}, $db: "hr"}`.
+const FIND_IN_SESSION: &[u8] =
+    b"A\x00\x00\x00\x02find\x00\x07\x00\x00\x00people\x00\x03lsid\x00\x19\x00\x00\x00\x03i\
+d\x00\x10\x00\x00\x00\x02ssn\x00\x02\x00\x00\x00x\x00\x00\x00\x02$db\x00\x03\x00\x00\
+\x00hr\x00\x00";
+
+/// What a library makes of a command under these rules; `None` where it takes none such, or where there was no memory.
 fn marked_for(alloc: Global, rows: &Rows, command: RawDoc<'_>) -> Option<Outcome> {
-    if !is_library(&command) {
+    if !is_wide(&command) {
         return None;
     }
-    match mark_library(alloc, rows, command) {
+    match mark_more(alloc, rows, command) {
         Ok(marked) => {
             let count = marked.marks().len();
             Some(Outcome::Marked(count, marked.marks().get(count.saturating_sub(1))))
@@ -90,6 +107,9 @@ fn what_may_hold_a_value_is_refused(rt: HostRuntime) {
         (ORDER, Reason::FieldNotAllowed, 66),
         (DISTINCT, Reason::BelowProtected, 30),
         (PARTIAL, Reason::FieldNotAllowed, 94),
+        (FIND_BY_VALUE, Reason::FieldNotAllowed, 36),
+        (SLICE_BY_VALUE, Reason::FieldNotAllowed, 68),
+        (FIND_IN_SESSION, Reason::FieldNotAllowed, 35),
     ];
     for (command, reason, at) in cases {
         assert!(rt; what_becomes(rt.alloc(), command) == Some(Outcome::Refused(*reason, *at)));
@@ -107,8 +127,16 @@ fn the_verbs_know_none_of_them(rt: HostRuntime) {
 }
 
 #[test]
+fn the_verbs_let_such_values_stand(rt: HostRuntime) {
+    let cases: &[&[u8]] = &[FIND_BY_VALUE, SLICE_BY_VALUE, FIND_IN_SESSION];
+    for command in cases {
+        assert!(rt; verbs_say(rt.alloc(), command) == Some(Outcome::Marked(0, None)));
+    }
+}
+
+#[test]
 fn no_other_command_is_a_library_s(rt: HostRuntime) {
-    let cases: &[&[u8]] = &[INSERT, PING];
+    let cases: &[&[u8]] = &[PING];
     for command in cases {
         assert!(rt; what_becomes(rt.alloc(), command).is_none());
     }

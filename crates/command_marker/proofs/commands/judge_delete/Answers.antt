@@ -32,9 +32,9 @@ returns c =
     let name = c.args.item.now.name in
     let t = c.args.item.now.tree in
     record {
-      judged = λ rows. delete_other rows elder name t
+      judged = λ rows. delete_other rows elder name t c.other_field.result
           (ap (λ (n : List ℕ). named n (codes "deletes")) (sym c.name-name.ensures.name) ∙ sym c.is_deletes.ensures
           ∙ c.if-is_deletes.false)
           (ap (λ (n : List ℕ). named n (codes "let")) (sym c.name-name.ensures.name) ∙ sym c.is_let.ensures
-          ∙ c.if-is_let.false);
+          ∙ c.if-is_let.false) (c.other_field.ensures.other rows);
     }

@@ -45,11 +45,12 @@ returns c =
     let name = c.args.item.now.name in
     let t = c.args.item.now.tree in
     record {
-      judged = λ rows. find_other rows elder name t
+      judged = λ rows. find_other rows elder name t c.other_field.result
           (ap (λ (n : List ℕ). named n (codes "filter")) (sym c.name-name.ensures.name) ∙ sym c.is_filter.ensures
           ∙ c.if-is_filter.false)
           (ap (λ (n : List ℕ). named n (codes "projection")) (sym c.name-name.ensures.name)
           ∙ sym c.is_projection.ensures ∙ c.if-is_projection.false)
           (ap (λ (n : List ℕ). named n (codes "min") || (named n (codes "max") || named n (codes "let")))
-          (sym c.name-name.ensures.name) ∙ sym c.is_unusable.ensures ∙ c.if-is_unusable.false);
+          (sym c.name-name.ensures.name) ∙ sym c.is_unusable.ensures ∙ c.if-is_unusable.false)
+          (c.other_field.ensures.other rows);
     }

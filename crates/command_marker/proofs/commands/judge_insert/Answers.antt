@@ -21,7 +21,7 @@ returns c =
     let name = c.args.item.now.name in
     let t = c.args.item.now.tree in
     record {
-      judged = λ rows. insert_other rows elder name t
+      judged = λ rows. insert_other rows elder name t c.other_field.result
           (ap (λ (n : List ℕ). named n (codes "documents")) (sym c.name-name.ensures.name) ∙ sym c.is_documents.ensures
-          ∙ c.if-is_documents.false);
+          ∙ c.if-is_documents.false) (c.other_field.ensures.other rows);
     }

@@ -32,9 +32,9 @@ returns c =
     let name = c.args.item.now.name in
     let t = c.args.item.now.tree in
     record {
-      judged = λ rows. update_other rows elder name t
+      judged = λ rows. update_other rows elder name t c.other_field.result
           (ap (λ (n : List ℕ). named n (codes "updates")) (sym c.name-name.ensures.name) ∙ sym c.is_updates.ensures
           ∙ c.if-is_updates.false)
           (ap (λ (n : List ℕ). named n (codes "let")) (sym c.name-name.ensures.name) ∙ sym c.is_let.ensures
-          ∙ c.if-is_let.false);
+          ∙ c.if-is_let.false) (c.other_field.ensures.other rows);
     }

@@ -21,7 +21,7 @@ returns c =
     let name = c.args.item.now.name in
     let t = c.args.item.now.tree in
     record {
-      judged = λ rows. delete_item_other rows elder name t
+      judged = λ rows. delete_item_other rows elder name t c.other_field.result
           (ap (λ (n : List ℕ). named n (codes "q")) (sym c.name-name.ensures.name) ∙ sym c.is_query.ensures
-          ∙ c.if-is_query.false);
+          ∙ c.if-is_query.false) (c.other_field.ensures.other rows);
     }

@@ -33,11 +33,11 @@ returns c =
     let name = c.args.item.now.name in
     let t = c.args.item.now.tree in
     record {
-      judged = update_item_other c.args.rows.now elder name t
+      judged = update_item_other c.args.rows.now elder name t c.other_field.result
           (ap (λ (n : List ℕ). named n (codes "q")) (sym c.name-name.ensures.name) ∙ sym c.is_query.ensures
           ∙ c.if-is_query.false)
           (ap (λ (n : List ℕ). named n (codes "u")) (sym c.name-name.ensures.name) ∙ sym c.is_change.ensures
           ∙ c.if-is_change.false)
           (ap (λ (n : List ℕ). named n (codes "arrayFilters") || named n (codes "c")) (sym c.name-name.ensures.name)
-          ∙ sym c.is_unusable.ensures ∙ c.if-is_unusable.false);
+          ∙ sym c.is_unusable.ensures ∙ c.if-is_unusable.false) (c.other_field.ensures.other c.args.rows.now);
     }

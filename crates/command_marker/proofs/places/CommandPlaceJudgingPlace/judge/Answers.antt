@@ -7,8 +7,10 @@ use Rattle.encrypt_schema.specs.Commands.Offences.{ruled_offence}
 use Rattle.encrypt_schema.specs.Commands.Stations.{Entry, station}
 use Rattle.encrypt_schema.specs.Commands.Visits.{entry, names_of}
 use Rattle.encrypt_schema.specs.Views.Walking.{StandsNext, station_next}
+use Rattle.encrypt_schema.specs.declared.command.walking.Next.TheVariants as nexts
 use Rattle.command_marker.specs.declared.places.CommandPlace.{CommandPlace}
 use Rattle.command_marker.specs.Places.{CommandStands, Judges, command_station}
+use Rattle.command_marker.proofs.Judged.{bounds_judged, index_keys_judged, keys_judged, own_judged}
 use Rattle.command_marker.proofs.places.CommandPlaceJudgingPlace.judge.Goals as goal
 
 -- what the judge of a place answers, in four clauses
@@ -122,13 +124,29 @@ returns-in-Fields c =
     (c.judge_listed.ensures.judged) in
     record { station = told.station; stands = told.stands; clean = told.clean; refused = told.refused }
 
+pub returns-in-Chosen : goal.returns-in-Chosen
+returns-in-Chosen c =
+    let rows = c.args.rows.now in
+    let elder = take c.args.k (names_of c.args.document.now.tree) in
+    let e = entry c.args.item.now.name c.args.item.now.tree in
+    let told = judged_at c.args.self _ rows elder e c.judge_chosen.result c.in-Chosen.is
+    (c.judge_chosen.ensures.judged rows elder) in
+    record { station = told.station; stands = told.stands; clean = told.clean; refused = told.refused }
+
+pub returns-in-Bounds : goal.returns-in-Bounds
+returns-in-Bounds c =
+    let rows = c.args.rows.now in
+    let elder = take c.args.k (names_of c.args.document.now.tree) in
+    let e = entry c.args.item.now.name c.args.item.now.tree in
+    let told = judged_at c.args.self _ rows elder e (Ok nexts.Passed) c.in-Bounds.is (bounds_judged rows elder e) in
+    record { station = told.station; stands = told.stands; clean = told.clean; refused = told.refused }
+
 pub returns-in-Keys : goal.returns-in-Keys
 returns-in-Keys c =
     let rows = c.args.rows.now in
     let elder = take c.args.k (names_of c.args.document.now.tree) in
     let e = entry c.args.item.now.name c.args.item.now.tree in
-    let told = judged_at c.args.self _ rows elder e c.judge_keys.result c.in-Keys.is
-    (c.judge_keys.ensures.judged rows elder) in
+    let told = judged_at c.args.self _ rows elder e (Ok nexts.Passed) c.in-Keys.is (keys_judged rows elder e) in
     record { station = told.station; stands = told.stands; clean = told.clean; refused = told.refused }
 
 pub returns-in-IndexKeys : goal.returns-in-IndexKeys
@@ -136,8 +154,8 @@ returns-in-IndexKeys c =
     let rows = c.args.rows.now in
     let elder = take c.args.k (names_of c.args.document.now.tree) in
     let e = entry c.args.item.now.name c.args.item.now.tree in
-    let told = judged_at c.args.self _ rows elder e c.judge_index_keys.result c.in-IndexKeys.is
-    (c.judge_index_keys.ensures.judged rows elder) in
+    let told = judged_at c.args.self _ rows elder e (Ok nexts.Passed) c.in-IndexKeys.is
+    (index_keys_judged rows elder e) in
     record { station = told.station; stands = told.stands; clean = told.clean; refused = told.refused }
 
 pub returns-in-Indexes : goal.returns-in-Indexes
@@ -154,6 +172,6 @@ returns-in-Own c =
     let rows = c.args.rows.now in
     let elder = take c.args.k (names_of c.args.document.now.tree) in
     let e = entry c.args.item.now.name c.args.item.now.tree in
-    let told = judged_at c.args.self _ rows elder e c.judge_own.result c.in-Own.is
-    (c.judge_own.ensures.judged rows elder) in
+    let told = judged_at c.args.self _ rows elder e (Ok nexts.Passed) c.in-Own.is
+    (own_judged rows c.in-Own._own elder e) in
     record { station = told.station; stands = told.stands; clean = told.clean; refused = told.refused }
