@@ -4,9 +4,12 @@ use Rattle.std.proofs.Common.{Some, None, refl, sym, ap, subst}
 use Rattle.std.proofs.lemmas.Bool.{false≢true}
 use Rattle.bson_codec.specs.Borrowed.{At}
 use Rattle.bson_tree.specs.Tree.{Items, no_items, item}
-use Rattle.command_marker.specs.Commands.{collection_in, is_marked_command}
-use Rattle.command_marker.specs.Fields.{is_marked_name, first_reasons}
+use Rattle.command_marker.specs.Commands.{collection_in, is_marked_command, is_wide_command}
+use Rattle.command_marker.specs.Fields.{is_marked_name, is_wide_name, first_more, first_reasons}
+use Rattle.command_marker.proofs.Checked.{wide_read}
 use Rattle.command_marker.proofs.Targets.{fields_told, marked_read, string_left}
+use Rattle.command_marker.proofs.TargetsMore.{fields_told as more_told}
+use Rattle.encrypt_schema.specs.Commands.More.{target_more_verdict}
 use Rattle.encrypt_schema.specs.Commands.Offences.{is_empty, is_string, least, text_of}
 use Rattle.encrypt_schema.specs.Commands.Stations.{is_passed}
 use Rattle.encrypt_schema.specs.Commands.Targets.{info_of}
@@ -74,3 +77,23 @@ pub found_info : (db : List ℕ) (infos : List Collection) (command : At)
     → target_verdict db command.start command.tree ≡ None → is_marked_command command.tree ≡ true
     → collection_of infos (collection_in command.tree) ≡ info_of infos command.tree
 found_info db infos command free marked = found_in db infos command.start command.tree free marked
+
+-- the same of a command that a library takes
+more_in : (db : List ℕ) (infos : List Collection) (at : ℕ) (c : Items) → target_more_verdict db at c ≡ None
+    → is_wide_command c ≡ true → collection_of infos (collection_in c) ≡ info_of infos c
+unfolding info_of
+more_in db infos at no_items free wide = absurd (false≢true wide)
+more_in db infos at (item name t is) free wide =
+    let passed : is_passed name ≡ false = wide_read (item name t is) wide in
+    let start = at + 4 + (2 + length name) in
+    let fields = sym (more_told db at name t is passed) ∙ free in
+    let first = first_none (refused_at start (least (first_more (entry name t)))) _ fields in
+    let string : is_string (entry name t) ≡ true =
+    string_left (is_wide_name name) (is_string (entry name t)) (is_empty (text_of (raw_of t)))
+    (sym (unrefused start _ first)) in
+    sym (ap (λ (b : Bool). cond b (collection_of infos (text_of (raw_of t))) None) string)
+
+pub found_more : (db : List ℕ) (infos : List Collection) (command : At)
+    → target_more_verdict db command.start command.tree ≡ None → is_wide_command command.tree ≡ true
+    → collection_of infos (collection_in command.tree) ≡ info_of infos command.tree
+found_more db infos command free wide = more_in db infos command.start command.tree free wide

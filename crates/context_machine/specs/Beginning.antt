@@ -2,7 +2,8 @@
 use Rattle.std.specs.Prelude.{◌≡◌, ◌+◌, ℕ, true, false, not, ◌&&◌, Option, Some, None, is_some, Result}
 use Rattle.std.specs.Prelude.{Ok, Err, length, if◌then◌else◌}
 use Rattle.bson_tree.specs.Tree.{Items, no_items, item}
-use Rattle.command_marker.specs.Commands.{collection_in, is_marked_command, passes}
+use Rattle.command_marker.specs.Commands.{collection_in, is_marked_command, is_wide_command, passes}
+use Rattle.encrypt_schema.specs.Commands.More.{target_more_verdict}
 use Rattle.encrypt_schema.specs.Commands.Offences.{is_view}
 use Rattle.encrypt_schema.specs.Commands.Visits.{target_verdict}
 use Rattle.encrypt_schema.specs.Language.Collection.{Collection}
@@ -28,6 +29,20 @@ BeginsAs s (Ok (begun.Ask asks)) =
 BeginsAs s (Err (faults.Refused reason at)) =
     target_verdict s.db s.command.start s.command.tree ≡ Some (record { reason = reason; at = at })
 BeginsAs s (Err faults.Memory) = ⊥
+
+-- the same of a command that a library takes
+abbrev pub BeginsMore : Started → Result Begun MarkFault → Type 0
+BeginsMore s (Ok (begun.Pass command)) =
+    (command ≡ s.command)
+    × (target_more_verdict s.db s.command.start s.command.tree ≡ None)
+    × (passes s.command.tree ≡ true)
+BeginsMore s (Ok (begun.Ask asks)) =
+    (asks ≡ record { command = s.command; info = None })
+    × (target_more_verdict s.db s.command.start s.command.tree ≡ None)
+    × (is_wide_command s.command.tree ≡ true)
+BeginsMore s (Err (faults.Refused reason at)) =
+    target_more_verdict s.db s.command.start s.command.tree ≡ Some (record { reason = reason; at = at })
+BeginsMore s (Err faults.Memory) = ⊥
 
 -- an info is kept where it has the name of the command's collection and none is kept
 abbrev pub fed_info : Asks → Collection → Asks

@@ -2,7 +2,7 @@
 
 ghost use Rattle.std.specs.Prelude.{◌≡◌, true, IfOk, None, option_copied};
 ghost use Rattle.bson_tree.specs.Spelling.{doc_bytes};
-ghost use Rattle.command_marker.specs.Commands.{collection_in, is_marked_command};
+ghost use Rattle.command_marker.specs.Commands.{collection_in, is_wide_command};
 ghost use Rattle.context_machine.specs.Asks.{collection_filter};
 ghost use Rattle.context_machine.specs.Beginning.{AsksMarkings, fed_info, first_value};
 ghost use Rattle.encrypt_schema.specs.Commands.Offences.{is_view};
@@ -15,7 +15,7 @@ use fle_outside::Memory;
 use std::alloc::Global;
 use std::marker::Model;
 
-/// An insert, an update, a delete or a find, and the info of its collection, if one is kept.
+/// A command with protected values perhaps, and the info of its collection, if one is kept.
 #[derive(Drop)]
 pub struct NeedCollInfo<'a> {
     command: RawDoc<'a>,
@@ -25,7 +25,7 @@ pub struct NeedCollInfo<'a> {
 
 impl<'a> Model for NeedCollInfo<'a> {
     ghost use Rattle.std.specs.Prelude.{◌≡◌, option_copied, true};
-    ghost use Rattle.command_marker.specs.Commands.{collection_in, is_marked_command};
+    ghost use Rattle.command_marker.specs.Commands.{collection_in, is_wide_command};
     ghost use Rattle.context_machine.specs.States.{Asks};
     ghost use Rattle.context_machine.specs.SealingCodes.{coded_asks};
 
@@ -35,13 +35,13 @@ impl<'a> Model for NeedCollInfo<'a> {
 
     ghost view = { λ s. record { command = s.command; info = option_copied s.info } };
 
-    ghost invariant = { λ s. (is_marked_command s.command.tree ≡ true) × (s.name.now ≡ collection_in s.command.tree) };
+    ghost invariant = { λ s. (is_wide_command s.command.tree ≡ true) × (s.name.now ≡ collection_in s.command.tree) };
 }
 
 impl<'a> NeedCollInfo<'a> {
     /// A command on the collection of this name.
     pub(crate) fn new(command: RawDoc<'a>, name: &'a [u8]) -> NeedCollInfo<'a>
-        requires marked { is_marked_command command.tree ≡ true }
+        requires wide { is_wide_command command.tree ≡ true }
         requires named { name.now ≡ collection_in command.tree }
         ensures asks { result ≡ record { command = command.entry; info = None } }
     {
