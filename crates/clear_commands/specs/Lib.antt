@@ -1,0 +1,3 @@
+pub mod ClearNames
+pub mod ClearFields
+pub mod ClearVerdicts
