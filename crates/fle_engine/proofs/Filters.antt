@@ -108,17 +108,25 @@ pub passing_draws : (rows : List Row) (c : Items) → passes c ≡ true → 0 �
 passing_draws rows c passing =
     sym (ap (λ (ms : List Mark). draws_of (sites_of rows (at_front c) ms)) (passing_roles rows 0 c passing))
 
+-- one that is marked under these rules draws them for its values
+pub draws_told : (infos : List Collection) (command : At) (state : Asks) (a : Answer) (told : ℕ)
+    → command.start ≡ 0 → state.command ≡ command → rows_of infos command.tree ≡ rows_in state.info
+    → TellsDraws (draws_of (values_of state.info state.command)) a told
+    → TellsDraws (command_draws (rows_of infos command.tree) command.tree) a told
+draws_told infos command state a told whole here rules tells =
+    let is : draws_of (values_of state.info state.command) ≡ command_draws (rows_of infos command.tree) command.tree =
+    ap (λ (rows : List Row). drawn_at rows state.command) (sym rules)
+    ∙ (ap (drawn_at (rows_of infos command.tree)) here
+    ∙ ap (drawn_at (rows_of infos command.tree)) (front_is command whole)) in
+    subst (λ (n : ℕ). TellsDraws n a told) is tells
+
 -- one that is marked draws them for the values of its collection's rules
 pub marking_draws : (infos : List Collection) (db : List ℕ) (command : At) (state : Asks) (a : Answer) (told : ℕ)
     → command.start ≡ 0 → StartsAs infos db command (Ok (starts.Marking state))
     → TellsDraws (draws_of (values_of state.info state.command)) a told
     → TellsDraws (command_draws (rows_of infos command.tree) command.tree) a told
 marking_draws infos db command state a told whole start tells =
-    let is : draws_of (values_of state.info state.command) ≡ command_draws (rows_of infos command.tree) command.tree =
-    ap (λ (rows : List Row). drawn_at rows state.command) (sym start.2)
-    ∙ (ap (drawn_at (rows_of infos command.tree)) start.0
-    ∙ ap (drawn_at (rows_of infos command.tree)) (front_is command whole)) in
-    subst (λ (n : ℕ). TellsDraws n a told) is tells
+    draws_told infos command state a told whole start.0 start.2 tells
 
 -- ---- a document
 

@@ -12,3 +12,7 @@ pub mod Loads
 pub mod Checks
 pub mod KeyAnswers
 pub mod NewTexts
+pub mod MoreRulings
+pub mod MoreAnswers
+pub mod MoreAsked
+mod Cleared

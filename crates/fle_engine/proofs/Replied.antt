@@ -33,7 +33,7 @@ answered_memory too_long c e = draws_none e
 
 -- ---- the reply is made, or above its limit
 
-over : (bytes : List ℕ) → reply_limit < length bytes → sized bytes ≡ too_long
+pub over : (bytes : List ℕ) → reply_limit < length bytes → sized bytes ≡ too_long
 over bytes above =
     let is : nat_lt reply_limit (length bytes) ≡ true = grind (arith, nat_tests) in
     ap (λ (b : Bool). cond b too_long (makes (plain_plan bytes))) is

@@ -1,6 +1,5 @@
 -- What is said of a command by itself, and of a reply to it that came from elsewhere.
 use Rattle.std.specs.Prelude.{◌≡◌, ℕ, List, Option, Some, None, Result, Ok, Err}
-use Rattle.bson_codec.specs.Borrowed.{At}
 use Rattle.bson_tree.specs.Places.{place_of}
 use Rattle.bson_tree.specs.Tree.{Items}
 use Rattle.encrypt_schema.specs.Commands.Targets.{rows_of}

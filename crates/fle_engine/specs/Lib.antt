@@ -11,3 +11,5 @@ pub mod Engines
 pub mod Checking
 pub mod NewNames
 pub mod KeyRulings
+pub mod More
+pub mod Wide

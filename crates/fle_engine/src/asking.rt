@@ -103,7 +103,7 @@ fn ask_by_contents(alloc: Global, state: NeedMarkings<'_>, keys: &Vault) -> Aske
 }
 
 /// The keys that a command needs which isn't refused.
-fn ask_keys(alloc: Global, state: &NeedKeys<'_>, keys: &Vault) -> Asked
+pub(crate) fn ask_keys(alloc: Global, state: &NeedKeys<'_>, keys: &Vault) -> Asked
     ensures answers { (c : Items) (e : EntropySeen)
         → AnswerIs (filter_ruling keys.now (wanted_of state.now.info state.now.command)) c e e result.answer }
     ensures draws { TellsDraws (draws_of (values_of state.now.info state.now.command)) result.answer result.draws }

@@ -6,12 +6,14 @@ ghost use Rattle.fle_engine.specs.Answers.{AnswerIs};
 ghost use Rattle.fle_engine.specs.Engines.{EngineIs, cache_room};
 ghost use Rattle.fle_engine.specs.Loading.{parts_in};
 ghost use Rattle.fle_engine.specs.Sealing.{seal_ruling};
+ghost use Rattle.fle_engine.specs.Wide.{wide_ruling};
 
 use crate::answer::Answer;
 use crate::loading::{EngineFault, check_database, load_infos, load_keys, load_master};
 use crate::marker::Marker;
 use crate::opener::Opener;
 use crate::sealing::seal_command;
+use crate::wide::seal_wide;
 use bson_codec::RawDoc;
 use crypto_hooks::Block256;
 use encrypt_schema::Infos;
@@ -87,6 +89,35 @@ impl Engine {
             result }
     {
         seal_command(
+            alloc,
+            &self.marker.db,
+            &self.marker.infos,
+            &mut self.opener,
+            hooks,
+            command,
+            entropy,
+        )
+    }
+
+    /// The same for a library: more commands are sealed, and each is refused for what says a value where none belongs.
+    pub fn seal_more<B: Block256, N: Entropy>(
+        &mut self,
+        alloc: Global,
+        hooks: &B,
+        command: &RawDoc<'_>,
+        entropy: &mut N,
+    ) -> Answer
+        requires hooks { B.answers hooks.now }
+        requires whole { command.now.start ≡ 0 }
+        ensures rules { self.new.marker ≡ self.old.marker }
+        ensures same { (self.new.opener.keys ≡ self.old.opener.keys)
+            × (self.new.opener.cache.master ≡ self.old.opener.cache.master) }
+        ensures answers { AnswerIs
+            (wide_ruling (finder self.old.opener.keys self.old.opener.cache.master) self.old.marker.infos
+            self.old.marker.db.items command.now.tree) command.now.tree (N.seen entropy.old) (N.seen entropy.new)
+            result }
+    {
+        seal_wide(
             alloc,
             &self.marker.db,
             &self.marker.infos,

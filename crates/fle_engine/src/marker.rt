@@ -6,6 +6,7 @@ ghost use Rattle.fle_engine.specs.Answers.{AnswerIs};
 ghost use Rattle.fle_engine.specs.Checking.{AcceptsAs, TakesAs, wrong_to};
 ghost use Rattle.fle_engine.specs.Replies.{mark_ruling, replies, sized};
 ghost use Rattle.fle_engine.specs.Rulings.{contents_with};
+ghost use Rattle.fle_engine.specs.Wide.{wide_marking};
 ghost use Rattle.encrypt_schema.specs.Commands.Targets.{rows_in, verdict};
 ghost use Rattle.fle_outside.specs.Seen.{EntropySeen};
 ghost use Rattle.bson_tree.specs.Tree.{Items};
@@ -14,6 +15,7 @@ use crate::answer::Answer;
 use crate::checking::{Declined, Untaken, accept_command, take_reply};
 use crate::refusing::{refuse_fault, refuse_reply};
 use crate::starting::{Started, start};
+use crate::wide::reply_to_wide;
 use bson_codec::RawDoc;
 use command_marker::{ReplyFault, reply_clear};
 use context_machine::NeedMarkings;
@@ -48,6 +50,15 @@ impl Marker {
             → AnswerIs (mark_ruling self.now.infos self.now.db.items command.now.tree) command.now.tree e e result }
     {
         reply_to_command(alloc, &self.db, &self.infos, command)
+    }
+
+    /// The same for a library: more commands are marked, and each is refused for what says a value where none belongs.
+    pub fn mark_more(&self, alloc: Global, command: &RawDoc<'_>) -> Answer
+        requires whole { command.now.start ≡ 0 }
+        ensures answers { (e : EntropySeen)
+            → AnswerIs (wide_marking self.now.infos self.now.db.items command.now.tree) command.now.tree e e result }
+    {
+        reply_to_wide(alloc, &self.db, &self.infos, command)
     }
 
     /// Whether a command is accepted by itself, as `mark` does: it isn't refused for its fields, its collection or its
@@ -105,7 +116,7 @@ fn reply_by_contents(alloc: Global, state: &NeedMarkings<'_>) -> Answer
 }
 
 /// A reply, where there is one.
-fn answer_reply(reply: Result<Vec<u8>, ReplyFault>) -> Answer
+pub(crate) fn answer_reply(reply: Result<Vec<u8>, ReplyFault>) -> Answer
     ensures answers { (bytes : List ℕ) (c : Items) (e : EntropySeen) → RepliesAs bytes reply
         → AnswerIs (sized bytes) c e e result }
 {

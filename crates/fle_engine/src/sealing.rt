@@ -60,7 +60,7 @@ pub fn seal_command<B: Block256, N: Entropy>(
 }
 
 /// A command that passes stays as it is.
-fn pass_command(alloc: Global, command: &RawDoc<'_>) -> Answer
+pub(crate) fn pass_command(alloc: Global, command: &RawDoc<'_>) -> Answer
     requires whole { command.now.start ≡ 0 }
     requires passes { passes command.now.tree ≡ true }
     ensures answers { (keys : Finder) (rows : List Row) (e : EntropySeen)
@@ -99,7 +99,7 @@ fn seal_by_contents<B: Block256, N: Entropy>(
 }
 
 /// Seals a command whose contents aren't refused: its keys and its length.
-fn seal_marked<B: Block256, N: Entropy>(
+pub(crate) fn seal_marked<B: Block256, N: Entropy>(
     alloc: Global,
     state: NeedKeys<'_>,
     keys: &Vault,

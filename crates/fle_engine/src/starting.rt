@@ -2,9 +2,10 @@
 
 ghost use Rattle.std.specs.Prelude.{◌≡◌, None};
 ghost use Rattle.command_marker.specs.Commands.{collection_in};
-ghost use Rattle.context_machine.specs.Beginning.{BeginsAs};
+ghost use Rattle.context_machine.specs.Beginning.{BeginsAs, BeginsMore};
 ghost use Rattle.encrypt_schema.specs.Language.Collection.{collection_of};
 ghost use Rattle.fle_engine.specs.Starting.{StartsAs};
+ghost use Rattle.fle_engine.specs.More.{StartsMore};
 
 use bson_codec::RawDoc;
 use context_machine::{Begun, EncryptStart, NeedCollInfo, NeedMarkings};
@@ -36,6 +37,32 @@ pub fn start<'a>(
         },
         Err(fault) => Err(fault),
     }
+}
+
+/// The same of a command that a library takes.
+pub fn start_more<'a>(
+    db: &'a [u8],
+    infos: &'a Infos,
+    command: &RawDoc<'a>,
+) -> Result<Started<'a>, MarkFault>
+    requires whole { command.now.start ≡ 0 }
+    ensures starts { StartsMore infos.entry.now db.entry.now command.now result }
+{
+    match begin_more(db, command) {
+        Ok(Begun::Pass(_)) => Ok(Started::Passing),
+        Ok(Begun::Ask(state)) => match with_info(state, infos).done() {
+            Ok(state) => Ok(Started::Marking(state)),
+            Err(fault) => Err(fault),
+        },
+        Err(fault) => Err(fault),
+    }
+}
+
+/// Looks at the fields of a command that a library takes by themselves.
+pub(crate) fn begin_more<'a>(db: &'a [u8], command: &RawDoc<'a>) -> Result<Begun<'a>, MarkFault>
+    ensures begun { BeginsMore (record { db = db.entry.now; command = command.now }) result }
+{
+    EncryptStart::new(db, command.again()).begin_more()
 }
 
 /// Looks at the fields of a command by themselves.
