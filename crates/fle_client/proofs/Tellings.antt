@@ -10,15 +10,15 @@ use Rattle.bson_codec.specs.Borrowed.{At}
 use Rattle.bson_tree.specs.Tree.{Items}
 use Rattle.bson_tree.proofs.NameNumbers.{other_entries}
 use Rattle.command_marker.specs.Commands.{collection_in, passes}
-use Rattle.command_marker.proofs.Targets.{marked_read}
-use Rattle.context_machine.specs.Beginning.{BeginsAs}
 use Rattle.context_machine.specs.States.{Asks}
 use Rattle.context_machine.specs.declared.begun.Begun.TheVariants as begins
-use Rattle.encrypt_schema.specs.Commands.Visits.{Refusal, target_verdict}
+use Rattle.encrypt_schema.specs.Commands.Visits.{Refusal}
 use Rattle.encrypt_schema.specs.Language.Collection.{Collection, collection_of}
 use Rattle.encrypt_schema.specs.Language.Putting.{forgotten, put_info}
+use Rattle.fle_client.specs.CommandSets.{BeginsBy, target_by}
 use Rattle.fle_client.specs.Filling.{PutsInfo, SameInfos, UnputIs}
 use Rattle.fle_client.specs.Told.{OthersStay, Told, asks_info, is_untold, told_of}
+use Rattle.fle_client.specs.declared.commands.CommandSet.{CommandSet}
 use Rattle.fle_client.specs.declared.filling.InfoUnput.{InfoUnput}
 use Rattle.fle_client.specs.declared.filling.InfoUnput.TheVariants as unput
 use Rattle.fle_client.specs.declared.rules.Rules.TheVariants as kinds
@@ -101,25 +101,25 @@ told_put m n db info (Err unput.Memory) put others = all_stay m n db put others
 
 -- ---- a command
 
-asks_by : (db : List ℕ) (d : At) (asks : Asks) → d.start ≡ 0
-    → BeginsAs (record { db = db; command = d }) (Ok (begins.Ask asks)) → asks_info db d.tree ≡ true
-asks_by db d asks whole begun =
+asks_by : (set : CommandSet) (db : List ℕ) (d : At) (asks : Asks) → d.start ≡ 0
+    → BeginsBy set (record { db = db; command = d }) (Ok (begins.Ask asks)) → asks_info set db d.tree ≡ true
+asks_by set db d asks whole begun =
     ap (λ (o : Option Refusal). is_none o && not (passes d.tree))
-    (ap (λ (n : ℕ). target_verdict db n d.tree) (sym whole) ∙ begun.1)
-    ∙ ap not (marked_read d.tree begun.2)
+    (ap (λ (n : ℕ). target_by set db n d.tree) (sym whole) ∙ begun.1)
+    ∙ ap not begun.2
 
 -- one whose info is asked for is untold where its info isn't found
-pub asked_untold : (infos : List Collection) (db : List ℕ) (d : At) (asks : Asks) (name : List ℕ)
+pub asked_untold : (set : CommandSet) (infos : List Collection) (db : List ℕ) (d : At) (asks : Asks) (name : List ℕ)
     (found : Option Collection) (none : Bool) → d.start ≡ 0
-    → BeginsAs (record { db = db; command = d }) (Ok (begins.Ask asks)) → name ≡ collection_in asks.command.tree
-    → found ≡ collection_of infos name → is_some found ≡ not none → none ≡ is_untold infos db d.tree
-asked_untold infos db d asks name found none whole begun same found_there is =
+    → BeginsBy set (record { db = db; command = d }) (Ok (begins.Ask asks)) → name ≡ collection_in asks.command.tree
+    → found ≡ collection_of infos name → is_some found ≡ not none → none ≡ is_untold set infos db d.tree
+asked_untold set infos db d asks name found none whole begun same found_there is =
     let lacks : is_none (collection_of infos (collection_in d.tree)) ≡ none =
     ap (λ (n : List ℕ). is_none (collection_of infos n))
     (sym (same ∙ ap (λ (a : Asks). collection_in a.command.tree) begun.0))
     ∙ (ap is_none (sym found_there) ∙ (ap not is ∙ not_twice none)) in
     sym
-    (ap (λ (b : Bool). b && is_none (collection_of infos (collection_in d.tree))) (asks_by db d asks whole begun)
+    (ap (λ (b : Bool). b && is_none (collection_of infos (collection_in d.tree))) (asks_by set db d asks whole begun)
     ∙ lacks)
   where
     not_twice : (b : Bool) → not (not b) ≡ b

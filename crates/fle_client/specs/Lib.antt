@@ -1,3 +1,4 @@
+pub mod CommandSets
 pub mod Told
 pub mod Known
 pub mod Clients

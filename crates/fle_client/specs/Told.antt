@@ -8,10 +8,11 @@ use Rattle.std.specs.Global.{Global}
 use Rattle.std.specs.Ordering.{nat_cmp}
 use Rattle.bson_tree.specs.Tree.{Items}
 use Rattle.command_marker.specs.Commands.{collection_in, passes}
-use Rattle.encrypt_schema.specs.Commands.Visits.{target_verdict}
 use Rattle.encrypt_schema.specs.Language.Collection.{Collection, collection_of}
 use Rattle.encrypt_schema.specs.declared.schema.faults.InfoFault.{InfoFault}
 use Rattle.encrypt_schema.specs.declared.schema.faults.InfoFault.TheVariants as faults
+use Rattle.fle_client.specs.CommandSets.{target_by}
+use Rattle.fle_client.specs.declared.commands.CommandSet.{CommandSet}
 
 -- infos by the names of their databases
 abbrev pub Told : Type 0
@@ -33,9 +34,9 @@ PutsDatabase db infos before after (Err faults.Memory) = told_of after db ≡ to
 PutsDatabase db infos before after (Err (faults.Bad document kind)) = ⊥
 
 -- a command of this database is one whose info is asked for: no field of it is refused by itself, and it doesn't pass
-abbrev pub asks_info : List ℕ → Items → Bool
-asks_info db c = is_none (target_verdict db 0 c) && not (passes c)
+abbrev pub asks_info : CommandSet → List ℕ → Items → Bool
+asks_info set db c = is_none (target_by set db 0 c) && not (passes c)
 
 -- a command of this database asks for an info that isn't among these
-abbrev pub is_untold : List Collection → List ℕ → Items → Bool
-is_untold infos db c = asks_info db c && is_none (collection_of infos (collection_in c))
+abbrev pub is_untold : CommandSet → List Collection → List ℕ → Items → Bool
+is_untold set infos db c = asks_info set db c && is_none (collection_of infos (collection_in c))

@@ -36,6 +36,7 @@ impl Client {
     /// isn't put, all is as before.
     pub fn put_info(&mut self, alloc: Global, db: &[u8], info: &RawDoc<'_>) -> Result<(), InfoUnput>
         ensures keys { self.new.keys ≡ self.old.keys }
+        ensures commands { self.new.commands ≡ self.old.commands }
         ensures put { PutsInfo self.old.rules self.new.rules db.now info.now.tree result }
     {
         match &mut self.rules {
@@ -47,6 +48,7 @@ impl Client {
     /// Forgets the info of the collection of a name in a database, where there is one.
     pub fn forget_info(&mut self, db: &[u8], name: &[u8])
         ensures keys { self.new.keys ≡ self.old.keys }
+        ensures commands { self.new.commands ≡ self.old.commands }
         ensures forgotten { ForgetsInfo self.old.rules self.new.rules db.now name.now }
     {
         match &mut self.rules {
@@ -58,6 +60,7 @@ impl Client {
     /// Forgets the infos of all collections of all databases.
     pub fn forget_infos(&mut self, alloc: Global)
         ensures keys { self.new.keys ≡ self.old.keys }
+        ensures commands { self.new.commands ≡ self.old.commands }
         ensures none { (db : List ℕ) → infos_of self.new.rules db ≡ [] }
         ensures own { own_of self.new.rules ≡ own_of self.old.rules }
     {
@@ -70,6 +73,7 @@ impl Client {
     /// Puts a key document behind the others. After a fault, and after `Memory`, all is as before.
     pub fn put_key(&mut self, alloc: Global, key: &RawDoc<'_>) -> Result<(), PutFault>
         ensures rules { self.new.rules ≡ self.old.rules }
+        ensures commands { self.new.commands ≡ self.old.commands }
         ensures master { master_of self.new.keys ≡ master_of self.old.keys }
         ensures put { Puts (keys_of self.old.keys) (keys_of self.new.keys) result
             (put_key (keys_of self.old.keys) key.now.tree) }
@@ -83,6 +87,7 @@ impl Client {
     /// Forgets all keys; those that were opened are kept until others take their places.
     pub fn forget_keys(&mut self, alloc: Global)
         ensures rules { self.new.rules ≡ self.old.rules }
+        ensures commands { self.new.commands ≡ self.old.commands }
         ensures master { master_of self.new.keys ≡ master_of self.old.keys }
         ensures none { keys_of self.new.keys ≡ [] }
     {

@@ -2,7 +2,7 @@
 //! command for a collection that it wasn't told of.
 //!
 //! ```text
-//! let mut client = Client::start(alloc, Some(master))?;
+//! let mut client = Client::start(alloc, CommandSet::More, Some(master))?;
 //! client.put_info(alloc, b"hr", &check_bson(&info)?)?;
 //! client.put_key(alloc, &check_bson(&key)?)?;
 //! let answer = client.seal(alloc, &Tables, b"hr", &check_bson(&command)?, &mut entropy)?;
@@ -12,6 +12,7 @@
 #![tactic(auto)]
 
 mod client;
+mod commands;
 mod filling;
 mod keys;
 pub mod laws;
@@ -19,6 +20,7 @@ mod rules;
 mod told;
 
 pub use client::{Client, NoAnswer};
+pub use commands::CommandSet;
 pub use filling::InfoUnput;
 pub use keys::Keys;
 pub use rules::Rules;

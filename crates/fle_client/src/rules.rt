@@ -4,6 +4,7 @@ ghost use Rattle.std.specs.Prelude.{◌≡◌, [], true, false, bytes_eq, is_non
 ghost use Rattle.fle_client.specs.Known.{Judged, Unjudges, foreign};
 ghost use Rattle.fle_client.specs.Told.{is_untold};
 
+use crate::commands::CommandSet;
 use crate::told::{infos_of, is_untold};
 use bson_codec::RawDoc;
 use encrypt_schema::Infos;
@@ -32,18 +33,19 @@ impl Rules {
     /// The infos by which a command is judged that is sent to this database; `none` where nothing was told of it.
     pub(crate) fn judge<'a>(
         &'a self,
+        commands: CommandSet,
         db: &[u8],
         none: &'a Infos,
         command: &RawDoc<'_>,
     ) -> Result<&'a Infos, Unjudged>
         requires none { none.now ≡ [] }
         requires whole { command.now.start ≡ 0 }
-        ensures judged { MatchResult result (λ i. Judged self.now db.now command.now.tree i.now)
-            (λ u. Unjudges self.now db.now command.now.tree u) }
+        ensures judged { MatchResult result (λ i. Judged commands self.now db.now command.now.tree i.now)
+            (λ u. Unjudges commands self.now db.now command.now.tree u) }
     {
         match self {
             Rules::Whole(marker) => own_infos(marker, db),
-            Rules::Told(told) => told_infos(infos_of(told, db, none), db, command),
+            Rules::Told(told) => told_infos(commands, infos_of(told, db, none), db, command),
         }
     }
 
@@ -71,13 +73,18 @@ fn own_infos<'a>(marker: &'a Marker, db: &[u8]) -> Result<&'a Infos, Unjudged>
 }
 
 /// The infos that were told of a database, where the collection of a command is among them.
-fn told_infos<'a>(infos: &'a Infos, db: &[u8], command: &RawDoc<'_>) -> Result<&'a Infos, Unjudged>
+fn told_infos<'a>(
+    commands: CommandSet,
+    infos: &'a Infos,
+    db: &[u8],
+    command: &RawDoc<'_>,
+) -> Result<&'a Infos, Unjudged>
     requires whole { command.now.start ≡ 0 }
     ensures told { MatchResult result
-        (λ i. (is_untold infos.now db.now command.now.tree ≡ false) × (i.now ≡ infos.now))
-        (λ u. (is_untold infos.now db.now command.now.tree ≡ true) × (u ≡ Unjudged.Untold)) }
+        (λ i. (is_untold commands infos.now db.now command.now.tree ≡ false) × (i.now ≡ infos.now))
+        (λ u. (is_untold commands infos.now db.now command.now.tree ≡ true) × (u ≡ Unjudged.Untold)) }
 {
-    if is_untold(infos, db, command) {
+    if is_untold(commands, infos, db, command) {
         Err(Unjudged::Untold)
     } else {
         Ok(infos)

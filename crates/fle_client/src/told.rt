@@ -2,13 +2,13 @@
 //! chooses these, one takes as many comparisons as the logarithm of their number.
 
 ghost use Rattle.std.specs.Prelude.{◌≡◌, [], List, ℕ, bytes_eq, if◌then◌else◌};
-ghost use Rattle.context_machine.specs.Beginning.{BeginsAs};
 ghost use Rattle.encrypt_schema.specs.Language.Putting.{Puts, forgotten, put_info};
 ghost use Rattle.fle_client.specs.Told.{OthersStay, PutsDatabase, is_untold, told_of};
 
+use crate::commands::{CommandSet, begin};
 use bson_codec::RawDoc;
-use context_machine::{Begun, EncryptStart};
-use encrypt_schema::{InfoFault, Infos, MarkFault};
+use context_machine::Begun;
+use encrypt_schema::{InfoFault, Infos};
 use std::alloc::Global;
 use std::collections::BTreeMap;
 
@@ -29,22 +29,20 @@ pub(crate) fn infos_of<'a>(
 
 /// Whether a command of a database is for a collection that isn't among these: it neither passes, nor is it refused for
 /// a field by itself.
-pub(crate) fn is_untold(infos: &Infos, db: &[u8], command: &RawDoc<'_>) -> bool
+pub(crate) fn is_untold(
+    commands: CommandSet,
+    infos: &Infos,
+    db: &[u8],
+    command: &RawDoc<'_>,
+) -> bool
     requires whole { command.now.start ≡ 0 }
-    ensures untold { result ≡ is_untold infos.now db.now command.now.tree }
+    ensures untold { result ≡ is_untold commands infos.now db.now command.now.tree }
 {
-    match begin(db, command) {
+    match begin(commands, db, command) {
         Ok(Begun::Ask(state)) => infos.info_of(state.collection()).is_none(),
         Ok(Begun::Pass(_)) => false,
         Err(_) => false,
     }
-}
-
-/// Looks at the fields of a command by themselves.
-fn begin<'a>(db: &'a [u8], command: &RawDoc<'a>) -> Result<Begun<'a>, MarkFault>
-    ensures begun { BeginsAs (record { db = db.entry.now; command = command.now }) result }
-{
-    EncryptStart::new(db, command.again()).begin()
 }
 
 /// Puts the info of a collection into its database, in the place of the one of its name or behind the others. After a

@@ -12,6 +12,6 @@ returns-in-Ok-Ask c =
     let name = c.collection.result.now in
     let lacks : is_some (collection_of infos name) ≡ not c.is_none.result = search rules in
     record {
-      untold = asked_untold infos c.args.db.now c.args.command.now c.in-Ok-Ask.state name (collection_of infos name)
-          c.is_none.result c.requires.whole begun c.collection.ensures.collection refl lacks;
+      untold = asked_untold c.args.commands infos c.args.db.now c.args.command.now c.in-Ok-Ask.state name
+          (collection_of infos name) c.is_none.result c.requires.whole begun c.collection.ensures.collection refl lacks;
     }

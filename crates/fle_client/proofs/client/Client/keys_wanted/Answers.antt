@@ -1,8 +1,7 @@
 -- The command is sent to another database than the client's own.
-use Rattle.encrypt_schema.specs.Commands.Targets.{rows_of}
-use Rattle.fle_engine.specs.Asked.{command_draws, keys_ruling}
 use Rattle.fle_engine.proofs.Unmade.{spot_undrawing}
 use Rattle.fle_client.specs.Clients.{keys_of}
+use Rattle.fle_client.specs.CommandSets.{draws_by, keys_by}
 use Rattle.fle_client.specs.Known.{infos_of}
 use Rattle.fle_client.proofs.Elsewhere.{foreign_answered}
 use Rattle.fle_client.proofs.client.Client.keys_wanted.Goals as goal
@@ -16,9 +15,9 @@ returns-in-Err-WrongDb c =
     record {
       asked = λ e. (
         judged.1,
-        foreign_answered client.rules db (λ infos. keys_ruling (keys_of client.keys) infos db tree) tree e e
+        foreign_answered client.rules db (λ infos. keys_by client.commands (keys_of client.keys) infos db tree) tree e e
             c.refuse.result judged.0 (c.refuse.ensures.answers e),
-        spot_undrawing (command_draws (rows_of (infos_of client.rules db) tree) tree) tree _ c.refuse.result
+        spot_undrawing (draws_by client.commands (infos_of client.rules db) tree) tree _ c.refuse.result
             c.refuse.ensures.answers,
       );
     }

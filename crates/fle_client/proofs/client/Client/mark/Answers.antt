@@ -1,5 +1,5 @@
 -- The command is sent to another database than the client's own.
-use Rattle.fle_engine.specs.Replies.{mark_ruling}
+use Rattle.fle_client.specs.CommandSets.{mark_by}
 use Rattle.fle_client.proofs.Elsewhere.{foreign_answered}
 use Rattle.fle_client.proofs.client.Client.mark.Goals as goal
 
@@ -11,7 +11,7 @@ returns-in-Err-WrongDb c =
     record {
       marked = λ e. (
         judged.1,
-        foreign_answered c.args.self.now.rules db (λ infos. mark_ruling infos db tree) tree e e c.refuse.result judged.0
-            (c.refuse.ensures.answers e),
+        foreign_answered c.args.self.now.rules db (λ infos. mark_by c.args.self.now.commands infos db tree) tree e e
+            c.refuse.result judged.0 (c.refuse.ensures.answers e),
       );
     }
