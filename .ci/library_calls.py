@@ -13,7 +13,7 @@ LETTERS = {"fle_open": b"o", "fle_seal": b"s", "fle_unseal": b"u", "fle_mark": b
 VALUES = "fle_seal_value", "fle_value_keys_wanted"
 # Arguments that are numbers, of eight bytes here: by the call and the place among its arguments.
 NUMBERS = {("fle_rewrap_key", 1): ctypes.c_int64, ("fle_make_key", 1): ctypes.c_int64,
-           ("fle_start", 0): ctypes.c_uint32}
+           ("fle_open", 0): ctypes.c_uint32, ("fle_start", 0): ctypes.c_uint32}
 DONE = 0, 0, 0, 0, 0, 0
 
 

@@ -54,7 +54,7 @@ class Round:
     def run(self):
         self.without_engine("before it is open")
         for what in ("open", "open at a full slot"):
-            expect(self.library.call("fle_open", [b"hr", *self.files]), DONE, b"", 0, what)
+            expect(self.library.call("fle_open", [bytes(8), b"hr", *self.files]), DONE, b"", 0, what)
         for _ in range(6):
             self.try_command(some_command(self.chance, self.infos))
         for _ in range(4):
@@ -235,7 +235,7 @@ class Deepest(Round):
         for info in [*deep_infos(), flat_info()]:
             self.infos = read_infos([info])
             for infos in (spell(info), f"[{as_json(DOCUMENT, info)}]".encode()):
-                opened = self.library.call("fle_open", [b"hr", self.keys, infos, self.master])
+                opened = self.library.call("fle_open", [bytes(8), b"hr", self.keys, infos, self.master])
                 expect(opened, DONE, b"", 0, "open, of a schema at the limit")
                 put = self.library.call("fle_put_info", [b"hr", spell(info)])
                 expect(put, DONE, b"", 0, "the same schema put in its own place")
@@ -249,7 +249,7 @@ def at_the_limits(library):
     """A command above 16,777,216 bytes, documents that are opened up to 48,000,000, what fle_needed says of any length,
     key documents, and what opens no engine."""
     call = library.call
-    expect(call("fle_open", [b"hr", b"", PEOPLE, bytes(96)]), DONE, b"", 0, "open")
+    expect(call("fle_open", [bytes(8), b"hr", b"", PEOPLE, bytes(96)]), DONE, b"", 0, "open")
     one, two = spell([(16, "v", bytes(4))]), spell([(16, "v", bytes(4)), (16, "w", bytes(4))])
     expect(call("fle_seal_value", [bytes(2), bytes(15), one, b""], 16), (12, 0, 0, 0, 0, 0), b"", 16, "an id of 15")
     expect(call("fle_value_keys_wanted", [bytes(2), bytes(17)], 16), (12, 0, 0, 0, 0, 0), b"", 16, "an id of 17")
@@ -270,6 +270,7 @@ def at_the_limits(library):
     with open("contrib/c/fle.h", encoding="utf-8") as header:
         keys_at_the_limits(library, header.read())
     for db in (b"", b"x" * 64):
-        expect(call("fle_open", [db, b"", PEOPLE, bytes(96)]), (2, 0, 0, 0, 0, 0), b"", 0, "a database's name")
-    expect(call("fle_open", [b"hr", b"", PEOPLE, bytes(130)]), (4, 2, 3, 0, 0, 0), b"", 0, "a master key too long")
+        expect(call("fle_open", [bytes(8), db, b"", PEOPLE, bytes(96)]), (2, 0, 0, 0, 0, 0), b"", 0, "a database's name")
+    long = [bytes(8), b"hr", b"", PEOPLE, bytes(130)]
+    expect(call("fle_open", long), (4, 2, 3, 0, 0, 0), b"", 0, "a master key too long")
     expect(call("fle_seal", [b"hr", spell([]), b""], 16), (CLOSED, 0, 0, 0, 0, 0), b"", 16, "behind a failed fle_open")

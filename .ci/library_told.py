@@ -18,6 +18,7 @@ from reference.schemas import Fault, read_info
 from reference.vault import Vault, id_of
 
 SETUP, NO_INFO, FLAGS = 4, 13, 15
+MORE = 1  # FLE_COMMANDS_MORE
 TWICE_ID, TWICE_NAME, TOO_MANY = 25, 26, 27  # what is wrong with a key beside others
 DATABASES = "hr", "h", "pay"
 STEPS = 50
@@ -97,7 +98,7 @@ class Told(Round):
         for _ in range(2):  # the second time at a full slot
             if self.whole:
                 infos = b"".join(map(spell, self.stock[self.db][:4]))
-                self.told("fle_open", [self.db.encode(), self.keys_file, infos, self.master_file])
+                self.told("fle_open", [bytes(8), self.db.encode(), self.keys_file, infos, self.master_file])
             else:
                 self.told("fle_start", [bytes(8), self.master_file])
         if self.whole:
@@ -263,7 +264,8 @@ class Told(Round):
         """Engines that are opened with what is there now."""
         self.whole, keys = True, b"".join(key.spelled for key in self.keys.values())
         for db in DATABASES:
-            self.told("fle_open", [db.encode(), keys, b"".join(self.spelled[db].values()), self.master_file])
+            infos = b"".join(self.spelled[db].values())
+            self.told("fle_open", [bytes(8), db.encode(), keys, infos, self.master_file])
             self.turn_to(db)
             for _ in range(2):
                 self.try_command(self.sent_here(self.infos))
@@ -273,10 +275,14 @@ def told_at_the_limits(library):
     """What starts no engine, infos and keys that are too long, and a key beside as many as there may be."""
     def told(name, arguments, numbers=DONE):
         expect(library.call(name, arguments), numbers, b"", 0, f"{name} at its limits")
-    for flags in (1, 2, 1 << 31, (1 << 32) - 1):
-        told("fle_start", [bytes(8), b""])
-        told("fle_start", [flags.to_bytes(8, "little"), b""], (FLAGS, 0, 0, 0, 0, 0))
-        told("fle_forget_keys", [], (CLOSED, 0, 0, 0, 0, 0))
+    more = MORE.to_bytes(8, "little")
+    for name, words in (("fle_start", [b""]), ("fle_open", [b"hr", b"", b"", bytes(96)])):
+        told(name, [more, *words])
+        told("fle_forget_keys", [])
+        for flags in (2, 3, 1 << 31, (1 << 32) - 1):
+            told("fle_start", [bytes(8), b""])
+            told(name, [flags.to_bytes(8, "little"), *(b"?" for _ in words)], (FLAGS, 0, 0, 0, 0, 0))
+            told("fle_forget_keys", [], (CLOSED, 0, 0, 0, 0, 0))
     for master, fault in MASTERS[1:]:
         told("fle_start", [bytes(8), bytes(96)])
         told("fle_start", [bytes(8), master], (SETUP, fault, 3, 0, 0, 0))
@@ -292,7 +298,7 @@ def told_at_the_limits(library):
     told("fle_put_info", [b"hr", wanted])
     keys = [spell([(BINARY, "_id", binary(UUID, number.to_bytes(16, "big"))), MATERIAL, LOCAL])
             for number in range(MOST_KEYS + 1)]
-    told("fle_open", [b"hr", b"".join(keys[:-1]), b"", bytes(96)])
+    told("fle_open", [bytes(8), b"hr", b"".join(keys[:-1]), b"", bytes(96)])
     told("fle_put_key", [keys[-1]], (SETUP, TOO_MANY, 1, 1, 0, 0))
     told("fle_put_key", [keys[0]])
     told("fle_forget_keys", [])

@@ -64,7 +64,8 @@ static size_t done(fle_answer answer) {
 }
 
 static void open_in(fle_slot *slot) {
-    done(fle_open(slot, (const uint8_t *)db, strlen(db), key.at, key.size, info.at, info.size, master.at, master.size));
+    done(fle_open(slot, 0, (const uint8_t *)db, strlen(db), key.at, key.size, info.at, info.size, master.at,
+                  master.size));
 }
 
 /* With what fle.h says to begin with, and where that is too little once more with what is told. The random bytes are

@@ -88,7 +88,7 @@ int main(int argc, char **argv) {
     bytes master = read_all(fopen(argv[4], "rb")), command = read_all(stdin);
 
     fle_slot slot = FLE_SLOT;
-    done(fle_open(&slot, db.at, db.size, keys.at, keys.size, infos.at, infos.size, master.at, master.size));
+    done(fle_open(&slot, 0, db.at, db.size, keys.at, keys.size, infos.at, infos.size, master.at, master.size));
     bytes sealed = seal(&slot, db, command);
     uint8_t *opened = room(sealed.size);
     size_t again = done(fle_unseal(&slot, sealed.at, sealed.size, opened, sealed.size));

@@ -2,7 +2,7 @@
  *
  * A call is a letter and its arguments; an argument of bytes is a length of eight bytes, the lowest first, and so many
  * bytes; room is a length alone.
- *   o db keys infos master    b flags master (fle_start)    c    n size
+ *   o flags db keys infos master    b flags master (fle_start)    c    n size
  *   p db info    f db name    x (forget all infos)    q key    y (forget all keys)
  *   s db command blocks room    u document room
  *   m db command room    k db command room    d document room (the keys of a document)    i db command room
@@ -83,8 +83,8 @@ static uint64_t number_of(bytes in) {
 static void make_without_room(turn *t) {
     const bytes *in = t->in;
     if (t->letter == 'o') {
-        t->answer =
-            fle_open(&t->slot, in[0].at, in[0].size, in[1].at, in[1].size, in[2].at, in[2].size, in[3].at, in[3].size);
+        t->answer = fle_open(&t->slot, (uint32_t)number_of(in[0]), in[1].at, in[1].size, in[2].at, in[2].size, in[3].at,
+                             in[3].size, in[4].at, in[4].size);
     } else if (t->letter == 'b') {
         t->answer = fle_start(&t->slot, (uint32_t)number_of(in[0]), in[1].at, in[1].size);
     } else if (t->letter == 'p') {
@@ -163,7 +163,8 @@ static bool alike(const turn *a, const turn *b) {
 
 /* How many arguments of bytes a call has. */
 static int arguments_of(int letter) {
-    if (strchr("ovr", letter)) return 4;
+    if (letter == 'o') return 5;
+    if (strchr("vr", letter)) return 4;
     if (strchr("sg", letter)) return 3;
     if (strchr("udq", letter)) return 1;
     return strchr("cxyz", letter) ? 0 : 2;
@@ -176,7 +177,7 @@ static bool has_room(int letter) {
 /* Reads a call's arguments, makes it on each slot, and tells the first one's answer, which is that of all. */
 static void run(turn *turns, size_t slots, bool threads, int letter) {
     const int arguments = arguments_of(letter);
-    bytes in[4];
+    bytes in[5];
     for (int i = 0; i < arguments; i++) in[i] = argument();
     const size_t size = has_room(letter) ? number() : 0;
     for (size_t i = 0; i < slots; i++) {

@@ -67,7 +67,7 @@ static fle_answer tell_engine(void) {
 
 static fle_answer open_engine(void) {
     if (told) return tell_engine();
-    return fle_open(&slot, db.at, db.size, keys.at, keyless ? 0 : keys.size, infos.at, infos.size, master.at,
+    return fle_open(&slot, 0, db.at, db.size, keys.at, keyless ? 0 : keys.size, infos.at, infos.size, master.at,
                     master.size);
 }
 

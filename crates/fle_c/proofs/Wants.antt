@@ -8,6 +8,9 @@ use Rattle.context_machine.specs.Rings.{Finder, first_keyless, needs_of}
 use Rattle.bson_codec.specs.Borrowed.{At}
 use Rattle.doc_rewrite.specs.Sites.{Site, draw, draws_of, grown, sealed_width, sites_of}
 use Rattle.encrypt_schema.proofs.Commands.Taken.{few_roles}
+use Rattle.clear_commands.specs.ClearNames.{is_clear}
+use Rattle.clear_commands.specs.ClearVerdicts.{clear_verdict}
+use Rattle.encrypt_schema.specs.Commands.More.{more_verdict}
 use Rattle.encrypt_schema.specs.Commands.Targets.{rows_of, verdict}
 use Rattle.encrypt_schema.specs.Commands.Visits.{Refusal, roles}
 use Rattle.encrypt_schema.specs.Language.Collection.{Collection}
@@ -15,9 +18,14 @@ use Rattle.encrypt_schema.specs.Language.Row.{Row}
 use Rattle.encrypt_schema.specs.declared.command.marks.Mark.{Mark}
 use Rattle.encrypt_schema.specs.declared.schema.policy.Algorithm.{Algorithm}
 use Rattle.encrypt_schema.specs.declared.schema.policy.Algorithm.TheVariants.{Deterministic, Random}
+use Rattle.fle_client.specs.CommandSets.{draws_by, seal_by}
+use Rattle.fle_client.specs.declared.commands.CommandSet.{CommandSet}
+use Rattle.fle_client.specs.declared.commands.CommandSet.TheVariants as sets
 use Rattle.fle_engine.specs.Asked.{command_draws}
-use Rattle.fle_engine.specs.Rulings.{Ruling, at_front, by_refusal, makes, sized_plan, refused, too_long}
+use Rattle.fle_engine.specs.Rulings.{Ruling, at_front, by_refusal, makes, plain_plan, sized_plan, refused, too_long}
 use Rattle.fle_engine.specs.Sealing.{seal_ruling, seal_under, sealed_plan}
+use Rattle.fle_engine.specs.More.{more_ruling}
+use Rattle.fle_engine.specs.Wide.{wide_ruling}
 use Rattle.fle_stream.specs.Plan.{Plan}
 
 -- a value draws a block at most
@@ -79,10 +87,21 @@ grows_at keys rows c n le =
     }
 
 -- a command draws no more blocks than it has values, of two bytes each at least beside their own
-pub few_values : (rows : List Row) (c : Items) → 2 * command_draws rows c ≤ length (doc_bytes c)
+few_values : (rows : List Row) (c : Items) → 2 * command_draws rows c ≤ length (doc_bytes c)
 few_values rows c =
     let ss = sites_of rows (at_front c) (roles rows 0 c) in
     omega (arith, few_draws ss, as_many rows (at_front c) (roles rows 0 c), few_roles rows 0 c)
+
+-- a clear one draws none
+few_cleared : (clear : Bool) (n length : ℕ) → 2 * n ≤ length → 2 * (if clear then 0 else n) ≤ length
+few_cleared true n length few = omega arith
+few_cleared false n length few = few
+
+pub few_by_set : (set : CommandSet) (infos : List Collection) (c : Items)
+    → 2 * draws_by set infos c ≤ length (doc_bytes c)
+few_by_set sets.Four infos c = few_values (rows_of infos c) c
+few_by_set sets.More infos c =
+    few_cleared (is_clear c) (command_draws (rows_of infos c) c) (length (doc_bytes c)) (few_values (rows_of infos c) c)
 
 -- where a plan is made of one, it is that one
 abbrev pub Made : ℕ → Ruling → Type 0
@@ -104,25 +123,48 @@ made_within n false plan is grows =
     let most = at_most plan.size is in
     record { room = grows.room; most = most; draws = grows.draws; few = omega (arith, most, grows.each) }
 
-made_under : (keys : Finder) (infos : List Collection) (db : List ℕ) (c : Items) (n : ℕ) → length (doc_bytes c) ≤ n
-    → Made n (seal_ruling keys infos db c)
-unfolding seal_ruling
-made_under keys infos db c n le =
-    let rows = rows_of infos c in let plan = sealed_plan keys (sites_of rows (at_front c) (roles rows 0 c)) c in
-    made_refusal n (verdict db infos 0 c) (seal_under keys rows c)
+-- whatever refuses it
+made_behind : (refusal : Option Refusal) (keys : Finder) (rows : List Row) (c : Items) (n : ℕ)
+    → length (doc_bytes c) ≤ n → Made n (by_refusal refusal (seal_under keys rows c))
+made_behind refusal keys rows c n le =
+    let plan = sealed_plan keys (sites_of rows (at_front c) (roles rows 0 c)) c in
+    made_refusal n refusal (seal_under keys rows c)
     (made_refusal n (first_keyless keys (needs_of rows (at_front c))) (sized_plan plan)
     (made_within n (nat_lt 48000000 plan.size) plan refl (grows_at keys rows c n le)))
 
+-- a command that stays as it is
+plain_grows : (bytes : List ℕ) (n : ℕ) → length bytes ≤ n → Grows n (plain_plan bytes)
+plain_grows bytes n le = record { room = omega (arith, le); draws = omega arith; each = omega arith }
+
+-- a clear one stays so; any other is judged
+made_cleared : (clear : Bool) (refusal : Option Refusal) (judged : Ruling) (c : Items) (n : ℕ)
+    → length (doc_bytes c) ≤ n → Made n judged
+    → Made n (if clear then by_refusal refusal (sized_plan (plain_plan (doc_bytes c))) else judged)
+made_cleared true refusal judged c n le made =
+    let plan = plain_plan (doc_bytes c) in
+    made_refusal n refusal (sized_plan plan)
+    (made_within n (nat_lt 48000000 plan.size) plan refl (plain_grows (doc_bytes c) n le))
+made_cleared false refusal judged c n le made = made
+
+made_under : (set : CommandSet) (keys : Finder) (infos : List Collection) (db : List ℕ) (c : Items) (n : ℕ)
+    → length (doc_bytes c) ≤ n → Made n (seal_by set keys infos db c)
+unfolding seal_ruling more_ruling wide_ruling
+made_under sets.Four keys infos db c n le = made_behind (verdict db infos 0 c) keys (rows_of infos c) c n le
+made_under sets.More keys infos db c n le =
+    made_cleared (is_clear c) (clear_verdict 0 c) (more_ruling keys infos db c) c n le
+    (made_behind (more_verdict db infos 0 c) keys (rows_of infos c) c n le)
+
 -- what the command of these bytes wants, if it is sealed
-pub made_by : (keys : Finder) (infos : List Collection) (db : List ℕ) (c : Items) (bytes : List ℕ)
-    → bytes ≡ doc_bytes c → Made (length bytes) (seal_ruling keys infos db c)
-made_by keys infos db c bytes spelled = made_under keys infos db c (length bytes) (omega (arith, ap length spelled))
+pub made_by : (set : CommandSet) (keys : Finder) (infos : List Collection) (db : List ℕ) (c : Items) (bytes : List ℕ)
+    → bytes ≡ doc_bytes c → Made (length bytes) (seal_by set keys infos db c)
+made_by set keys infos db c bytes spelled =
+    made_under set keys infos db c (length bytes) (omega (arith, ap length spelled))
 
 -- what a command of at most so many bytes wants, if it is sealed
-pub wants_of : (n : ℕ) (keys : Finder) (infos : List Collection) (db : List ℕ) (c : Items) (plan : Plan)
-    → length (doc_bytes c) ≤ n → seal_ruling keys infos db c ≡ makes plan → Wants n plan
-wants_of n keys infos db c plan le is =
-    subst (λ (v : Ruling). Made n v) is (made_under keys infos db c n le)
+pub wants_of : (n : ℕ) (set : CommandSet) (keys : Finder) (infos : List Collection) (db : List ℕ) (c : Items)
+    (plan : Plan) → length (doc_bytes c) ≤ n → seal_by set keys infos db c ≡ makes plan → Wants n plan
+wants_of n set keys infos db c plan le is =
+    subst (λ (v : Ruling). Made n v) is (made_under set keys infos db c n le)
 
 -- what is at most two numbers is at most the least of both
 pub below_both : (m size n : ℕ) → n ≡ min size 16777216 → m ≤ size → m ≤ 16777216 → m ≤ n

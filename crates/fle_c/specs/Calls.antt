@@ -9,20 +9,21 @@ use Rattle.data_key.specs.declared.key_doc.KeyDoc.{KeyDoc}
 use Rattle.encrypt_schema.specs.declared.schema.policy.Algorithm.{Algorithm}
 use Rattle.fle_client.specs.Clients.{AsksKeysAs, SameKeys, keys_of, ruling_by}
 use Rattle.fle_client.specs.Clients.{MarksAs as ClientMarks, SealsAs as ClientSeals}
+use Rattle.fle_client.specs.CommandSets.{info_by, seal_by}
 use Rattle.fle_client.specs.declared.client.Client.{Client}
 use Rattle.fle_client.specs.declared.client.NoAnswer.{NoAnswer}
+use Rattle.fle_client.specs.declared.commands.CommandSet.{CommandSet}
 use Rattle.fle_client.specs.declared.keys.Keys.{Keys}
 use Rattle.fle_client.specs.declared.keys.Keys.TheVariants as held
 use Rattle.fle_client.specs.declared.rules.Rules.{Rules}
 use Rattle.fle_client.specs.declared.rules.Rules.TheVariants as kinds
 use Rattle.fle_engine.specs.Answers.{AnswerIs}
-use Rattle.fle_engine.specs.Asked.{info_ruling, payloads_ruling}
+use Rattle.fle_engine.specs.Asked.{payloads_ruling}
 use Rattle.fle_engine.specs.Engines.{EngineIs}
 use Rattle.fle_engine.specs.Explicit.{value_ruling}
 use Rattle.fle_engine.specs.Loading.{Parts}
 use Rattle.fle_engine.specs.Opening.{open_ruling}
 use Rattle.fle_engine.specs.Rulings.{Ruling, makes, refused, too_long}
-use Rattle.fle_engine.specs.Sealing.{seal_ruling}
 use Rattle.fle_engine.specs.declared.answer.Answer.{Answer}
 use Rattle.fle_engine.specs.declared.asking.Asked.{Asked}
 use Rattle.fle_engine.specs.declared.engine.Engine.{Engine}
@@ -32,26 +33,34 @@ use Rattle.fle_outside.specs.Limits.{output_limit}
 use Rattle.fle_outside.specs.Seen.{EntropySeen}
 use Rattle.payload6.specs.Needs.{Need}
 use Rattle.fle_c.specs.Blocks.{handed_seen}
+use Rattle.fle_c.specs.Flags.{FlagsAs, set_of_flags}
 use Rattle.fle_c.specs.Telling.{Shows, bare, done, fault_told, malformed, passed, unanswered_told}
 use Rattle.fle_c.specs.declared.told.Told.{Told}
 
 -- ---- what is in a slot
 
--- a client has the database, the rules, the keys and the master key of an engine of this database and these parts
-pub record IsOf (db : List ℕ) (parts : Result Parts EngineFault) (client : Client) : Type 0 where
+-- a client takes these commands, and has the database, the rules, the keys and the master key of an engine of this
+-- database and these parts
+pub record IsOf (db : List ℕ) (parts : Result Parts EngineFault) (set : CommandSet) (client : Client) : Type 0 where
+  pub taken : client.commands ≡ set
   pub engine : Engine
   pub is : EngineIs db parts (Ok engine)
   pub whole : client.rules ≡ kinds.Whole engine.marker
   pub mastered : client.keys ≡ held.Mastered engine.opener
 
 -- such a client is in the slot; or none, for the parts' first fault, which is told
-abbrev pub OpensAs : List ℕ → Result Parts EngineFault → Option Client → Told → Type 0
-OpensAs db parts (Some client) told = IsOf db parts client × (told ≡ done 0 0)
-OpensAs db parts None told = (fault : EngineFault) × EngineIs db parts (Err fault) × (told ≡ fault_told fault)
+abbrev pub OpensBy : List ℕ → Result Parts EngineFault → CommandSet → Option Client → Told → Type 0
+OpensBy db parts set (Some client) told = IsOf db parts set client × (told ≡ done 0 0)
+OpensBy db parts set None told = (fault : EngineFault) × EngineIs db parts (Err fault) × (told ≡ fault_told fault)
 
--- a client has the rules, the key documents and the master key of another, or none as it has none
+-- the same by flags, which say what commands it takes
+abbrev pub OpensAs : ℕ → List ℕ → Result Parts EngineFault → Option Client → Told → Type 0
+OpensAs flags db parts after told = FlagsAs (OpensBy db parts) (set_of_flags flags) after told
+
+-- a client has the rules, the commands, the key documents and the master key of another, or none as it has none
 pub record SameClient (before after : Client) : Type 0 where
   pub rules : after.rules ≡ before.rules
+  pub commands : after.commands ≡ before.commands
   pub keys : SameKeys before.keys after.keys
 
 -- what is in a slot stays: the same client, or none
@@ -131,8 +140,8 @@ abbrev pub opening_of : Opener → Items → Judgement
 opening_of o d = undrawing (open_ruling (ring o.keys o.cache.master) d)
 
 -- what a command comes to that is sent to this database, whose info is asked for
-abbrev pub info_wanting_of : List ℕ → Rules → Items → Judgement
-info_wanting_of db rules c = undrawing (ruling_by rules db (λ infos. info_ruling db c))
+abbrev pub info_wanting_of : List ℕ → CommandSet → Rules → Items → Judgement
+info_wanting_of db set rules c = undrawing (ruling_by rules db (λ infos. info_by set db c))
 
 -- what a document comes to, of whose keys those are asked for that aren't among these
 abbrev pub wanting_to_open : List KeyDoc → Items → Judgement
@@ -157,23 +166,23 @@ pub record TellsReply (is : Result Answer NoAnswer → Type 0) (random : ℕ) (b
   pub shown : ShowsReply random reply before after told
 
 -- how many random bytes are drawn for a command that is sent to this database: none without a master key
-abbrev pub random_by : Rules → Keys → List ℕ → Items → ℕ
-random_by rules (held.Mastered o) db c =
-    random_in (ruling_by rules db (λ infos. seal_ruling (finder o.keys o.cache.master) infos db c))
-random_by rules (held.Unmastered vault) db c = 0
+abbrev pub random_by : CommandSet → Rules → Keys → List ℕ → Items → ℕ
+random_by set rules (held.Mastered o) db c =
+    random_in (ruling_by rules db (λ infos. seal_by set (finder o.keys o.cache.master) infos db c))
+random_by set rules (held.Unmastered vault) db c = 0
 
 -- a command that is sent to this database is sealed by a client, with these blocks
 abbrev pub SealsBy : List ℕ → Client → List ℕ → List ℕ → List ℕ → List ℕ → Told → Type 0
 SealsBy db client command blocks before after told =
     JudgesAs document_limit (λ c. TellsReply
     (λ reply. (left : EntropySeen) × ClientSeals client db c (handed_seen blocks 0) left reply)
-    (random_by client.rules client.keys db c) before after told) command before after told
+    (random_by client.commands client.rules client.keys db c) before after told) command before after told
 
--- the same is marked under the rules of a client, with no block
-abbrev pub MarksBy : List ℕ → Rules → List ℕ → List ℕ → List ℕ → Told → Type 0
-MarksBy db rules command before after told =
-    JudgesAs document_limit (λ c. TellsReply (ClientMarks rules db c (handed_seen [] 0)) 0 before after told) command
-    before after told
+-- the same is marked, as one of these, under the rules of a client, with no block
+abbrev pub MarksBy : List ℕ → CommandSet → Rules → List ℕ → List ℕ → List ℕ → Told → Type 0
+MarksBy db set rules command before after told =
+    JudgesAs document_limit (λ c. TellsReply (ClientMarks set rules db c (handed_seen [] 0)) 0 before after told)
+    command before after told
 
 -- what is asked for is told, with 16 random bytes for each block that is wanted; that a client has no answer is told,
 -- and nothing is written
@@ -210,18 +219,20 @@ UnsealsAs None bytes before after told = Tells (bare 11) before after told
 
 -- a command is marked under the rules of the client of a slot; where none is open, that is told
 abbrev pub MarksAs : List ℕ → Option Client → List ℕ → List ℕ → List ℕ → Told → Type 0
-MarksAs db (Some client) command before after told = MarksBy db client.rules command before after told
+MarksAs db (Some client) command before after told =
+    MarksBy db client.commands client.rules command before after told
 MarksAs db None command before after told = Tells (bare 11) before after told
 
 -- the info of a command is asked for
-abbrev pub WantsInfoBy : List ℕ → Rules → List ℕ → List ℕ → List ℕ → Told → Type 0
-WantsInfoBy db rules command before after told =
+abbrev pub WantsInfoBy : List ℕ → CommandSet → Rules → List ℕ → List ℕ → List ℕ → Told → Type 0
+WantsInfoBy db set rules command before after told =
     JudgesAs document_limit
-    (λ c. AnswersAs (info_wanting_of db rules c) c (handed_seen [] 0) before after told) command before after told
+    (λ c. AnswersAs (info_wanting_of db set rules c) c (handed_seen [] 0) before after told) command before after told
 
 -- the same by the client of a slot; where none is open, that is told
 abbrev pub WantsInfoAs : List ℕ → Option Client → List ℕ → List ℕ → List ℕ → Told → Type 0
-WantsInfoAs db (Some client) command before after told = WantsInfoBy db client.rules command before after told
+WantsInfoAs db (Some client) command before after told =
+    WantsInfoBy db client.commands client.rules command before after told
 WantsInfoAs db None command before after told = Tells (bare 11) before after told
 
 -- the keys of a command are asked for that a client lacks

@@ -1,6 +1,6 @@
 -- What a call comes to that starts a client, or puts or forgets an info or a key.
-use Rattle.std.specs.Prelude.{◌≡◌, ℕ, ◌==◌, nat_lt, Bool, true, false, List, [], length, Option, Some, None, Result}
-use Rattle.std.specs.Prelude.{Ok, Err, if◌then◌else◌}
+use Rattle.std.specs.Prelude.{◌≡◌, ℕ, ◌==◌, nat_lt, List, [], length, Option, Some, None, Result, Ok, Err}
+use Rattle.std.specs.Prelude.{if◌then◌else◌}
 use Rattle.bson_tree.specs.Tree.{Items}
 use Rattle.encrypt_schema.specs.declared.command.reason.Reason.TheVariants as reasons
 use Rattle.encrypt_schema.specs.declared.schema.faults.InfoKind.TheVariants as infos
@@ -8,6 +8,7 @@ use Rattle.fle_client.specs.Clients.{IsStarted, keys_of, master_of}
 use Rattle.fle_client.specs.Filling.{ForgetsInfo, PutsInfo}
 use Rattle.fle_client.specs.Known.{infos_of, own_of}
 use Rattle.fle_client.specs.declared.client.Client.{Client}
+use Rattle.fle_client.specs.declared.commands.CommandSet.{CommandSet}
 use Rattle.fle_client.specs.declared.filling.InfoUnput.{InfoUnput}
 use Rattle.fle_client.specs.declared.filling.InfoUnput.TheVariants as unput
 use Rattle.fle_engine.specs.Loading.{Reads, master_key_in}
@@ -21,6 +22,7 @@ use Rattle.key_vault.specs.declared.faults.PutFault.{PutFault}
 use Rattle.key_vault.specs.declared.faults.PutFault.TheVariants as put_faults
 use Rattle.key_vault.specs.declared.faults.VaultKind.TheVariants as vaults
 use Rattle.fle_c.specs.Calls.{SizedAs, document_limit}
+use Rattle.fle_c.specs.Flags.{FlagsAs, set_of_flags}
 use Rattle.fle_c.specs.Telling.{bare, done, fault_told, refused_told}
 use Rattle.fle_c.specs.declared.told.Told.{Told}
 
@@ -35,27 +37,22 @@ with_master (Err fault) = Err fault
 abbrev pub start_key : List ℕ → Result (Option (List ℕ)) EngineFault
 start_key bytes = if length bytes == 0 then Ok None else with_master (master_key_in bytes)
 
--- a client without infos and keys, with the master key that was read, or without one
-pub record Starts (read : Result (Option (List ℕ)) EngineFault) (client : Client) : Type 0 where
+-- a client of these commands without infos and keys, with the master key that was read, or without one
+pub record Starts (set : CommandSet) (read : Result (Option (List ℕ)) EngineFault) (client : Client) : Type 0 where
   pub master : Option (List ℕ)
   pub is : read ≡ Ok master
-  pub started : IsStarted master client
+  pub started : IsStarted set master client
 
 -- such a client is in the slot, by the master key in these bytes; or none, for their fault or for want of memory, which
 -- is told
-abbrev pub StartsBy : List ℕ → Option Client → Told → Type 0
-StartsBy bytes (Some client) told = Starts (start_key bytes) client × (told ≡ done 0 0)
-StartsBy bytes None told =
+abbrev pub StartsBy : List ℕ → CommandSet → Option Client → Told → Type 0
+StartsBy bytes set (Some client) told = Starts set (start_key bytes) client × (told ≡ done 0 0)
+StartsBy bytes set None told =
     (fault : EngineFault) × Reads (start_key bytes) (Err fault) × (told ≡ fault_told fault)
 
--- the same where no flag is set; none has a meaning
-abbrev pub FlagsAs : Bool → List ℕ → Option Client → Told → Type 0
-FlagsAs true bytes after told = StartsBy bytes after told
-FlagsAs false bytes after told = (after ≡ None) × (told ≡ bare 15)
-
--- the same of flags as a number
+-- the same by flags, which say what commands it takes
 abbrev pub StartsAs : ℕ → List ℕ → Option Client → Told → Type 0
-StartsAs flags bytes after told = FlagsAs (flags == 0) bytes after told
+StartsAs flags bytes after told = FlagsAs (StartsBy bytes) (set_of_flags flags) after told
 
 -- ---- a client is filled
 
@@ -81,10 +78,11 @@ info_told (Err unput.WrongDb) = refused_told reasons.WrongDb 0
 info_told (Err (unput.Bad kind)) = document_told 2 (infos_number kind)
 info_told (Err unput.Memory) = bare 8
 
--- an info is put into what a client knows of a database, or isn't; its keys stay
+-- an info is put into what a client knows of a database, or isn't; its commands and keys stay
 pub record PutsInfoInto (db : List ℕ) (before after : Client) (told : Told) (info : Items) : Type 0 where
   pub put : Result Unit InfoUnput
   pub rules : PutsInfo before.rules after.rules db info put
+  pub commands : after.commands ≡ before.commands
   pub keys : after.keys ≡ before.keys
   pub numbers : told ≡ info_told put
 
@@ -93,16 +91,18 @@ abbrev pub PutsInfoAs : List ℕ → List ℕ → Client → Client → Told →
 PutsInfoAs db bytes before after told =
     FillsAs (document_told 2 (infos_number infos.Bson)) (PutsInfoInto db before after told) bytes before after told
 
--- the info of a name is forgotten in a database, where there is one; the keys of a client stay
+-- the info of a name is forgotten in a database, where there is one; the commands and keys of a client stay
 pub record ForgetsInfoAs (db name : List ℕ) (before after : Client) (told : Told) : Type 0 where
   pub rules : ForgetsInfo before.rules after.rules db name
+  pub commands : after.commands ≡ before.commands
   pub keys : after.keys ≡ before.keys
   pub numbers : told ≡ done 0 0
 
--- all infos are forgotten; a client is of the same database alone, or of many, and its keys stay
+-- all infos are forgotten; a client is of the same database alone, or of many, and its commands and keys stay
 pub record ForgetsInfosAs (before after : Client) (told : Told) : Type 0 where
   pub none : (db : List ℕ) → infos_of after.rules db ≡ []
   pub own : own_of after.rules ≡ own_of before.rules
+  pub commands : after.commands ≡ before.commands
   pub keys : after.keys ≡ before.keys
   pub numbers : told ≡ done 0 0
 
@@ -112,12 +112,13 @@ key_told (Ok _) = done 0 0
 key_told (Err (put_faults.Bad kind)) = document_told 1 (vault_number kind)
 key_told (Err put_faults.Memory) = bare 8
 
--- a key is put behind the others of a client, or isn't; its rules and its master key stay
+-- a key is put behind the others of a client, or isn't; its rules, its commands and its master key stay
 pub record PutsKeyInto (before after : Client) (told : Told) (key : Items) : Type 0 where
   pub put : Result Unit PutFault
   pub keys : Puts (keys_of before.keys) (keys_of after.keys) put (put_key (keys_of before.keys) key)
   pub master : master_of after.keys ≡ master_of before.keys
   pub rules : after.rules ≡ before.rules
+  pub commands : after.commands ≡ before.commands
   pub numbers : told ≡ key_told put
 
 -- the same of the key document in these bytes
@@ -125,9 +126,10 @@ abbrev pub PutsKeyAs : List ℕ → Client → Client → Told → Type 0
 PutsKeyAs bytes before after told =
     FillsAs (document_told 1 (vault_number vaults.Bson)) (PutsKeyInto before after told) bytes before after told
 
--- all keys are forgotten; the rules and the master key of a client stay
+-- all keys are forgotten; the rules, the commands and the master key of a client stay
 pub record ForgetsKeysAs (before after : Client) (told : Told) : Type 0 where
   pub none : keys_of after.keys ≡ []
   pub master : master_of after.keys ≡ master_of before.keys
   pub rules : after.rules ≡ before.rules
+  pub commands : after.commands ≡ before.commands
   pub numbers : told ≡ done 0 0

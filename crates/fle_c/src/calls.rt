@@ -87,7 +87,7 @@ pub(crate) fn mark(
     command: &[u8],
     out: &mut [u8],
 ) -> Told
-    ensures marked { MarksBy db.now client.now.rules command.now out.old out.new result }
+    ensures marked { MarksBy db.now client.now.commands client.now.rules command.now out.old out.new result }
 {
     if DOCUMENT_LIMIT < command.len() {
         return Told::passed(1);
@@ -109,7 +109,7 @@ pub(crate) fn ask_info(
     command: &[u8],
     out: &mut [u8],
 ) -> Told
-    ensures asked { WantsInfoBy db.now client.now.rules command.now out.old out.new result }
+    ensures asked { WantsInfoBy db.now client.now.commands client.now.rules command.now out.old out.new result }
 {
     if DOCUMENT_LIMIT < command.len() {
         return Told::passed(1);

@@ -4,6 +4,7 @@ ghost use Rattle.fle_c.specs.Filling.{ChangesAs, ForgetsInfoAs, ForgetsInfosAs, 
 ghost use Rattle.fle_c.specs.Filling.{StartsAs};
 
 use crate::filling::{forget_info, forget_infos, forget_keys, put_info, put_key};
+use crate::flags::set_of_flags;
 use crate::slot::Slot;
 use crate::starting::start;
 use crate::told::Told;
@@ -11,17 +12,17 @@ use std::alloc::Global;
 
 /// Starts a client in a slot, of many databases and without infos and keys; one that was there is freed first. Its
 /// master key is in these bytes, 96 or their base64 text, or it has none where there is no byte: such a client seals
-/// and opens nothing. No flag has a meaning yet: one that is set is told with status 15, a fault of the master key with
-/// status 4 and file 3.
+/// and opens nothing. The flag 1 says that it takes more commands than insert, update, delete and find. Any other one
+/// has no meaning, which is told with status 15, and a fault of the master key with status 4 and file 3.
 #[unsafe(no_mangle)]
 pub extern "C" fn fle_start(alloc: Global, slot: &mut Slot, flags: u32, master: &[u8]) -> Told
     ensures started { StartsAs flags master.now slot.new.kept.value result }
 {
     let _ = slot.take(alloc);
-    if flags != 0 {
+    let Some(commands) = set_of_flags(flags) else {
         return Told::no_flag();
-    }
-    match start(alloc, master) {
+    };
+    match start(alloc, commands, master) {
         Ok(client) => {
             slot.put(client);
             Told::done(0, 0)

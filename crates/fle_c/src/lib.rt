@@ -3,7 +3,7 @@
 //!
 //! ```text
 //! fle_slot slot = {0};
-//! fle_answer answer = fle_start(&slot, 0, master, 96);
+//! fle_answer answer = fle_start(&slot, FLE_COMMANDS_MORE, master, 96);
 //! answer = fle_put_info(&slot, db, 2, info, n);
 //! answer = fle_put_key(&slot, key, m);
 //! answer = fle_seal(&slot, db, 2, command, size, blocks, 256, out, room);
@@ -24,15 +24,17 @@ ghost use Rattle.encrypt_schema.specs.Language.Collection.{Collection};
 ghost use Rattle.fle_c.specs.Calls.{MarksAs, OpensAs, SealsAs, StaysIn, UnsealsAs, WantsAs, WantsInfoAs};
 ghost use Rattle.fle_c.specs.Calls.{WantsToOpenAs, document_limit, opener_in};
 ghost use Rattle.fle_c.specs.Values.{SealsValueAs, WantsValueKeyAs};
+ghost use Rattle.fle_client.specs.CommandSets.{seal_by};
+ghost use Rattle.fle_client.specs.declared.commands.CommandSet.{CommandSet};
 ghost use Rattle.fle_engine.specs.Loading.{parts_in};
 ghost use Rattle.fle_engine.specs.Rulings.{makes};
-ghost use Rattle.fle_engine.specs.Sealing.{seal_ruling};
 ghost use Rattle.fle_stream.specs.Plan.{Plan};
 
 mod blocks;
 mod calls;
 mod filling;
 mod filling_calls;
+mod flags;
 mod kept;
 mod key_calls;
 mod keys;
@@ -46,6 +48,7 @@ mod told;
 mod values;
 
 use calls::{ask, ask_info, ask_to_open, mark, seal, unseal};
+use flags::set_of_flags;
 use need::{Need, most_wanted};
 use opening::open;
 use slot::Slot;
@@ -54,20 +57,26 @@ use told::Told;
 use values::{ask_for_key, seal_value};
 
 /// Opens a client in a slot, of one database, by the bytes of three files as the program reads them; one that was there
-/// is freed first. It knows each collection of its database: one without an info has no rules.
+/// is freed first. It knows each collection of its database: one without an info has no rules. The flag 1 says that it
+/// takes more commands than insert, update, delete and find; that any other has no meaning is told with status 15.
 #[unsafe(no_mangle)]
 pub extern "C" fn fle_open(
     alloc: Global,
     slot: &mut Slot,
+    flags: u32,
     db: &[u8],
     keys: &[u8],
     infos: &[u8],
     master: &[u8],
 ) -> Told
-    ensures opened { OpensAs db.now (parts_in db.now keys.now infos.now master.now) slot.new.kept.value result }
+    ensures opened { OpensAs flags db.now (parts_in db.now keys.now infos.now master.now) slot.new.kept.value
+        result }
 {
     let _ = slot.take(alloc);
-    match open(alloc, db, keys, infos, master) {
+    let Some(commands) = set_of_flags(flags) else {
+        return Told::no_flag();
+    };
+    match open(alloc, commands, db, keys, infos, master) {
         Ok(client) => {
             slot.put(client);
             Told::done(0, 0)
@@ -271,9 +280,9 @@ pub extern "C" fn fle_close(alloc: Global, slot: &mut Slot)
 /// bytes, and 16 for each of 666,666 values.
 #[unsafe(no_mangle)]
 pub extern "C" fn fle_needed(size: usize) -> Need
-    ensures enough { (keys : Finder) (infos : List Collection) (db : List ℕ) (c : Items) (plan : Plan)
-        → length (doc_bytes c) ≤ size → length (doc_bytes c) ≤ document_limit
-        → seal_ruling keys infos db c ≡ makes plan
+    ensures enough { (set : CommandSet) (keys : Finder) (infos : List Collection) (db : List ℕ) (c : Items)
+        (plan : Plan) → length (doc_bytes c) ≤ size → length (doc_bytes c) ≤ document_limit
+        → seal_by set keys infos db c ≡ makes plan
         → (plan.size ≤ result.room) × (16 * plan.draws ≤ result.random) }
     ensures close { (result.room ≤ 48000000) × (result.random ≤ 16 * 666666)
         × (result.room ≤ 45 * size) × (result.random ≤ 8 * size) }

@@ -6,8 +6,9 @@ ghost use Rattle.bson_tree.specs.Tree.{Items};
 ghost use Rattle.context_machine.specs.Rings.{Finder};
 ghost use Rattle.encrypt_schema.specs.Language.Collection.{Collection};
 ghost use Rattle.fle_c.specs.Calls.{document_limit};
+ghost use Rattle.fle_client.specs.CommandSets.{seal_by};
+ghost use Rattle.fle_client.specs.declared.commands.CommandSet.{CommandSet};
 ghost use Rattle.fle_engine.specs.Rulings.{makes};
-ghost use Rattle.fle_engine.specs.Sealing.{seal_ruling};
 ghost use Rattle.fle_stream.specs.Plan.{Plan};
 
 /// A command has at most this many bytes.
@@ -32,9 +33,9 @@ pub struct Need {
 /// What a command of so many bytes may want: a value takes at least two bytes beside its own, grows by 72 to 87, and
 /// draws a block of 16 at most.
 pub(crate) fn most_wanted(size: usize) -> Need
-    ensures enough { (keys : Finder) (infos : List Collection) (db : List ℕ) (c : Items) (plan : Plan)
-        → length (doc_bytes c) ≤ size → length (doc_bytes c) ≤ document_limit
-        → seal_ruling keys infos db c ≡ makes plan
+    ensures enough { (set : CommandSet) (keys : Finder) (infos : List Collection) (db : List ℕ) (c : Items)
+        (plan : Plan) → length (doc_bytes c) ≤ size → length (doc_bytes c) ≤ document_limit
+        → seal_by set keys infos db c ≡ makes plan
         → (plan.size ≤ result.room) × (16 * plan.draws ≤ result.random) }
     ensures close { (result.room ≤ 48000000) × (result.random ≤ 16 * 666666)
         × (result.room ≤ 45 * size) × (result.random ≤ 8 * size) }

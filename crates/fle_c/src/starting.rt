@@ -8,7 +8,7 @@ ghost use Rattle.fle_engine.specs.declared.loading.EngineFault.TheVariants as fa
 ghost use Rattle.fle_files.specs.Numbers.{master_number};
 ghost use Rattle.fle_stream.specs.declared.why.SetupFault.TheVariants as setups;
 
-use fle_client::Client;
+use fle_client::{Client, CommandSet};
 use fle_engine::EngineFault;
 use fle_files::number_of_master;
 use fle_outside::Memory;
@@ -19,23 +19,32 @@ use std::alloc::Global;
 /// The bytes of a master key are at most so many.
 const MASTER_LIMIT: usize = 129;
 
-/// A client with the master key in these bytes, or without one where there are none, in a block of its own.
-pub(crate) fn start(alloc: Global, bytes: &[u8]) -> Result<Box<Client>, EngineFault>
-    ensures made { IfOk result (λ b. Starts (start_key bytes.now) b.value) }
+/// A client of these commands with the master key in these bytes, or without one where there are none, in a block of
+/// its own.
+pub(crate) fn start(
+    alloc: Global,
+    commands: CommandSet,
+    bytes: &[u8],
+) -> Result<Box<Client>, EngineFault>
+    ensures made { IfOk result (λ b. Starts commands (start_key bytes.now) b.value) }
     ensures none { IfErr result (λ f. Reads (start_key bytes.now) (Err f)) }
 {
     match read_start_key(bytes) {
-        Ok(master) => start_under(alloc, master),
+        Ok(master) => start_under(alloc, commands, master),
         Err(fault) => Err(fault),
     }
 }
 
-/// A client with this master key or without one, in a block of its own.
-fn start_under(alloc: Global, master: Option<MasterKey>) -> Result<Box<Client>, EngineFault>
-    ensures made { IfOk result (λ b. IsStarted master b.value) }
+/// A client of these commands with this master key or without one, in a block of its own.
+fn start_under(
+    alloc: Global,
+    commands: CommandSet,
+    master: Option<MasterKey>,
+) -> Result<Box<Client>, EngineFault>
+    ensures made { IfOk result (λ b. IsStarted commands master b.value) }
     ensures none { IfErr result (λ f. f ≡ faults.Memory) }
 {
-    match Client::start(alloc, master) {
+    match Client::start(alloc, commands, master) {
         Ok(client) => match Box::new(alloc, client) {
             Ok(client) => Ok(client),
             Err(_) => Err(EngineFault::Memory),

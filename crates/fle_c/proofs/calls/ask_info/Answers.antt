@@ -12,8 +12,9 @@ returns-in-Ok c =
     let out = c.args.out.now in
     record {
       asked = judged document_limit
-          (λ (d : Items). AnswersAs (info_wanting_of c.args.db.now c.args.client.now.rules d) d none out c.tell.new.out
-          c.tell.result)
+          (λ (d : Items). AnswersAs
+          (info_wanting_of c.args.db.now c.args.client.now.commands c.args.client.now.rules d) d none out
+          c.tell.new.out c.tell.result)
           c.args.command.now out c.tell.new.out c.tell.result c.in-Ok.command.tree
           c.if-command-gt-DOCUMENT_LIMIT.false c.in-Ok.ensures.exact
           (record {

@@ -13,8 +13,8 @@ returns-in-Ok c =
     let out = c.args.out.now in
     record {
       marked = judged document_limit
-          (λ (d : Items). TellsReply (MarksAs c.args.client.now.rules c.args.db.now d none) 0 out c.tell_reply.new.out
-          c.tell_reply.result)
+          (λ (d : Items). TellsReply (MarksAs c.args.client.now.commands c.args.client.now.rules c.args.db.now d none)
+          0 out c.tell_reply.new.out c.tell_reply.result)
           c.args.command.now out c.tell_reply.new.out c.tell_reply.result c.in-Ok.command.tree
           c.if-command-gt-DOCUMENT_LIMIT.false c.in-Ok.ensures.exact
           (record {

@@ -16,8 +16,8 @@ pub reply_random-random-requires : goal.reply_random-random-requires
 reply_random-random-requires c =
     let client = c.args.client.now in
     record {
-      counted = reply_counted client.rules client.keys c.args.db.now c.in-Ok.command.tree c.args.command.now _ _
-          c.seal-reply.result c.in-Ok.ensures.found.1 c.seal-reply.ensures.sealed;
+      counted = reply_counted client.commands client.rules client.keys c.args.db.now c.in-Ok.command.tree
+          c.args.command.now _ _ c.seal-reply.result c.in-Ok.ensures.found.1 c.seal-reply.ensures.sealed;
     }
 
 pub returns-in-Ok-clause-sealed : goal.returns-in-Ok-clause-sealed
@@ -39,11 +39,11 @@ returns-in-Ok-clause-sealed c =
     judged document_limit
     (λ (d : Items). TellsReply
     (λ (r : Result Answer NoAnswer). (left : EntropySeen) × SealsAs client db d (handed_seen blocks 0) left r)
-    (random_by client.rules client.keys db d) out after told)
+    (random_by client.commands client.rules client.keys db d) out after told)
     c.args.command.now out after told c.in-Ok.command.tree c.if-command-gt-DOCUMENT_LIMIT.false c.in-Ok.ensures.exact
     (record {
       reply = reply;
       replied = (handed_seen bytes faults, is);
-      shown = reply_shown client.rules client.keys db c.in-Ok.command.tree blocks bytes faults reply out after told is
-          (subst (λ (n : ℕ). ShowsReply n reply out after told) random c.tell_reply.ensures.shows);
+      shown = reply_shown client.commands client.rules client.keys db c.in-Ok.command.tree blocks bytes faults reply
+          out after told is (subst (λ (n : ℕ). ShowsReply n reply out after told) random c.tell_reply.ensures.shows);
     })

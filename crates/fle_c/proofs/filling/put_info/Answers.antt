@@ -19,6 +19,7 @@ returns-in-Ok c =
           (record {
             put = c.put_info-put.result;
             rules = c.put_info-put.ensures.put;
+            commands = c.put_info-put.ensures.commands;
             keys = c.put_info-put.ensures.keys;
             numbers = c.tell_info.ensures.told;
           });

@@ -21,6 +21,7 @@ returns-in-Ok c =
             keys = c.put_key-put.ensures.put;
             master = c.put_key-put.ensures.master;
             rules = c.put_key-put.ensures.rules;
+            commands = c.put_key-put.ensures.commands;
             numbers = c.tell_put.ensures.told;
           });
     }
