@@ -12,8 +12,7 @@ from reference.paths import CLEAR, is_positional, rule_at
 from reference.reasons import Reason
 from reference.rules import Contents
 
-NUMBERS = (DOUBLE, INT, LONG)
-SAID = NUMBERS + (BOOL,)  # the types by which an order, or a choice of fields, is said
+SAID = (DOUBLE, INT, LONG, BOOL)  # the types by which an order, or a choice of fields, is said
 
 
 def is_branch(kind):
@@ -32,7 +31,19 @@ def is_flat(kind, value):
 
 
 class LibraryContents(Contents):
-    """One walk over a command that a library takes; what a field holds is judged by the method `of_` and that word."""
+    """One walk over a command that a library takes; what a field holds is judged by the method `of_` and that word.
+
+    `beyond` are offences that only a library sees: in a field of insert, update, delete and find that the rules don't
+    read, and in what names fields. They count where there are no others.
+    """
+
+    def __init__(self, rules):
+        super().__init__(rules)
+        self.beyond = []
+
+    def refused(self):
+        """What refuses the command (place, reason), or None."""
+        return min(self.offences or self.beyond, default=None)
 
     # ---- documents of which each field is listed
 
@@ -45,6 +56,13 @@ class LibraryContents(Contents):
             seen.add(name)
             self.held(holds.get(name), place + (number,), kind, name, value)
 
+    def others(self, place, elements, holds):
+        """Judges the fields that the rules don't read of a document that they judge."""
+        before = len(self.offences)
+        self.listed(place, elements, holds)
+        self.beyond += self.offences[before:]
+        del self.offences[before:]
+
     def held(self, what, place, kind, name, value):
         """Judges a field that holds this; None where it isn't listed."""
         if what == "own":
@@ -56,20 +74,25 @@ class LibraryContents(Contents):
 
     def own(self, names, place, kind, value):
         """A document of MongoDB's own names, as these are."""
-        self.allow(kind == DOCUMENT, place)
+        self.want(kind == DOCUMENT, place)
         for number, (inner, name, _) in enumerate(value if kind == DOCUMENT else []):
             self.allow(name in names and (name in BRANCHES or not is_branch(inner)), place + (number,))
 
-    def allow(self, well, place):
+    def want(self, well, place):
         """Refuses a field that isn't well."""
         if not well:
             self.refuse(place, Reason.FIELD_NOT_ALLOWED)
 
+    def allow(self, well, place):
+        """The same where only a library sees it."""
+        if not well:
+            self.beyond.append((place, Reason.FIELD_NOT_ALLOWED))
+
     def of_word(self, place, kind, _value):
-        self.allow(not is_branch(kind), place)
+        self.want(not is_branch(kind), place)
 
     def of_list(self, place, kind, value):
-        self.allow(kind != DOCUMENT and (kind != ARRAY or all(is_flat(inner, one) for inner, _, one in value)), place)
+        self.want(kind != DOCUMENT and (kind != ARRAY or all(is_flat(inner, one) for inner, _, one in value)), place)
 
     # ---- what names fields, and says no value of them
 
@@ -83,10 +106,18 @@ class LibraryContents(Contents):
 
     def projection(self, place, elements):
         """The choice of fields of a find, which may also have a part of an array, or what a search tells."""
+        super().projection(place, elements)
         for number, (kind, _, value) in enumerate(elements):
-            [(inner, word, chosen)] = value if kind == DOCUMENT and len(value) == 1 else [(0, "", b"")]
-            cut = word == "$slice" and (inner in NUMBERS or is_array_of(inner, chosen, NUMBERS))
-            self.allow(kind in SAID or cut or word == "$meta" and inner == STRING, place + (number,))
+            self.allow(kind in SAID + (DOCUMENT,), place + (number,))
+            for inner, word, chosen in value if kind == DOCUMENT else []:
+                self.chosen(place + (number, 0), inner, word, chosen)
+
+    def chosen(self, place, kind, word, value):
+        """A part of an array, or what a search tells."""
+        cut = word == "$slice"
+        self.allow(cut and kind in SAID + (ARRAY,) or word == "$meta" and kind == STRING, place)
+        for number, (inner, _, _) in enumerate(value if cut and kind == ARRAY else []):
+            self.allow(inner in SAID, place + (number,))
 
     def of_index_keys(self, place, kind, value):
         self.document_for(self.index_keys)(place, kind, value)
@@ -100,7 +131,7 @@ class LibraryContents(Contents):
         if kind == DOCUMENT:
             self.index_keys(place, value)
         else:
-            self.allow(kind == STRING, place)
+            self.want(kind == STRING, place)
 
     def of_path(self, place, kind, value):
         """The field whose values a distinct compares: by what they are sealed to, where they are."""
@@ -143,11 +174,11 @@ class LibraryContents(Contents):
 
     def item_of_updates(self, place, elements):
         super().item_of_updates(place, elements)
-        self.listed(place, elements, ITEMS["update"])
+        self.others(place, elements, ITEMS["update"])
 
     def item_of_deletes(self, place, elements):
         super().item_of_deletes(place, elements)
-        self.listed(place, elements, ITEMS["delete"])
+        self.others(place, elements, ITEMS["delete"])
 
     def of_indexes(self, place, kind, value):
         self.documents(place, kind, value, lambda here, elements: self.listed(here, elements, INDEX))
@@ -164,7 +195,7 @@ class LibraryContents(Contents):
         self.held(STAGES.get(name), place + (0,), kind, name, value)
 
     def of_number(self, place, kind, _value):
-        self.allow(kind in NUMBERS, place)
+        self.want(kind in SAID, place)
 
     def is_clear(self, name):
         """Whether a dotted path is clear of all rules."""
@@ -172,10 +203,10 @@ class LibraryContents(Contents):
         return self.standing(path) == CLEAR and not is_positional(self.rules, path)
 
     def of_new_name(self, place, kind, value):
-        self.allow(kind == STRING and self.is_clear(words_of(value)), place)
+        self.want(kind == STRING and self.is_clear(words_of(value)), place)
 
     def of_names(self, place, kind, value):
-        self.allow(kind == STRING or is_array_of(kind, value, [STRING]), place)
+        self.want(kind == STRING or is_array_of(kind, value, [STRING]), place)
 
     def of_group(self, place, kind, value):
         """A group of all documents, of which only their number, or so many times a number, is told."""
@@ -183,10 +214,10 @@ class LibraryContents(Contents):
             self.refuse(place, Reason.FIELD_NOT_ALLOWED)
             return
         for number, (inner, name, told) in enumerate(value):
-            summed = inner == DOCUMENT and len(told) == 1 and told[0][1] == "$sum" and told[0][0] in NUMBERS
+            summed = inner == DOCUMENT and len(told) == 1 and told[0][1] == "$sum" and told[0][0] in SAID
             well = inner in SAID + (NULL,) if name == "_id" else summed
             twice = name in [other for _, other, _ in value[:number]]
-            self.allow(well and self.is_clear(name), place + (number,))
+            self.want(well and self.is_clear(name), place + (number,))
             if twice:
                 self.refuse(place + (number,), Reason.BAD_FIELD)
 
@@ -197,6 +228,8 @@ class LibraryContents(Contents):
         name, names = elements[0][1], [name for _, name, _ in elements]
         if name in MARKED:
             super().command(elements)
+            self.others((), elements, LISTED[name])
+            return self
         one = name != "findAndModify" or ("update" in names) != ("remove" in names)
         if not one or any(required not in names for required in REQUIRED.get(name, [])):
             self.refuse((), Reason.BAD_FIELD)
@@ -229,7 +262,7 @@ def first_listed(command, holds):
     """What refuses a command of which nothing is sealed."""
     contents = LibraryContents({})
     contents.listed((), command, holds)
-    return min(contents.offences, default=None)
+    return min(contents.offences + contents.beyond, default=None)
 
 
 def judge_explained(infos, command, database):
@@ -250,7 +283,7 @@ def judge_ruled(infos, command, database):
     rules, is_view = info_of(infos, command)
     if is_view:
         return (0,), Reason.VIEW
-    return min(LibraryContents(rules).command(command).offences, default=None) if rules else None
+    return LibraryContents(rules).command(command).refused() if rules else None
 
 
 def judge(infos, command, database):

@@ -33,9 +33,13 @@ def marks_of(infos, command):
     return Contents(rules).command(command).marks if rules else {}
 
 
+def reply_with(marks, is_ruled, command):
+    """The marking reply to a command with these marks, whose collection has rules or not."""
+    return spell([(BOOL, "hasEncryptionPlaceholders", bytes([bool(marks)])),
+                  (BOOL, "schemaRequiresEncryption", bytes([is_ruled])),
+                  (DOCUMENT, "result", marked(marks, command)), (DOUBLE, "ok", struct.pack("<d", 1.0))])
+
+
 def reply(infos, command):
     """The marking reply to a command that isn't refused."""
-    marks = marks_of(infos, command)
-    return spell([(BOOL, "hasEncryptionPlaceholders", bytes([bool(marks)])),
-                  (BOOL, "schemaRequiresEncryption", bytes([bool(rules_of(infos, command))])),
-                  (DOCUMENT, "result", marked(marks, command)), (DOUBLE, "ok", struct.pack("<d", 1.0))])
+    return reply_with(marks_of(infos, command), bool(rules_of(infos, command)), command)
