@@ -43,14 +43,32 @@ type Engine struct {
 	slot C.fle_slot
 }
 
-// Open opens an engine. The name of the database has 1 to 63 bytes. Keys are a vault, BSON documents one behind the
+// Option says what an engine does beside what it does without options.
+type Option uint32
+
+// CommandsMore has an engine take count, findAndModify, distinct, createIndexes and commands that hold no value of a
+// collection, as drop, and refuse in each, and in insert, update, delete and find, what says a value where none belongs:
+// what a driver's command layer wants.
+const CommandsMore Option = C.FLE_COMMANDS_MORE
+
+// flags are these options as the library has them.
+func flags(options []Option) C.uint32_t {
+	var all Option
+	for _, option := range options {
+		all |= option
+	}
+	return C.uint32_t(all)
+}
+
+// Open opens an engine, with these options or none. The name of the database has 1 to 63 bytes. Keys are a vault, BSON documents one behind the
 // other, or nothing; infos are in BSON or a JSON text; master is 96 bytes or their base64 text: as the files KEYS,
 // SCHEMAS and MASTER of the program fle. None of them may change during the call; behind it they aren't used.
 //
-// An [Error] has status [Words] for the name, [Setup] for what is at fault in one of the three, or [Memory].
-func Open(db string, keys, infos, master []byte) (*Engine, error) {
+// An [Error] has status [Words] for the name, [Setup] for what is at fault in one of the three, [Flags] for an option
+// that the library doesn't know, or [Memory].
+func Open(db string, keys, infos, master []byte, options ...Option) (*Engine, error) {
 	engine, name := new(Engine), []byte(db)
-	answer := C.fle_open(&engine.slot, at(name), size(name), at(keys), size(keys), at(infos), size(infos),
+	answer := C.fle_open(&engine.slot, flags(options), at(name), size(name), at(keys), size(keys), at(infos), size(infos),
 		at(master), size(master))
 	return begun(engine, answer)
 }

@@ -20,7 +20,7 @@ const (
 	NoId         Status = 12 // a key is named by an id that hasn't 16 bytes
 	NoInfo       Status = 13 // the engine wasn't told of the command's collection
 	NoNames      Status = 14 // a new key can't have the names that are handed in
-	Flags        Status = 15 // the library doesn't know the flags; none are handed in here
+	Flags        Status = 15 // the library doesn't know an option
 )
 
 // String is the name of the status.

@@ -3,15 +3,15 @@ package fle
 // #include <fle.h>
 import "C"
 
-// Start gives an engine without infos and keys, for any number of databases: [Engine.PutInfo] and [Engine.PutKey] tell
+// Start gives an engine with these options or none, without infos and keys, for any number of databases: [Engine.PutInfo] and [Engine.PutKey] tell
 // it what comes from servers. It marks and seals no command for a collection that it wasn't told of, and comes to an
 // [Error] with status [NoInfo]. The master key is as of [Open]; without one, of no bytes, it marks and says what is
 // wanted, and calls that seal or open come to status [NotOpen].
 //
-// An [Error] has status [Setup], with master as its File, or [Memory].
-func Start(master []byte) (*Engine, error) {
+// An [Error] has status [Setup], with master as its File, [Flags] or [Memory].
+func Start(master []byte, options ...Option) (*Engine, error) {
 	engine := new(Engine)
-	return begun(engine, C.fle_start(&engine.slot, 0, at(master), size(master)))
+	return begun(engine, C.fle_start(&engine.slot, flags(options), at(master), size(master)))
 }
 
 // PutInfo puts the info of one collection of a database, one BSON document as listCollections has it: in the place of

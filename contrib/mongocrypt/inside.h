@@ -17,9 +17,9 @@
 
 #include "fle.h"
 
-/* FLAGS is what fle_start is handed: with 0, commands beyond insert, update, delete and find are refused by reason 1,
- * but for those that pass. A flag of fle.h that takes more of them belongs here. */
-enum { FLAGS = 0 };
+/* What fle_start is handed: commands beyond insert, update, delete and find are taken, and in none does a value go out
+ * where none belongs. */
+enum { FLAGS = FLE_COMMANDS_MORE };
 
 enum { TEXT = 2, DOCUMENT = 3, ARRAY = 4, BINARY = 5, ID = 16, MATERIAL = 96 }; /* types of BSON, and lengths */
 

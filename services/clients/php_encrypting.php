@@ -1,9 +1,9 @@
 <?php
 // A client with encryption of its own: PHP's driver, which asks a service what to seal.
-// Use: php php_encrypting.php HOST:PORT SERVICE SCHEMAS COUNTS
+// Use: php php_encrypting.php HOST:PORT SERVICE SCHEMAS
 //
-// SERVICE is the URI of one. SCHEMAS is a file with a schema map, or - for the server's own schemas. COUNTS is what
-// counting comes to: refused, or counted.
+// SERVICE is the URI of one. SCHEMAS is a file with a schema map, or - for the server's own schemas. Words behind these
+// aren't read.
 use MongoDB\BSON\Binary;
 use MongoDB\Driver\{BulkWrite, Command, Manager, Query};
 
@@ -37,7 +37,7 @@ function write(Manager $client, string $collection, callable $with): MongoDB\Dri
     return $client->executeBulkWrite("hr.$collection", $bulk);
 }
 
-[, $server, $service, $schemas, $counts] = $argv;
+[, $server, $service, $schemas] = $argv;
 $master = implode('', array_map('chr', range(0, 95)));
 $encryption = [
     'keyVaultNamespace' => 'encryption.__keyVault',
@@ -74,8 +74,4 @@ refused(fn() => write($client, 'people', fn($bulk) => $bulk->insert($null)), 'Ty
 $done = write($client, 'free', fn($bulk) => $bulk->insert(['a' => 'b']));
 want($done->getInsertedCount() === 1, 'an insert without rules');
 $count = fn() => $client->executeCommand('hr', new Command(['count' => 'people', 'query' => ['ssn' => 'SEKRET-1']]));
-if ($counts === 'refused') {
-    refused($count, 'NotACommand', 'count');
-} else {
-    want($count()->toArray()[0]->n === 6, 'a count');
-}
+want($count()->toArray()[0]->n === 6, 'a count');

@@ -50,7 +50,8 @@ func TestTheMost(t *testing.T) {
 	if err := asks(dial(t, front)); err == nil {
 		t.Error("one above the most is served")
 	}
-	if !strings.Contains(said.String(), `"why":"above 8 connections"`) || strings.Count(said.String(), "\n") != 1 {
+	mock.Within10s(t, func() bool { return strings.Contains(said.String(), `"why":"above 8 connections"`) })
+	if strings.Count(said.String(), "\n") != 1 {
 		t.Error(said)
 	}
 	all[0].Close()

@@ -47,10 +47,10 @@ func New(log *journal.Log) *Service {
 	return service
 }
 
-// open starts an engine by rules alone, which marks no command for another collection than that of these infos, or for
+// open starts an engine by rules alone, of all commands that the library takes, which marks no command for another collection than that of these infos, or for
 // any where there are none.
 func open(db string, infos []byte) (Engine, error) {
-	engine, err := fle.Start(nil)
+	engine, err := fle.Start(nil, fle.CommandsMore)
 	if err == nil && infos != nil {
 		err = engine.PutInfo(db, infos)
 	}

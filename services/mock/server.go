@@ -200,6 +200,9 @@ func (server *Server) run(name string, command []byte) []byte {
 			found = found[:limit]
 		}
 		return server.batch("firstBatch", collection, found)
+	case "count":
+		found := server.matching(collection, Field(fields, "query").Value)
+		return OK(bson.AppendInt32(nil, "n", int32(len(found))))
 	case "getMore":
 		id := int64(Number(fields[0]))
 		rest := server.cursors[id]

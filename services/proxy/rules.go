@@ -80,7 +80,7 @@ func (files Files) Read() (Rules, error) {
 		}
 		database := &Database{}
 		for len(database.Engines) < files.Engines {
-			engine, err := fle.Open(db, keys, infos, master)
+			engine, err := fle.Open(db, keys, infos, master, fle.CommandsMore)
 			if err != nil {
 				return nil, fmt.Errorf("the database %q by %s, %s, %s: %w", db, files.Keys, path, files.Master, err)
 			}

@@ -185,18 +185,40 @@ static void refusals(void) {
         want(!is && mongocrypt_ctx_state(ctx) == MONGOCRYPT_CTX_ERROR, "a database of no name is refused");
         mongocrypt_ctx_destroy(ctx);
     }
-    static const char *const beyond[] = {"aggregate", "count",   "distinct", "findAndModify",
-                                         "create",    "collMod", "drop"};
+    static const char *const beyond[] = {"aggregate", "create", "collMod", "explain"};
     for (size_t i = 0; i < sizeof beyond / sizeof *beyond; i++)
         want_refusal(sealing_once(crypt, BCON_NEW(beyond[i], BCON_UTF8(i % 2 ? "people" : "free"), "x", SECRET)),
                      &nothing, "NotACommand", "");
-    bson_t *ping = BCON_NEW("ping", BCON_INT32(1)), *out = ended(sealing(crypt, ping), &nothing, said);
-    want(out && bson_equal(out, ping), "ping passes");
-    bson_destroy(ping), bson_destroy(out), mongocrypt_destroy(crypt);
+    static const char *const listed[] = {"count", "drop", "listIndexes"};
+    for (size_t i = 0; i < sizeof listed / sizeof *listed; i++)
+        want_refusal(sealing_once(crypt, BCON_NEW(listed[i], "people", "x", SECRET)), &nothing, "FieldNotAllowed", "x");
+    mongocrypt_destroy(crypt);
+}
+
+/* What passes as it is, and what is sealed beyond insert, update, delete and find. */
+static void beyond_the_four(void) {
+    mongocrypt_t *crypt = handle_of(1, map);
+    bson_t *const pass[] = {BCON_NEW("ping", BCON_INT32(1)), BCON_NEW("drop", "people"),
+                            BCON_NEW("count", "free", "query", "{", "a", "b", "}")};
+    for (size_t i = 0; i < sizeof pass / sizeof *pass; i++) {
+        bson_t *out = ended(sealing(crypt, pass[i]), &nothing, said);
+        want(out && bson_equal(out, pass[i]), "it passes");
+        bson_destroy(pass[i]), bson_destroy(out);
+    }
+    bson_t *const sealed[] = {BCON_NEW("count", "people", "query", "{", "ssn", SECRET, "}"),
+                              BCON_NEW("distinct", "people", "key", "n", "query", "{", "ssn", SECRET, "}"),
+                              BCON_NEW("findAndModify", "people", "query", "{", "ssn", SECRET, "}", "update", "{",
+                                       "$set", "{", "pay", SECRET, "}", "}")};
+    for (size_t i = 0; i < sizeof sealed / sizeof *sealed; i++) {
+        bson_t *out = ended(sealing(crypt, sealed[i]), &both, said);
+        want(out && !memmem(bson_get_data(out), out->len, SECRET, strlen(SECRET)), "it is sealed");
+        bson_destroy(sealed[i]), bson_destroy(out);
+    }
+    mongocrypt_destroy(crypt);
 }
 
 int main(void) {
     begin_all();
-    remote_rules(), schema_map(), absence(), wrong_infos(), vaults(), nested(), forgotten_between(), refusals();
+    remote_rules(), schema_map(), absence(), wrong_infos(), vaults(), nested(), forgotten_between(), refusals(), beyond_the_four();
     return end_all();
 }

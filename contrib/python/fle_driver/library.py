@@ -14,6 +14,7 @@ from .process import Bytes
 from .walk import place_at
 
 FOUND = "libfle.so.0"
+COMMANDS_MORE = 1  # the flag of an engine that takes the commands of a driver, and refuses a value where none belongs
 FEW, SPARE = 256, 4096  # what a call is handed at first: random bytes for 16 values, and room beside twice a document
 
 
@@ -44,7 +45,7 @@ class Answer(ctypes.Structure):
 SLOT = ctypes.POINTER(Slot)
 BYTES = ctypes.c_char_p, ctypes.c_size_t
 # What each call answers, and what it takes: with an argument too few it isn't called.
-FORMS = {"fle_open": (Answer, (SLOT, *BYTES * 4)), "fle_seal": (Answer, (SLOT, *BYTES * 4)),
+FORMS = {"fle_open": (Answer, (SLOT, ctypes.c_uint32, *BYTES * 4)), "fle_seal": (Answer, (SLOT, *BYTES * 4)),
          "fle_unseal": (Answer, (SLOT, *BYTES * 2)), "fle_close": (None, (SLOT,))}
 
 # The same of those that library_keys.py makes: flags and a time stand between their bytes.
@@ -72,11 +73,11 @@ class Opened:
 
     def __init__(self, calls: ctypes.CDLL, arguments: Sequence[bytes]) -> None:
         self.calls, self.slot = calls, Slot()
-        self.answer = self.call(calls.fle_open, arguments)
+        self.answer = self.call(calls.fle_open, arguments, None, COMMANDS_MORE)
 
-    def call(self, call: Any, arguments: Sequence[bytes], out: Any = None) -> Answer:
+    def call(self, call: Any, arguments: Sequence[bytes], out: Any = None, *flags: int) -> Answer:
         """What a call answers at this slot."""
-        words: List[object] = [ctypes.byref(self.slot)]
+        words: List[object] = [ctypes.byref(self.slot), *flags]
         for argument in arguments:
             words += [argument, len(argument)]
         if out is not None:
