@@ -60,9 +60,10 @@ func flags(options []Option) C.uint32_t {
 	return C.uint32_t(all)
 }
 
-// Open opens an engine, with these options or none. The name of the database has 1 to 63 bytes. Keys are a vault, BSON documents one behind the
-// other, or nothing; infos are in BSON or a JSON text; master is 96 bytes or their base64 text: as the files KEYS,
-// SCHEMAS and MASTER of the program fle. None of them may change during the call; behind it they aren't used.
+// Open opens an engine, with these options or none. The name of the database has 1 to 63 bytes. Keys are a vault, BSON
+// documents one behind the other, or nothing; infos are in BSON or a JSON text; master is 96 bytes or their base64 text:
+// as the files KEYS, SCHEMAS and MASTER of the program fle. None of them may change during the call; behind it they
+// aren't used.
 //
 // An [Error] has status [Words] for the name, [Setup] for what is at fault in one of the three, [Flags] for an option
 // that the library doesn't know, or [Memory].

@@ -3,10 +3,10 @@ package fle
 // #include <fle.h>
 import "C"
 
-// Start gives an engine with these options or none, without infos and keys, for any number of databases: [Engine.PutInfo] and [Engine.PutKey] tell
-// it what comes from servers. It marks and seals no command for a collection that it wasn't told of, and comes to an
-// [Error] with status [NoInfo]. The master key is as of [Open]; without one, of no bytes, it marks and says what is
-// wanted, and calls that seal or open come to status [NotOpen].
+// Start gives an engine with these options or none, without infos and keys, for any number of databases:
+// [Engine.PutInfo] and [Engine.PutKey] tell it what it is to know. A command for a collection that it wasn't told of
+// comes to an [Error] with status [NoInfo]. The master key is as of [Open]; without one, of no bytes, it marks and says
+// what is wanted, and calls that seal or open come to status [NotOpen].
 //
 // An [Error] has status [Setup], with master as its File, [Flags] or [Memory].
 func Start(master []byte, options ...Option) (*Engine, error) {
