@@ -139,8 +139,9 @@ class Cases:
         self.assertEqual((refused.exception.reason, refused.exception.fields),
                          (Reason.TypeNotAllowed, "documents.0.ssn"))
         people = self.people
-        for call in (lambda: people.count_documents({}), lambda: people.find_one_and_delete(FILTER),
-                     lambda: people.aggregate([]), lambda: people.create_index("ssn"), lambda: people.distinct("ssn")):
+        more = [lambda: people.find_one_and_delete(FILTER), lambda: people.create_index("ssn"),
+                lambda: people.distinct("ssn", FILTER)]
+        for call in [lambda: people.count_documents({}), lambda: people.aggregate([])] + (self.program and more or []):
             with self.assertRaises(Refused):
                 await call()
         for collection in (self.client.hr.People, self.client.elsewhere.people):

@@ -4,7 +4,9 @@ import threading
 import unittest
 from unittest import mock
 
+import bson
 import pymongo
+from bson.son import SON
 
 from fle_driver.coroutines import AT_ONCE
 from fle_driver.hook import Hook
@@ -12,6 +14,7 @@ from fle_driver.library import loaded
 
 from . import test_async_client, test_coroutines
 from .samples import spelled, string
+from .test_hook import FILTER, written
 
 
 @unittest.skipUnless(loaded() and shutil.which("fle"), "no libfle.so that the system finds, or no fle in PATH")
@@ -37,4 +40,10 @@ class StandIn(ByLibrary, test_coroutines.Cases, test_coroutines.WithClient):
 
 if hasattr(pymongo, "AsyncMongoClient"):
     class Client(ByLibrary, test_async_client.Cases, test_async_client.WithClient):
-        pass
+        async def test_commands_of_the_library(self):
+            await self.people.find_one_and_delete(FILTER)
+            found = bson.encode(SON([("find", "people"), ("filter", FILTER)]))
+            self.assertEqual(self.wire.last("query"), written(found, "filter"))
+            await self.people.create_index("ssn")
+            self.assertEqual(self.names(), ["findAndModify", "createIndexes"])
+            self.sealed_alone()
