@@ -1,7 +1,7 @@
 // Fled has two services of fle for drivers: one between a driver without encryption and a MongoDB server, and one in
 // mongocryptd's place.
 //
-//	fled proxy --server HOST:PORT --listen ADDRESS --db DB=SCHEMAS [--db ..] [OPTIONS] KEYS MASTER
+//	fled proxy --server SERVER --db DB=SCHEMAS [--db ..] [OPTIONS] KEYS MASTER
 //	fled mark [--listen ADDRESS] [OPTIONS]
 //
 // Called by the name mongocryptd it does as the second. It ends with 0 once SIGTERM or SIGINT has come, or nothing has
@@ -16,8 +16,11 @@ import (
 	"fled/journal"
 )
 
-const usage = `usage: fled proxy --server HOST:PORT --listen HOST:PORT --db DB=SCHEMAS [--db ..] [OPTIONS] KEYS MASTER
+const usage = `usage: fled proxy --server SERVER --db DB=SCHEMAS [--db ..] [OPTIONS] KEYS MASTER
+  --server SERVER   HOST:PORT, or mongodb://HOST:PORT/?tls=true
   --db DB=SCHEMAS   a database, and the file of its rules
+  --listen ADDRESS  HOST:PORT (127.0.0.1:27018)
+  --others pass     send commands to other databases as they are
   --tls             TLS to the server, by the system's roots or
   --ca FILE         by these
   --cert FILE       TLS to clients: the certificate, and

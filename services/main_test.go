@@ -39,12 +39,27 @@ func TestWords(t *testing.T) {
 		read.files.Keys != examples+"keys.bson" || read.files.Master != examples+"EXAMPLE-ONLY.master" {
 		t.Errorf("%+v %v", read, err)
 	}
+	for word, wanted := range map[string]options{
+		"mongodb://a":                        {server: "a:27017"},
+		"mongodb://a:1/":                     {server: "a:1"},
+		"mongodb://[::1]:1":                  {server: "[::1]:1"},
+		"mongodb://a:1/?tls=true":            {server: "a:1", tls: true},
+		"mongodb://a:1/?tlsCAFile=%2Fca.pem": {server: "a:1", tls: true, ca: "/ca.pem"},
+	} {
+		read, err := readOptions([]string{"--server", word, "--others", "pass", "--db", "hr=x", "KEYS", "MASTER"})
+		if err != nil || read.server != wanted.server || read.tls != wanted.tls || read.ca != wanted.ca || !read.others ||
+			read.listen != "127.0.0.1:27018" {
+			t.Errorf("%s: %+v %v", word, read, err)
+		}
+	}
 	for _, wrong := range [][]string{
 		nil, {"KEYS", "MASTER"}, words("--db", "hr=twice"), words("--db", "none"), words("--ca", "x"), words("--cert", "x"),
 		words("--key", "x"), words("--cert", "x", "--key", "y", "--plain"), words("--engines", "0"), words("--unknown"),
 		words("--server", "nowhere"), words("--listen", "1"), words("--name", "x"), append(words(), "more"),
-		{"--server", "a:1", "--listen", "b:1", "KEYS", "MASTER"}, {"--server", "a:1", "--db", "a=b", "KEYS", "MASTER"},
-		{"--listen", "a:1", "--db", "a=b", "KEYS", "MASTER"},
+		{"--server", "a:1", "--listen", "b:1", "KEYS", "MASTER"},
+		{"--listen", "a:1", "--db", "a=b", "KEYS", "MASTER"}, words("--others", "some"),
+		words("--server", "mongodb://a:1,b:1"), words("--server", "mongodb://user:word@a:1"), words("--server", "mongodb://"),
+		words("--server", "mongodb+srv://a"), words("--server", "mongodb://a/?w=1"), words("--server", "mongodb://a/db"),
 	} {
 		if read, err := readOptions(wrong); err == nil {
 			t.Errorf("%q is read as %+v", wrong, read)
@@ -176,6 +191,11 @@ func started(t *testing.T, log *journal.Log, words []string) (*service, string) 
 // asked is the reply to one command, by a connection of its own.
 func asked(conn net.Conn, command []byte) (string, error) {
 	defer conn.Close()
+	return askedAgain(conn, command)
+}
+
+// askedAgain is the same over a connection that stays.
+func askedAgain(conn net.Conn, command []byte) (string, error) {
 	conn.SetDeadline(time.Now().Add(10 * time.Second))
 	if _, err := (wire.Msg{Body: command}).Message(7, 0).WriteTo(conn); err != nil {
 		return "", err

@@ -8,6 +8,7 @@ import (
 	"fmt"
 	"io"
 	"net"
+	"net/url"
 	"os"
 	"strings"
 
@@ -17,7 +18,7 @@ import (
 // options are the words behind `fled proxy`.
 type options struct {
 	server, listen, name string
-	tls, plain           bool
+	tls, plain, others   bool
 	ca, cert, key        string
 	files                proxy.Files
 }
@@ -27,8 +28,8 @@ func readOptions(words []string) (options, error) {
 	read := options{files: proxy.Files{Schemas: map[string]string{}}}
 	flags := flag.NewFlagSet("fled proxy", flag.ContinueOnError)
 	flags.SetOutput(io.Discard)
-	flags.StringVar(&read.server, "server", "", "")
-	flags.StringVar(&read.listen, "listen", "", "")
+	flags.Func("server", "", read.takeServer)
+	flags.StringVar(&read.listen, "listen", "127.0.0.1:27018", "")
 	flags.StringVar(&read.name, "name", "", "")
 	flags.BoolVar(&read.tls, "tls", false, "")
 	flags.BoolVar(&read.plain, "plain", false, "")
@@ -37,6 +38,7 @@ func readOptions(words []string) (options, error) {
 	flags.StringVar(&read.key, "key", "", "")
 	flags.IntVar(&read.files.Engines, "engines", 4, "")
 	flags.Func("db", "", read.addDatabase)
+	flags.Func("others", "", read.takeOthers)
 	if err := flags.Parse(words); err != nil {
 		return read, err
 	}
@@ -45,6 +47,40 @@ func readOptions(words []string) (options, error) {
 	}
 	read.files.Keys, read.files.Master = flags.Arg(0), flags.Arg(1)
 	return read, read.fault()
+}
+
+// takeServer takes HOST:PORT, or the URI of one server, which may say tls and tlsCAFile.
+func (read *options) takeServer(word string) error {
+	if !strings.Contains(word, "/") {
+		read.server = word
+		return nil
+	}
+	uri, err := url.Parse(word)
+	if err != nil || uri.Scheme != "mongodb" || uri.User != nil || uri.Hostname() == "" || strings.Trim(uri.Path, "/") != "" {
+		return errors.New("mongodb://HOST[:PORT][/?tls=true[&tlsCAFile=FILE]] is wanted: clients authenticate")
+	}
+	if read.server = uri.Host; uri.Port() == "" {
+		read.server = net.JoinHostPort(uri.Hostname(), "27017")
+	}
+	for name, values := range uri.Query() {
+		switch value := values[len(values)-1]; {
+		case (name == "tls" || name == "ssl") && (value == "true" || value == "false"):
+			read.tls = value == "true"
+		case name == "tlsCAFile":
+			read.tls, read.ca = true, value
+		default:
+			return fmt.Errorf("the option %q of a URI isn't known", name)
+		}
+	}
+	return nil
+}
+
+// takeOthers takes pass or refuse.
+func (read *options) takeOthers(word string) error {
+	if read.others = word == "pass"; !read.others && word != "refuse" {
+		return errors.New("pass or refuse is wanted")
+	}
+	return nil
 }
 
 // addDatabase takes DB=SCHEMAS.

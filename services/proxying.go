@@ -27,6 +27,7 @@ func serve(options options, log *journal.Log) error {
 	}
 	service := &service{options: options, proxy: proxy.New(rules, log)}
 	service.proxy.Server, service.proxy.Name = options.server, options.name
+	service.proxy.OthersPass = options.others
 	if service.proxy.TLS, err = options.toServer(); err != nil {
 		return err
 	}

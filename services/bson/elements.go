@@ -18,6 +18,7 @@ const (
 	Array    = 0x04
 	Bool     = 0x08
 	Int32    = 0x10
+	Int64    = 0x12
 )
 
 const regex, least = 0x0b, 5 // and the bytes of a document without elements

@@ -2,6 +2,7 @@ package proxy
 
 import (
 	"encoding/binary"
+	"errors"
 
 	"fled/bson"
 )
@@ -10,14 +11,29 @@ import (
 // and no less than the longest reply, which some drivers hold to it too.
 const messageMost = 17 << 20
 
+// helloNames are what a hello may have, by MongoDB's handshake specification and the manual of the command; of an
+// OP_QUERY or an OP_MSG.
+var helloNames = words(`hello isMaster ismaster $clusterTime $db $readPreference apiDeprecationErrors apiStrict apiVersion
+	backpressure client comment compression helloOk loadBalanced lsid maxAwaitTimeMS maxTimeMS saslSupportedMechs
+	speculativeAuthenticate topologyVersion`)
+
+// errHello is a hello with a name that is no hello's.
+var errHello = errors.New("FieldNotAllowed: a hello with a field that isn't its own")
+
 // helloRequest is a client's hello without what it would compress by.
 func helloRequest(hello []byte) ([]byte, error) {
-	return rewritten(hello, func(element bson.Element) []byte {
+	isOwn := true
+	sent, err := rewritten(hello, func(element bson.Element) []byte {
+		isOwn = isOwn && helloNames[element.Name]
 		if element.Name == "compression" {
 			return nil
 		}
 		return element.Whole
 	})
+	if err == nil && !isOwn {
+		err = errHello
+	}
+	return sent, err
 }
 
 // helloReply is a server's hello as a client gets it: the proxy is the only host, by this address.

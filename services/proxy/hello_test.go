@@ -102,11 +102,15 @@ func TestANameOfTheProxy(t *testing.T) {
 
 // Authentication passes, in a hello too, by whichever database a client authenticates.
 func TestAuthenticationPasses(t *testing.T) {
-	rig := startRig(t, faked(func([]byte) ([]byte, error) { return nil, errForm }))
+	rig := startRig(t, examples(t))
 	for _, db := range []string{"admin", "$external", "hr"} {
 		for _, name := range []string{"saslStart", "saslContinue"} {
-			payload := bson.Append(nil, 0x05, "payload", []byte("\x05\x00\x00\x00\x00n,,n="))
-			command := bson.Wrap(bson.AppendInt32(nil, name, 1), payload, bson.AppendText(nil, "$db", db))
+			more := bson.Append(nil, 0x05, "payload", []byte("\x05\x00\x00\x00\x00n,,n="))
+			if name == "saslStart" {
+				skips := bson.Wrap(bson.AppendBool(nil, "skipEmptyExchange", true))
+				more = bson.Append(bson.AppendText(more, "mechanism", "PLAIN"), bson.Document, "options", skips)
+			}
+			command := bson.Wrap(bson.AppendInt32(nil, name, 1), more, bson.AppendText(nil, "$db", db))
 			if fields := mock.Dial(t, rig.address).Command(wire.Msg{Body: command}); mock.Number(mock.Field(fields, "ok")) != 1 {
 				t.Error(name, db, fields)
 			}

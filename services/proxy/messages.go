@@ -49,47 +49,54 @@ func (session *session) sendMsg(message wire.Message) (*request, error) {
 	read, err := readCommand(msg.Body)
 	sent := msg
 	if err == nil {
-		sent, err = judged(rules, read, msg)
+		sent, err = session.proxy.judged(rules, read, msg)
 	}
 	if err == nil && sent.Size() > wire.MaxMessage {
 		err = &fle.Error{Status: fle.Limit, Number: 2, Reason: "Output"}
 	}
+	if errors.Is(err, errHeld) {
+		return nil, err
+	}
 	if err != nil {
 		return nil, session.refuse(message.ID, read.name, msg.MoreToCome, err)
 	}
-	if err := session.write(session.server, sent.Message(message.ID, message.To)); err != nil || msg.MoreToCome {
+	if err := sent.SendTo(session.server, message.ID, message.To); err != nil || msg.MoreToCome {
 		return nil, err
 	}
 	return &request{message.ID, wire.OpMsg, wire.IsHello(read.name), rules.engine(read.db)}, nil
 }
 
 // judged is what is sent of a command.
-func judged(rules Rules, read command, msg wire.Msg) (wire.Msg, error) {
-	if read.isJudged(rules) {
-		database := rules[read.db]
+func (proxy *Proxy) judged(rules Rules, read command, msg wire.Msg) (wire.Msg, error) {
+	database, isHello := rules[read.db], wire.IsHello(read.name)
+	passes := isHello || database == nil && passing[read.name]
+	switch {
+	case read.name == renaming && database != nil:
+		return msg, errReach
+	case passes && len(msg.Sequences) > 0:
+		return msg, errSequences
+	case isHello:
+		body, err := helloRequest(msg.Body)
+		msg.Body = body
+		return msg, err
+	case database != nil:
 		whole, err := sealed(database.engine(), read.db, msg)
 		if err != nil {
 			return whole, err
 		}
 		return whole, read.wantListed(database)
+	case passes:
+		return msg, rules.wantOwnNames(msg.Body)
+	case !proxy.OthersPass:
+		return msg, read.notPassing(rules)
 	}
-	if err := read.wantPassing(rules); err != nil {
-		return msg, err
-	}
-	if len(msg.Sequences) > 0 {
-		return msg, errSequences
-	}
-	if wire.IsHello(read.name) {
-		body, err := helloRequest(msg.Body)
-		msg.Body = body
-		return msg, err
-	}
-	return msg, nil
+	return msg, rules.wantNoReach(read, msg)
 }
 
 // refuse says why a command isn't sent: in the log, and to a client that waits for a reply.
 func (session *session) refuse(id int32, name string, moreToCome bool, why error) error {
 	told := refusal.Said(why)
+	session.refused++
 	session.say("refused", "command", name, "why", told)
 	if moreToCome {
 		return nil
@@ -119,17 +126,27 @@ func (session *session) hand(asked *request, reply wire.Message) error {
 	case asked.isHello:
 		msg.Body, err = helloReply(msg.Body, session.address)
 	default:
-		msg.Body, err = opened(asked.engine, msg.Body)
+		sealed := msg.Body
+		msg.Body, err = opened(asked.engine, sealed)
 		if told := (*fle.Error)(nil); errors.As(err, &told) {
-			told := refusal.Said(fmt.Errorf("the reply: %w", err))
-			session.say("refused", "why", told)
-			return session.answer(asked.id, refusal.Reply(told))
+			return session.refuseReply(asked.id, sealed, err)
 		}
 	}
 	if err != nil {
 		return from("server", err)
 	}
-	return session.write(session.client, msg.Message(reply.ID, reply.To))
+	return msg.SendTo(session.client, reply.ID, reply.To)
+}
+
+// refuseReply answers in the place of a reply that can't be opened, whose cursor ends.
+func (session *session) refuseReply(id int32, reply []byte, why error) error {
+	told := refusal.Said(fmt.Errorf("the reply: %w", why))
+	session.refused++
+	session.say("refused", "why", told)
+	if err := session.kill(reply); err != nil {
+		return err
+	}
+	return session.answer(id, refusal.Reply(told))
 }
 
 // handLegacy hands on the reply to a hello that came as an OP_QUERY.

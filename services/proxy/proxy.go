@@ -24,6 +24,8 @@ type Proxy struct {
 	Name   string      // HOST:PORT by which clients know the proxy; empty for the address that a client has dialled
 	Log    *journal.Log
 
+	OthersPass bool // whether commands to databases without rules are sent as they are
+
 	rules atomic.Pointer[Rules]
 	door  *door.Door
 }
@@ -60,7 +62,9 @@ func (proxy *Proxy) connect(client net.Conn) error {
 	if address == "" {
 		address = client.LocalAddr().String()
 	}
-	return (&session{proxy: proxy, client: client, server: server, address: address}).run()
+	session := &session{proxy: proxy, client: client, server: server, address: address}
+	defer session.sayServed()
+	return session.run()
 }
 
 // shaken makes the handshake of a client's TLS, so that the server isn't asked for one who has none.

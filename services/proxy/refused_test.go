@@ -43,14 +43,21 @@ func TestScope(t *testing.T) {
 		{"explain", "people", "other", "Unsupported"},
 		{"PING", "1", "admin", "Unsupported"},
 		{"ping", "1", "admin", ""},
-		{"ping", "1", "other", ""},
+		{"commitTransaction", "1", "other", ""},
 		{"ping", "1", "hr", ""},
 		{"endSessions", "1", "admin", ""},
 		{"buildInfo", "1", "admin", ""},
 		{"killCursors", "others", "hr", ""},
+		{"renameCollection", "other.people", "admin", "Unsupported"},
+		{"renameCollection", "people", "hr", "past these"},
+		{"listDatabases", "1", "admin", "Unsupported"},
+		{"serverStatus", "1", "admin", "Unsupported"},
 	} {
-		before := len(rig.Names())
-		fields := mock.Dial(t, rig.address).Command(wire.Msg{Body: body(one.name, one.value, one.db, documents(1, secret))})
+		before, more := len(rig.Names()), documents(1, secret)
+		if one.refused == "" && one.db != "hr" {
+			more = nil // which no command that passes has
+		}
+		fields := mock.Dial(t, rig.address).Command(wire.Msg{Body: body(one.name, one.value, one.db, more)})
 		if one.refused == "" {
 			if mock.Number(mock.Field(fields, "ok")) != 1 || len(rig.Names()) != before+1 {
 				t.Errorf("%s to %s: %v", one.name, one.db, fields)
@@ -138,6 +145,41 @@ func TestAReplyThatIsRefused(t *testing.T) {
 	client := mock.Dial(t, rig.address)
 	wantRefused(t, client.Command(wire.Msg{Body: body("find", "people", "hr")}), "the reply: ", "TagMismatch", `"a"`)
 	wantRefused(t, client.Command(wire.Msg{Body: body("ping", "people", "other")}), "TagMismatch")
+}
+
+// A cursor whose reply can't be opened is ended, by the name of its own collection.
+func TestACursorThatIsRefused(t *testing.T) {
+	rig := startRig(t, faked(nil), func(rig *rig) {
+		rig.Answer = func(name string, _ wire.Msg, id int32) []byte {
+			if name == "killCursors" {
+				return []byte{}
+			}
+			damaged := bson.Append(nil, 0x05, "a", append([]byte{8, 0, 0, 0, 6, 2}, "damaged"...))
+			batch := bson.Append(nil, bson.Array, "firstBatch", mock.Array([][]byte{bson.Wrap(damaged)}))
+			cursor := bson.Wrap(batch, mock.Int64("id", 1<<40+5), bson.AppendText(nil, "ns", "hr.a.people"))
+			return mock.Spelled(wire.Msg{Body: mock.OK(bson.Append(nil, bson.Document, "cursor", cursor))}.Message(1, id))
+		}
+	})
+	client := mock.Dial(t, rig.address)
+	wantRefused(t, client.Command(wire.Msg{Body: body("find", "people", "hr")}), "the reply: ", `"a"`)
+	rig.wantCommands(t, 2)
+	rig.Server.Lock.Lock()
+	last, err := wire.ReadMsg(rig.Commands[1])
+	rig.Server.Lock.Unlock()
+	if err != nil {
+		t.Fatal(err)
+	}
+	fields := mock.Fields(last.Body)
+	ids := mock.Fields(mock.Field(fields, "cursors").Value)
+	name, _ := mock.Field(fields, "killCursors").Text()
+	if db, _ := mock.Field(fields, "$db").Text(); name != "a.people" || db != "hr" || len(ids) != 1 ||
+		mock.Number(ids[0]) != 1<<40+5 || !last.MoreToCome {
+		t.Errorf("%q", last.Body)
+	}
+	wantRefused(t, client.Command(wire.Msg{Body: body("find", "people", "hr")}), "the reply: ")
+	client.Close()
+	rig.wantLine(t, `"event":"served"`)
+	rig.wantLine(t, `"commands":"2","refused":"2"}`)
 }
 
 const mostTold = 1000

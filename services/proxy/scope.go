@@ -6,20 +6,18 @@ import (
 
 	"fled/bson"
 	"fled/refusal"
-	"fled/wire"
 )
 
 // The names of commands that are looked at, each as a server spells it.
 var (
-	// authenticating commands pass, also to a database with rules: a client may authenticate by any.
-	authenticating = words("saslStart saslContinue")
-	// passing commands carry no document to be stored or compared: of the handshake, of sessions, transactions and
-	// cursors, of authentication, and those by which a server tells of itself. They pass to a database without rules;
-	// the library says which of them pass to one that has them. The same names as in contrib/python, scope.py.
-	passing = words(`abortTransaction authenticate buildInfo buildinfo commitTransaction connectionStatus endSessions
-		getMore getParameter getnonce hello hostInfo isMaster ismaster killCursors listCollections listDatabases
-		logout ping refreshSessions renameCollection replSetGetStatus saslContinue saslStart serverStatus
-		startSession whatsmyuri`)
+	// passing commands are of the handshake, of authentication, sessions and transactions: they pass to a database
+	// without rules, with the names of their own that the library knows. Those of hellos are helloNames.
+	passing = words(`abortTransaction authenticate buildInfo commitTransaction endSessions getnonce killAllSessions
+		killAllSessionsByPattern killSessions logout ping refreshSessions saslContinue saslStart startSession`)
+	// unlisted commands may name no collection, or one that SCHEMAS doesn't list: the library says which pass.
+	unlisted = words(`abortTransaction authenticate buildInfo commitTransaction endSessions getMore getnonce
+		killAllSessions killAllSessionsByPattern killCursors killSessions listCollections listDatabases logout ping
+		refreshSessions saslContinue saslStart startSession`)
 )
 
 func words(text string) map[string]bool {
@@ -66,24 +64,16 @@ func readCommand(body []byte) (command, error) {
 	return read, nil
 }
 
-// wantPassing is an error where a command may not go to a database without rules.
-func (read command) wantPassing(rules Rules) error {
-	if passing[read.name] {
-		return nil
-	}
+// notPassing is the error of a command that may not go to a database without rules.
+func (read command) notPassing(rules Rules) error {
 	return fmt.Errorf("Unsupported: %.100q of the database %.100q: there are rules of %s",
 		read.name, read.db, rules.names())
 }
 
 // wantListed is an error where a command that the library has taken names a collection that SCHEMAS doesn't list.
 func (read command) wantListed(database *Database) error {
-	if passing[read.name] || read.isNamed && database.Collections[read.collection] {
+	if unlisted[read.name] || read.isNamed && database.Collections[read.collection] {
 		return nil
 	}
 	return fmt.Errorf("Unsupported: SCHEMAS lists no collection %.100q of the database %.100q", read.collection, read.db)
-}
-
-// isJudged is whether the library judges a command: that of a database with rules, but for the handshake's.
-func (read command) isJudged(rules Rules) bool {
-	return rules[read.db] != nil && !wire.IsHello(read.name) && !authenticating[read.name]
 }

@@ -11,10 +11,15 @@ import (
 	"fled/wire"
 )
 
-// portion is how many bytes of an array are sealed by one call, where more than one document is in it.
-const portion = 4 << 20
+const (
+	// portion is how many bytes of an array are sealed by one call, where more than one document is in it.
+	portion = 4 << 20
+	// mostHeld is how many bytes a message and what is sealed of it may have together.
+	mostHeld = 64_000_000
+)
 
 var (
+	errHeld      = errors.New("a message, and what is sealed of it, above 64000000 bytes")
 	errSequences = errors.New("Unsupported: a document sequence that isn't the only one of a write")
 	errForm      = errors.New("Unsupported: a command that was sealed beside its documents")
 )
@@ -25,18 +30,22 @@ func sealed(engine Engine, db string, msg wire.Msg) (wire.Msg, error) {
 	switch len(msg.Sequences) {
 	case 0:
 		body, err := engine.Seal(db, msg.Body)
+		if len(msg.Body)+len(body) > mostHeld {
+			return msg, errHeld
+		}
 		msg.Body = body
 		return msg, err
 	case 1:
-		documents, err := sealedSequence(engine, db, msg.Body, msg.Sequences[0])
+		documents, err := sealedSequence(engine, db, msg.Body, msg.Sequences[0], mostHeld-msg.Size())
 		msg.Sequences = []wire.Sequence{{Name: msg.Sequences[0].Name, Documents: documents}}
 		return msg, err
 	}
 	return msg, errSequences
 }
 
-// sealedSequence seals all documents of a sequence. One without any is sealed too, so that the library sees the body.
-func sealedSequence(engine Engine, db string, body []byte, sequence wire.Sequence) ([]byte, error) {
+// sealedSequence seals all documents of a sequence, to so many bytes at most. One without any is sealed too, so that the
+// library sees the body.
+func sealedSequence(engine Engine, db string, body []byte, sequence wire.Sequence, most int) ([]byte, error) {
 	var behind []byte
 	for done := 0; ; {
 		array, count, left, err := sequence.Array(portion)
@@ -50,6 +59,9 @@ func sealedSequence(engine Engine, db string, body []byte, sequence wire.Sequenc
 		}
 		if behind, err = appendDocuments(behind, whole, body, sequence.Name, count); err != nil {
 			return nil, err
+		}
+		if len(behind) > most {
+			return nil, errHeld
 		}
 		if sequence.Documents, done = left, done+count; len(left) == 0 {
 			return behind, nil

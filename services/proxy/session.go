@@ -6,6 +6,7 @@ import (
 	"fmt"
 	"io"
 	"net"
+	"strconv"
 
 	"fled/wire"
 )
@@ -16,10 +17,12 @@ type session struct {
 	proxy          *Proxy
 	client, server net.Conn
 	address        string // of the proxy, as this client knows it
-	last           int32  // requestID of the last reply of its own
+	last           int32  // requestID of the last message of its own
 
 	fromClient, fromServer <-chan arrival
-	held                   *arrival // what the client sent while a reply was waited for
+	wanted                 chan struct{} // to which the client's next message is read
+
+	commands, refused int // how many came, and weren't sent or handed on
 }
 
 // arrival is a message, or why there is none.
@@ -41,18 +44,28 @@ var (
 	errMore    = errors.New("the server sent a reply that has more to come")
 )
 
-// arrivals reads one message after the other, none of it before the one before is taken, until one is an error.
-func arrivals(from io.Reader, most int, ended <-chan struct{}) <-chan arrival {
+// arrivals reads one message after the other, each once it is wanted, until one is an error. That there will be none is
+// told whether one is wanted or not.
+func arrivals(from io.Reader, most int, wanted, ended <-chan struct{}) <-chan arrival {
 	came := make(chan arrival)
 	go func() {
 		for buffered := bufio.NewReader(from); ; {
-			message, err := wire.Read(buffered, most)
+			_, err := buffered.Peek(1)
+			one := arrival{err: err}
+			if err == nil {
+				select {
+				case <-wanted:
+				case <-ended:
+					return
+				}
+				one.message, one.err = wire.Read(buffered, most)
+			}
 			select {
-			case came <- arrival{message, err}:
+			case came <- one:
 			case <-ended:
 				return
 			}
-			if err != nil {
+			if one.err != nil {
 				return
 			}
 		}
@@ -62,10 +75,12 @@ func arrivals(from io.Reader, most int, ended <-chan struct{}) <-chan arrival {
 
 // run serves the client until either side ends, or the proxy does; the error says what was at fault, if something was.
 func (session *session) run() error {
-	ended := make(chan struct{})
+	ended, always := make(chan struct{}), make(chan struct{})
 	defer close(ended)
-	session.fromClient = arrivals(session.client, wire.MaxMessage, ended)
-	session.fromServer = arrivals(session.server, wire.MaxReply, ended)
+	close(always)
+	session.wanted = make(chan struct{})
+	session.fromClient = arrivals(session.client, wire.MaxMessage, session.wanted, ended)
+	session.fromServer = arrivals(session.server, wire.MaxReply, always, ended)
 	for {
 		came, err := session.next()
 		if err == nil && came != nil {
@@ -79,30 +94,31 @@ func (session *session) run() error {
 
 // next is the client's next message; none where the proxy ends.
 func (session *session) next() (*arrival, error) {
-	if held := session.held; held != nil {
-		session.held = nil
-		return held, held.err
-	}
 	select {
 	case <-session.proxy.door.Ended():
 		return nil, nil
 	default:
 	}
-	select {
-	case came := <-session.fromClient:
-		return &came, from("client", came.err)
-	case came := <-session.fromServer:
-		if came.err != nil {
-			return nil, from("server", came.err)
+	for wanted := session.wanted; ; {
+		select {
+		case wanted <- struct{}{}:
+			wanted = nil
+		case came := <-session.fromClient:
+			return &came, from("client", came.err)
+		case came := <-session.fromServer:
+			if came.err != nil {
+				return nil, from("server", came.err)
+			}
+			return nil, errUnasked
+		case <-session.proxy.door.Ended():
+			return nil, nil
 		}
-		return nil, errUnasked
-	case <-session.proxy.door.Ended():
-		return nil, nil
 	}
 }
 
 // take sends what is sent in a message's place, and hands on the reply, where one comes.
 func (session *session) take(message wire.Message) error {
+	session.commands++
 	asked, err := session.send(message)
 	if err != nil || asked == nil {
 		return err
@@ -117,37 +133,37 @@ func (session *session) take(message wire.Message) error {
 	return session.hand(asked, reply)
 }
 
-// reply waits for the server's next message. A message that the client sends meanwhile is held; that it has gone ends
+// reply waits for the server's next message. A message that the client sends meanwhile isn't read; that it has gone ends
 // the wait, as does the proxy's end that for a hello, which a server may answer late.
 func (session *session) reply(toHello bool) (wire.Message, error) {
-	fromClient, ended := session.fromClient, (<-chan struct{})(nil)
+	ended := (<-chan struct{})(nil)
 	if toHello {
 		ended = session.proxy.door.Ended()
 	}
-	for {
-		select {
-		case <-ended:
-			return wire.Message{}, net.ErrClosed
-		case came := <-session.fromServer:
-			return came.message, from("server", came.err)
-		case came := <-fromClient:
-			if came.err != nil {
-				return wire.Message{}, from("client", came.err)
-			}
-			session.held, fromClient = &came, nil
-		}
+	select {
+	case <-ended:
+		return wire.Message{}, net.ErrClosed
+	case came := <-session.fromServer:
+		return came.message, from("server", came.err)
+	case came := <-session.fromClient:
+		return wire.Message{}, from("client", came.err)
 	}
 }
 
 // answer sends a reply of the proxy's own.
 func (session *session) answer(to int32, reply wire.Msg) error {
 	session.last++
-	return session.write(session.client, reply.Message(session.last, to))
+	return reply.SendTo(session.client, session.last, to)
 }
 
 func (session *session) write(to net.Conn, message wire.Message) error {
 	_, err := message.WriteTo(to)
 	return err
+}
+
+// sayServed tells of the connection at its end.
+func (session *session) sayServed() {
+	session.say("served", "commands", strconv.Itoa(session.commands), "refused", strconv.Itoa(session.refused))
 }
 
 // from says whose message an error is of. That a side ended between two messages stays io.EOF.

@@ -6,7 +6,6 @@
 package wire
 
 import (
-	"bytes"
 	"encoding/binary"
 	"errors"
 	"fmt"
@@ -56,29 +55,39 @@ func Read(from io.Reader, most int) (Message, error) {
 	return Message{word(1), word(2), word(3), contents}, nil
 }
 
-// take reads so many bytes. An end before the last one is a fault.
+// take reads so many bytes, into twice as many as have come. An end before the last one is a fault.
 func take(from io.Reader, length int) ([]byte, error) {
-	var contents bytes.Buffer
-	if length <= atOnce {
-		contents.Grow(length)
+	contents, read := make([]byte, least(length, atOnce)), 0
+	for {
+		count, err := io.ReadFull(from, contents[read:])
+		if errors.Is(err, io.EOF) {
+			err = io.ErrUnexpectedEOF
+		}
+		if read += count; err != nil || read == length {
+			return contents[:read], err
+		}
+		contents = append(make([]byte, 0, least(length, 2*read)), contents...)
+		contents = contents[:cap(contents)]
 	}
-	_, err := io.CopyN(&contents, from, int64(length))
-	if errors.Is(err, io.EOF) {
-		err = io.ErrUnexpectedEOF
+}
+
+func least(one, other int) int {
+	if one < other {
+		return one
 	}
-	return contents.Bytes(), err
+	return other
 }
 
 // WriteTo writes a message.
 func (message Message) WriteTo(to io.Writer) (int64, error) {
-	parts := net.Buffers{message.head(), message.Contents}
+	parts := net.Buffers{message.head(len(message.Contents)), message.Contents}
 	return parts.WriteTo(to)
 }
 
-// head spells a message's header.
-func (message Message) head() []byte {
+// head spells the header of a message with so many bytes of contents.
+func (message Message) head(length int) []byte {
 	head := make([]byte, 0, header)
-	for _, word := range []int32{int32(header + len(message.Contents)), message.ID, message.To, message.Opcode} {
+	for _, word := range []int32{int32(header + length), message.ID, message.To, message.Opcode} {
 		head = binary.LittleEndian.AppendUint32(head, uint32(word))
 	}
 	return head

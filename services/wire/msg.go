@@ -5,6 +5,8 @@ import (
 	"encoding/binary"
 	"errors"
 	"hash/crc32"
+	"io"
+	"net"
 
 	"fled/bson"
 )
@@ -75,7 +77,7 @@ func ReadMsg(message Message) (Msg, error) {
 // sumIsRight is whether the last four bytes are the CRC-32C of those before, as they came.
 func (message Message) sumIsRight() bool {
 	behind := len(message.Contents) - 4
-	sum := crc32.Update(crc32.Checksum(message.head(), castagnoli), castagnoli, message.Contents[:behind])
+	sum := crc32.Update(crc32.Checksum(message.head(behind+4), castagnoli), castagnoli, message.Contents[:behind])
 	return sum == binary.LittleEndian.Uint32(message.Contents[behind:])
 }
 
@@ -152,16 +154,35 @@ func (sequence Sequence) size() int {
 
 // Message spells an OP_MSG, without a checksum.
 func (msg Msg) Message(id, to int32) Message {
+	contents := make([]byte, 0, msg.Size()-header)
+	for _, part := range msg.parts() {
+		contents = append(contents, part...)
+	}
+	return Message{id, to, OpMsg, contents}
+}
+
+// SendTo writes the same to a connection, a long one with no copy of it.
+func (msg Msg) SendTo(conn io.Writer, id, to int32) error {
+	if msg.Size() <= atOnce {
+		_, err := msg.Message(id, to).WriteTo(conn)
+		return err
+	}
+	all := net.Buffers{Message{ID: id, To: to, Opcode: OpMsg}.head(msg.Size() - header)}
+	all = append(all, msg.parts()...)
+	_, err := all.WriteTo(conn)
+	return err
+}
+
+// parts are the contents: the flags, and what each section has.
+func (msg Msg) parts() [][]byte {
 	var flags uint32
 	if msg.MoreToCome {
 		flags = moreToCome
 	}
-	contents := binary.LittleEndian.AppendUint32(make([]byte, 0, msg.Size()-header), flags)
-	contents = append(append(contents, 0), msg.Body...)
+	all := [][]byte{append(binary.LittleEndian.AppendUint32(nil, flags), 0), msg.Body}
 	for _, sequence := range msg.Sequences {
-		contents = binary.LittleEndian.AppendUint32(append(contents, 1), uint32(sequence.size()))
-		contents = append(append(contents, sequence.Name...), 0)
-		contents = append(contents, sequence.Documents...)
+		before := binary.LittleEndian.AppendUint32([]byte{1}, uint32(sequence.size()))
+		all = append(all, append(append(before, sequence.Name...), 0), sequence.Documents)
 	}
-	return Message{id, to, OpMsg, contents}
+	return all
 }
