@@ -63,15 +63,41 @@ static void write_and_read(mongoc_collection_t *people) {
     want(found(people, BCON_NEW("ssn", "SEKRET-2"), "") == 0, "what was deleted");
 }
 
-int main(int count, char **words) {
+/* Counts by the command of this name, which is sealed; what counts by aggregate is refused. */
+static void count(mongoc_client_t *client, mongoc_collection_t *people) {
+    bson_t reply;
+    bson_iter_t at;
+    want(mongoc_client_command_simple(client, "hr", BCON_NEW("count", "people", "query", "{", "ssn", "SEKRET-1", "}"),
+                                      NULL, &reply, &error), "a count");
+    want(bson_iter_init_find(&at, &reply, "n") && bson_iter_as_int64(&at) == 6, "what was counted");
+    want(mongoc_collection_estimated_document_count(people, NULL, NULL, NULL, &error) == 7, "an estimate");
+    refused(mongoc_collection_count_documents(people, BCON_NEW("ssn", "SEKRET-1"), NULL, NULL, NULL, &error) == -1,
+            "NotACommand", "aggregate");
+}
+
+static void use_a_transaction(mongoc_client_t *client, mongoc_collection_t *people) {
+    mongoc_client_session_t *session = mongoc_client_start_session(client, NULL, &error);
+    bson_t options = BSON_INITIALIZER, reply;
+    want(session && mongoc_client_session_append(session, &options, &error), "a session");
+    want(mongoc_client_session_start_transaction(session, NULL, &error), "a transaction");
+    want(mongoc_collection_insert_one(people, BCON_NEW("_id", BCON_INT32(30), "salary", "SEKRET-t"), &options, NULL,
+                                      &error), "an insert within it");
+    want(mongoc_client_session_commit_transaction(session, &reply, &error), "its end");
+    mongoc_client_session_destroy(session);
+    want(found(people, BCON_NEW("_id", BCON_INT32(30)), "SEKRET-t") == 1, "what was committed");
+}
+
+int main(int count_of_words, char **words) {
     char uri[200];
-    snprintf(uri, sizeof uri, "mongodb://%s/?%s", words[1], count > 2 ? words[2] : "");
+    snprintf(uri, sizeof uri, "mongodb://%s/?%s", words[1], count_of_words > 2 ? words[2] : "");
     mongoc_init();
     mongoc_client_t *client = mongoc_client_new(uri);
     mongoc_client_set_error_api(client, 2);
     mongoc_collection_t *people = mongoc_client_get_collection(client, "hr", "people");
     mongoc_collection_t *other = mongoc_client_get_collection(client, "other", "people");
     write_and_read(people);
+    count(client, people);
+    if (strstr(uri, "replicaSet")) use_a_transaction(client, people);
     refused(found(people, BCON_NEW("ssn", "{", "$gt", "SEKRET", "}"), "") == -1, "OperatorOnProtected",
             "filter.ssn.$gt");
     refused(!mongoc_collection_insert_one(people, BCON_NEW("ssn", BCON_NULL, "salary", "SEKRET"), NULL, NULL, &error),

@@ -9,6 +9,21 @@ async function refused (promise, ...parts) {
   assert(parts.every(part => error.message.includes(part)) && !error.message.includes('SEKRET'), error.message)
 }
 
+async function count (people) {
+  assert.strictEqual(await people.find({ ssn: 'SEKRET-1' }).count(), 6)
+  assert.strictEqual(await people.estimatedDocumentCount(), 7)
+  await refused(people.countDocuments({ ssn: 'SEKRET-1' }), 'NotACommand', 'aggregate')
+}
+
+async function useATransaction (client, people) {
+  const session = client.startSession()
+  session.startTransaction()
+  await people.insertOne({ _id: 30, ssn: 'SEKRET-t' }, { session })
+  assert.strictEqual((await people.findOne({ ssn: 'SEKRET-t' }, { session }))._id, 30)
+  await session.commitTransaction()
+  session.endSession()
+}
+
 async function main (address, options) {
   const client = new MongoClient(`mongodb://${address}/?${options}`, { useUnifiedTopology: true })
   await client.connect()
@@ -28,6 +43,8 @@ async function main (address, options) {
   assert.strictEqual(put.upsertedCount, 1)
   assert.strictEqual((await people.findOne({ ssn: 'SEKRET-9' })).salary, 5)
   assert.strictEqual((await people.deleteOne({ ssn: 'SEKRET-2' })).deletedCount, 1)
+  await count(people)
+  if (options.includes('replicaSet')) await useATransaction(client, people)
   await refused(people.find({ ssn: { $gt: 'SEKRET' } }).toArray(), 'OperatorOnProtected', 'filter.ssn.$gt')
   await refused(people.insertOne({ ssn: null, salary: 'SEKRET' }), 'TypeNotAllowed', 'documents.0.ssn')
   await refused(client.db('other').collection('people').insertOne({ ssn: 'SEKRET' }), 'Unsupported', 'other')

@@ -1,6 +1,6 @@
 <?php
 // A client without encryption: PHP's driver through the proxy. Use: php php_client.php HOST:PORT OPTIONS
-use MongoDB\Driver\{BulkWrite, Exception\Exception, Manager, Query};
+use MongoDB\Driver\{BulkWrite, Command, Exception\Exception, Manager, Query};
 
 function want(bool $is, string $what): void
 {
@@ -56,6 +56,21 @@ $done = write($client, fn($bulk) => $bulk->update(['ssn' => 'SEKRET-9'], $put, [
 want($done->getUpsertedCount() === 1 && $find(['ssn' => 'SEKRET-9'])[0]->salary === 5, 'an upsert');
 $done = write($client, fn($bulk) => $bulk->delete(['ssn' => 'SEKRET-2'], ['limit' => 1]));
 want($done->getDeletedCount() === 1 && $find(['ssn' => 'SEKRET-2']) === [], 'a delete');
+$count = fn() => $client->executeCommand('hr', new Command(['count' => 'people', 'query' => ['ssn' => 'SEKRET-1']]));
+want($count()->toArray()[0]->n === 6, 'a count');
+$pipeline = [['$match' => ['ssn' => 'SEKRET-1']], ['$count' => 'n']];
+$aggregate = new Command(['aggregate' => 'people', 'pipeline' => $pipeline, 'cursor' => new stdClass()]);
+refused(fn() => $client->executeCommand('hr', $aggregate), 'NotACommand', 'aggregate');
+if (str_contains($argv[2], 'replicaSet')) {
+    $session = $client->startSession();
+    $session->startTransaction();
+    $bulk = new BulkWrite();
+    $bulk->insert(['_id' => 30, 'ssn' => 'SEKRET-t']);
+    $client->executeBulkWrite('hr.people', $bulk, ['session' => $session]);
+    $found = $client->executeQuery('hr.people', new Query(['ssn' => 'SEKRET-t']), ['session' => $session])->toArray();
+    want($found[0]->_id === 30, 'what a transaction found');
+    $session->commitTransaction();
+}
 refused(fn() => $find(['ssn' => ['$gt' => 'SEKRET']]), 'OperatorOnProtected', 'filter.ssn.$gt');
 $null = ['ssn' => null, 'salary' => 'SEKRET'];
 refused(fn() => write($client, fn($bulk) => $bulk->insert($null)), 'TypeNotAllowed', 'documents.0.ssn');

@@ -24,7 +24,7 @@ def refused(*parts):
 
 
 def write_and_read(people):
-    """Inserts, finds over three batches, updates, bulk writes, upserts, deletes."""
+    """Inserts, finds over three batches, updates, bulk writes, upserts, deletes: seven are left, five by one value."""
     people.insert_many([{"_id": i, "ssn": "SEKRET-1", "salary": f"SEKRET-{i}", "n": i} for i in range(7)])
     found = list(people.find({"ssn": "SEKRET-1"}))
     wanted = [(i, "SEKRET-1", f"SEKRET-{i}") for i in range(7)]
@@ -41,6 +41,21 @@ def write_and_read(people):
     put = people.update_one({"ssn": "SEKRET-9"}, {"$set": {"salary": 5}}, upsert=True)
     assert put.upserted_id is not None and people.find_one({"ssn": "SEKRET-9"})["salary"] == 5
     assert people.delete_one({"ssn": "SEKRET-2"}).deleted_count == 1 and people.find_one({"ssn": "SEKRET-2"}) is None
+
+
+def count(client, people):
+    """Counts by the command of this name, which is sealed; what counts by aggregate is refused."""
+    assert client.hr.command("count", "people", query={"ssn": "SEKRET-1"})["n"] == 5
+    assert people.estimated_document_count() == 7
+    with refused("NotACommand", "aggregate"):
+        people.count_documents({"ssn": "SEKRET-1"})
+
+
+def use_a_transaction(client, people):
+    """Writes and reads within one."""
+    with client.start_session() as session, session.start_transaction():
+        people.insert_one({"_id": 30, "ssn": "SEKRET-t"}, session=session)
+        assert people.find_one({"ssn": "SEKRET-t"}, session=session)["_id"] == 30
 
 
 def be_refused(client, people):
@@ -74,9 +89,11 @@ def main(address, options):
     with pymongo.MongoClient(f"mongodb://{address}/?{options}", serverSelectionTimeoutMS=5000) as client:
         people = client.hr.people
         write_and_read(people)
+        count(client, people)
         be_refused(client, people)
         write_without_a_reply(client)
         if "replicaSet" in options:
+            use_a_transaction(client, people)
             assert client.nodes == {tuple([address.split(":")[0], int(address.split(":")[1])])}, client.nodes
 
 

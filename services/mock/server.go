@@ -17,6 +17,7 @@ type Server struct {
 	Door   net.Listener
 	Hosts  []string                                         // what its hello says; empty for a server alone
 	Infos  [][]byte                                         // what it lists as its collections
+	Users  map[string]string                                // names and passwords; empty where anyone may ask
 	Answer func(name string, msg wire.Msg, id int32) []byte // in its place, where it isn't nil
 
 	Lock        sync.Mutex // of what stands below
@@ -97,12 +98,12 @@ func (server *Server) serve(client net.Conn) {
 		defer server.Lock.Unlock()
 		server.Got = append(server.Got, part...)
 	}}
-	for {
+	for login := (&login{}); ; {
 		message, err := wire.Read(from, wire.MaxMessage)
 		if err != nil {
 			return
 		}
-		if reply := server.take(message); reply != nil {
+		if reply := server.take(login, message); reply != nil {
 			if _, err := client.Write(reply); err != nil {
 				return
 			}
@@ -111,13 +112,13 @@ func (server *Server) serve(client net.Conn) {
 }
 
 // take answers a message; nil where it wants no reply.
-func (server *Server) take(message wire.Message) []byte {
+func (server *Server) take(login *login, message wire.Message) []byte {
 	if message.Opcode == wire.OpQuery {
 		query, err := wire.ReadQuery(message)
 		if err != nil {
 			return []byte("no reply")
 		}
-		return Spelled(wire.NewReply(server.hello(query.Document)).Message(1, message.ID))
+		return Spelled(wire.NewReply(server.hello(login, query.Document)).Message(1, message.ID))
 	}
 	msg, err := wire.ReadMsg(message)
 	if err != nil {
@@ -132,7 +133,7 @@ func (server *Server) take(message wire.Message) []byte {
 			return reply
 		}
 	}
-	body := server.run(name, Joined(msg))
+	body := server.runAs(login, name, Joined(msg))
 	if msg.MoreToCome {
 		return nil
 	}
@@ -158,8 +159,36 @@ func (server *Server) Names() []string {
 	return names
 }
 
+// runAs is the reply to a command of a client that has logged in, or has to.
+func (server *Server) runAs(login *login, name string, command []byte) []byte {
+	if reply := login.sasl(server.Users, name, Fields(command)); reply != nil {
+		return reply
+	}
+	if !login.may(server.Users, name) {
+		return refused("command "+name+" requires authentication", 13)
+	}
+	if wire.IsHello(name) {
+		return server.hello(login, command)
+	}
+	return server.run(name, command)
+}
+
+// begunBy is what a hello says to a client that authenticates in it, or asks by which mechanism it may.
+func (server *Server) begunBy(login *login, command []byte) []byte {
+	var said []byte
+	fields := Fields(command)
+	if Field(fields, "saslSupportedMechs").Whole != nil {
+		said = bson.Append(said, bson.Array, "saslSupportedMechs", Texts(sha256Way, sha1Way))
+	}
+	if begins := Field(fields, "speculativeAuthenticate"); begins.Whole != nil && len(server.Users) > 0 {
+		reply := login.sasl(server.Users, "saslStart", Fields(begins.Value))
+		said = bson.Append(said, bson.Document, "speculativeAuthenticate", reply)
+	}
+	return said
+}
+
 // hello is what the server says of itself: with hosts one of a set, which compresses and knows other hosts.
-func (server *Server) hello(_ []byte) []byte {
+func (server *Server) hello(login *login, command []byte) []byte {
 	said := append(bson.AppendBool(nil, "ismaster", true), bson.AppendBool(nil, "isWritablePrimary", true)...)
 	said = append(append(said, bson.AppendBool(nil, "helloOk", true)...), bson.AppendBool(nil, "readOnly", false)...)
 	for name, number := range map[string]int32{"maxWireVersion": 13, "minWireVersion": 0, "maxBsonObjectSize": 16 << 20,
@@ -178,7 +207,7 @@ func (server *Server) hello(_ []byte) []byte {
 		topology := bson.Append(nil, 0x07, "processId", make([]byte, 12))
 		said = bson.Append(said, bson.Document, "topologyVersion", bson.Wrap(append(topology, Int64("counter", 1)...)))
 	}
-	return OK(said)
+	return OK(append(said, server.begunBy(login, command)...))
 }
 
 // run is the reply to a command.
@@ -186,8 +215,6 @@ func (server *Server) run(name string, command []byte) []byte {
 	fields := Fields(command)
 	collection, _ := fields[0].Text()
 	switch name {
-	case "hello", "isMaster", "ismaster":
-		return server.hello(command)
 	case "insert":
 		return server.insert(collection, Values(fields, "documents"))
 	case "find":

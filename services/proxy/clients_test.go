@@ -44,27 +44,48 @@ func TestDrivers(t *testing.T) {
 		t.Skip("FLED_CLIENTS names no driver")
 	}
 	for name, words := range chosen {
-		for _, options := range []string{"", "replicaSet=rs0", "compressors=zlib"} {
+		scram := "authMechanism=SCRAM-SHA-256"
+		if name == "ruby" {
+			scram = "authMechanism=SCRAM-SHA-1" // the one of driver 2.5
+		}
+		for _, options := range []string{"", "replicaSet=rs0", "compressors=zlib", scram, "authMechanism=PLAIN"} {
 			t.Run(name+" "+options, func(t *testing.T) { runClient(t, words, options) })
 		}
 	}
 }
 
+// runClient runs a client with options of a URI: one that authenticates does so before a server that asks for it.
 func runClient(t *testing.T, words []string, options string) {
+	authenticates := strings.HasPrefix(options, "auth")
 	rig := startRig(t, examples(t), func(rig *rig) {
-		if options != "" {
+		switch {
+		case authenticates:
+			rig.Users = map[string]string{"user": "pencil"}
+		case options != "":
 			rig.Hosts = []string{rig.Server.Address(), "127.0.0.1:1"}
 		}
 	})
+	address := rig.address
+	if authenticates {
+		address = "user:pencil@" + address
+	}
 	ctx, cancel := context.WithTimeout(context.Background(), 2*time.Minute)
 	defer cancel()
-	command := exec.CommandContext(ctx, words[0], append(append([]string(nil), words[1:]...), rig.address, options)...)
+	command := exec.CommandContext(ctx, words[0], append(append([]string(nil), words[1:]...), address, options)...)
 	said, err := command.CombinedOutput()
 	if err != nil {
 		t.Fatalf("%v\n%s\n%s", err, said, rig.log)
 	}
 	rig.wantNothingPlain(t)
 	rig.wantWhatWasSent(t)
+	for part, is := range map[string]bool{
+		"startTransaction": options == "replicaSet=rs0", "saslStart": authenticates,
+		"speculativeAuthenticate": strings.HasSuffix(options, "SCRAM-SHA-256"), "\x02count\x00": true,
+	} {
+		if rig.Saw(part) != is {
+			t.Errorf("that %s came to the server is %v", part, !is)
+		}
+	}
 }
 
 // wantNothingPlain fails where a protected value, or a compressed message, came to the server or stands in the log.

@@ -66,12 +66,40 @@ func writeAndRead(ctx context.Context, people *mongo.Collection) {
 	want(gone.DeletedCount == 1 && len(find(bson.M{"ssn": "SEKRET-2"})) == 0, "a delete", err)
 }
 
+// count counts by the command of this name, which is sealed; what counts by aggregate is refused.
+func count(ctx context.Context, people *mongo.Collection) {
+	counted := bson.M{}
+	command := bson.D{{"count", "people"}, {"query", bson.M{"ssn": "SEKRET-1"}}}
+	err := people.Database().RunCommand(ctx, command).Decode(&counted)
+	want(counted["n"] == int32(6), "a count", err)
+	_, err = people.CountDocuments(ctx, bson.M{"ssn": "SEKRET-1"})
+	refused(err, "NotACommand", "aggregate")
+}
+
+// useATransaction writes and reads within one.
+func useATransaction(ctx context.Context, client *mongo.Client, people *mongo.Collection) {
+	session, err := client.StartSession()
+	want(true, "a session", err)
+	defer session.EndSession(ctx)
+	_, err = session.WithTransaction(ctx, func(within mongo.SessionContext) (interface{}, error) {
+		if _, err := people.InsertOne(within, bson.M{"_id": 30, "ssn": "SEKRET-t"}); err != nil {
+			return nil, err
+		}
+		return nil, people.FindOne(within, bson.M{"ssn": "SEKRET-t"}).Err()
+	})
+	want(true, "a transaction", err)
+}
+
 func main() {
 	ctx := context.Background()
 	client, err := mongo.Connect(ctx, options.Client().ApplyURI("mongodb://"+os.Args[1]+"/?"+os.Args[2]))
 	want(true, "a connection", err)
 	people := client.Database("hr").Collection("people")
 	writeAndRead(ctx, people)
+	count(ctx, people)
+	if strings.Contains(os.Args[2], "replicaSet") {
+		useATransaction(ctx, client, people)
+	}
 	_, err = people.Find(ctx, bson.M{"ssn": bson.M{"$gt": "SEKRET"}})
 	refused(err, "OperatorOnProtected", "filter.ssn.$gt")
 	_, err = people.InsertOne(ctx, bson.M{"ssn": nil, "salary": "SEKRET"})
