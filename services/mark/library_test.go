@@ -126,6 +126,7 @@ func BenchmarkMarkings(b *testing.B) {
 			rig := startRig(b, nil)
 			msg, _ := withSchema(b, "insert.bson")
 			message, all, turns := mock.Spelled(msg.Message(7, 0)), sync.WaitGroup{}, b.N/connections+1
+			before := mock.Processed()
 			b.ResetTimer()
 			for worker := 0; worker < connections; worker++ {
 				all.Add(1)
@@ -142,6 +143,7 @@ func BenchmarkMarkings(b *testing.B) {
 				}()
 			}
 			all.Wait()
+			b.ReportMetric(float64(mock.Processed()-before)/float64(b.N), "cpu-ns/op")
 		})
 	}
 }

@@ -6,6 +6,7 @@ import (
 	"net"
 	"strings"
 	"sync"
+	"syscall"
 	"testing"
 	"time"
 
@@ -91,6 +92,13 @@ func (all *Lines) String() string {
 	all.lock.Lock()
 	defer all.lock.Unlock()
 	return all.text.String()
+}
+
+// Processed is the processor time of this process, in nanoseconds: of clients, servers and what stands between them.
+func Processed() int64 {
+	var used syscall.Rusage
+	syscall.Getrusage(syscall.RUSAGE_SELF, &used)
+	return used.Utime.Nano() + used.Stime.Nano()
 }
 
 // Within10s waits until something is so.
