@@ -138,9 +138,8 @@ func TestWhatIsHeldTogether(t *testing.T) {
 // The server gone in the middle of a command, or of its reply, ends the client's connection, with a line.
 func TestAServerThatGoes(t *testing.T) {
 	for _, part := range []string{"", "half"} {
-		rig := startRig(t, faked(nil))
 		door := mock.Door(t)
-		rig.proxy.Server = door.Addr().String()
+		rig := startRig(t, faked(nil), func(rig *rig) { rig.proxy.Server = door.Addr().String() })
 		go func() {
 			conn, err := door.Accept()
 			if err != nil {

@@ -28,7 +28,7 @@ const (
 	MaxReply = 16<<20 + 16<<10 + header + 4 + 1 + 4
 )
 
-const header, atOnce = 16, 1 << 16
+const header, atFirst, atOnce = 16, 1 << 12, 1 << 16
 
 // Message is a message: the fields of its header, and what stands behind them.
 type Message struct {
@@ -55,9 +55,13 @@ func Read(from io.Reader, most int) (Message, error) {
 	return Message{word(1), word(2), word(3), contents}, nil
 }
 
-// take reads so many bytes, into twice as many as have come. An end before the last one is a fault.
+// take reads so many bytes: few at once, of more into twice as many as have come. An end before the last one is a fault.
 func take(from io.Reader, length int) ([]byte, error) {
-	contents, read := make([]byte, least(length, atOnce)), 0
+	first := length
+	if length > atOnce {
+		first = atFirst
+	}
+	contents, read := make([]byte, first), 0
 	for {
 		count, err := io.ReadFull(from, contents[read:])
 		if errors.Is(err, io.EOF) {
