@@ -33,6 +33,17 @@ static int found(mongoc_collection_t *people, const bson_t *filter, const char *
     return count;
 }
 
+/* How many documents a filter finds, by the command count. */
+static int64_t counted(mongoc_collection_t *people, const bson_t *filter) {
+    bson_iter_t at;
+    bson_t reply;
+    want(mongoc_collection_command_simple(people, BCON_NEW("count", "people", "query", BCON_DOCUMENT(filter)), NULL,
+                                          &reply, &error) &&
+             bson_iter_init_find(&at, &reply, "n"),
+         "a count by a command");
+    return bson_iter_as_int64(&at);
+}
+
 static void refused(bool is, const char *reason, const char *field) {
     want(is && strstr(error.message, reason) && strstr(error.message, field) && !strstr(error.message, "SEKRET"),
          "a refusal");
@@ -91,6 +102,7 @@ static void write_and_read(mongoc_collection_t *people) {
     mongoc_bulk_operation_destroy(bulk);
     want(mongoc_collection_delete_one(people, BCON_NEW("ssn", "SEKRET-2"), NULL, NULL, &error), "a delete");
     want(found(people, BCON_NEW("ssn", "SEKRET-2"), "") == 0, "what was deleted");
+    want(counted(people, BCON_NEW("ssn", "SEKRET-1")) == 6, "what a command counted");
 }
 
 int main(int words, char **word) {

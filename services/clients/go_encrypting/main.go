@@ -100,6 +100,10 @@ func writeAndRead(ctx context.Context, people *mongo.Collection) {
 	want(done.InsertedCount == 1 && done.ModifiedCount == 1 && done.DeletedCount == 1, "a bulk write", err)
 	gone, err := people.DeleteOne(ctx, bson.M{"ssn": "SEKRET-2"})
 	want(gone.DeletedCount == 1 && len(find(bson.M{"ssn": "SEKRET-2"})) == 0, "a delete", err)
+	var counted struct{ N int }
+	count := bson.D{{"count", "people"}, {"query", bson.M{"ssn": "SEKRET-1"}}}
+	err = people.Database().RunCommand(ctx, count).Decode(&counted)
+	want(counted.N == 6, "a count by a command", err)
 }
 
 // insertAtOnce writes by 16 goroutines.
