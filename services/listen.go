@@ -12,8 +12,9 @@ import (
 )
 
 var (
-	errPlain     = errors.New("clients would come from elsewhere without TLS: --cert and --key, or --plain")
-	errElsewhere = errors.New("clients would come from elsewhere than this machine: --plain takes them")
+	errPlain       = errors.New("clients would come from elsewhere without TLS: --cert and --key, or --plain")
+	errPlainServer = errors.New("the server is elsewhere, and would be reached without TLS: --tls, or --plain-server")
+	errElsewhere   = errors.New("clients would come from elsewhere than this machine: --plain takes them")
 )
 
 // listen opens the door to the proxy's clients. Without TLS, and without --plain, it is on this machine alone.

@@ -26,6 +26,7 @@ const usage = `usage: fled proxy --server SERVER --db DB=SCHEMAS [--db ..] [OPTI
   --cert FILE       TLS to clients: the certificate, and
   --key FILE        its key
   --plain           take clients without TLS from elsewhere than this machine
+  --plain-server    reach a server elsewhere than on this machine without TLS
   --name HOST:PORT  how clients reach the proxy, where it isn't by the address that they dial
   --engines N       engines of each database (4)
 

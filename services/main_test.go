@@ -98,6 +98,27 @@ func write(t *testing.T, path string, contents []byte) {
 	}
 }
 
+func TestAPlainServerIsHere(t *testing.T) {
+	for _, one := range []struct {
+		words []string
+		goes  bool
+	}{
+		{[]string{"--server", "127.0.0.1:27017"}, true}, {[]string{"--server", "[::1]:27017"}, true},
+		{[]string{"--server", "192.0.2.1:27017"}, false}, {[]string{"--server", "mongodb://192.0.2.1"}, false},
+		{[]string{"--server", "192.0.2.1:27017", "--tls"}, true},
+		{[]string{"--server", "192.0.2.1:27017", "--plain-server"}, true},
+		{[]string{"--server", "nowhere.invalid:27017"}, false},
+	} {
+		read, err := readOptions(words(one.words...))
+		if err != nil {
+			t.Fatal(err)
+		}
+		if _, err := read.toServer(); (err == nil) != one.goes {
+			t.Errorf("%q: %v", one.words, err)
+		}
+	}
+}
+
 func TestPlainListeningStaysHere(t *testing.T) {
 	cert, key := made(t)
 	for _, one := range []struct {

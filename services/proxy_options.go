@@ -19,6 +19,7 @@ import (
 type options struct {
 	server, listen, name string
 	tls, plain, others   bool
+	plainServer          bool
 	ca, cert, key        string
 	files                proxy.Files
 }
@@ -33,6 +34,7 @@ func readOptions(words []string) (options, error) {
 	flags.StringVar(&read.name, "name", "", "")
 	flags.BoolVar(&read.tls, "tls", false, "")
 	flags.BoolVar(&read.plain, "plain", false, "")
+	flags.BoolVar(&read.plainServer, "plain-server", false, "")
 	flags.StringVar(&read.ca, "ca", "", "")
 	flags.StringVar(&read.cert, "cert", "", "")
 	flags.StringVar(&read.key, "key", "", "")
@@ -111,14 +113,16 @@ func (read *options) fault() error {
 		return errors.New("--cert and --key go together")
 	case read.cert != "" && read.plain:
 		return errors.New("--plain doesn't go with --cert")
+	case read.tls && read.plainServer:
+		return errors.New("--plain-server doesn't go with --tls")
 	}
 	return nil
 }
 
-// toServer is TLS to the server, nil for none.
+// toServer is TLS to the server, nil for none: where the server is on this machine, or with --plain-server.
 func (read *options) toServer() (*tls.Config, error) {
 	if !read.tls {
-		return nil, nil
+		return nil, read.wantPlainHere()
 	}
 	host, _, _ := net.SplitHostPort(read.server)
 	config := &tls.Config{ServerName: host, MinVersion: tls.VersionTLS12}
@@ -134,4 +138,19 @@ func (read *options) toServer() (*tls.Config, error) {
 		return nil, fmt.Errorf("%s: no certificate", read.ca)
 	}
 	return config, nil
+}
+
+// wantPlainHere is an error where the server would be reached without TLS, elsewhere and with no word that says so.
+func (read *options) wantPlainHere() error {
+	if read.plainServer {
+		return nil
+	}
+	address, err := net.ResolveTCPAddr("tcp", read.server)
+	if err != nil {
+		return err
+	}
+	if !address.IP.IsLoopback() {
+		return errPlainServer
+	}
+	return nil
 }

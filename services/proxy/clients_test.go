@@ -115,6 +115,7 @@ func (rig *rig) wantNothingPlain(t testing.TB) {
 func (rig *rig) wantWhatWasSent(t testing.TB) {
 	t.Helper()
 	sent, opens, judged := rig.commandsSent(t), examples(t)["hr"].engine(), 0
+	var came, opened []byte
 	rig.Server.Lock.Lock()
 	defer rig.Server.Lock.Unlock()
 	for _, message := range rig.Commands {
@@ -125,10 +126,12 @@ func (rig *rig) wantWhatWasSent(t testing.TB) {
 		if wire.IsHello(mock.Fields(msg.Body)[0].Name) {
 			continue
 		}
-		whole, err := opens.Unseal(mock.Joined(msg))
+		joined := mock.Joined(msg)
+		whole, err := opens.Unseal(joined)
 		if err != nil {
 			t.Fatal(err)
 		}
+		came, opened = append(came, joined...), append(opened, whole...)
 		key := keyOf(message, msg, whole)
 		if sent[key]--; sent[key] < 0 {
 			t.Errorf("%q came, and nobody sent it", whole)
@@ -137,6 +140,21 @@ func (rig *rig) wantWhatWasSent(t testing.TB) {
 	}
 	if judged < 10 {
 		t.Errorf("%d commands were compared", judged)
+	}
+	wantSameByProgram(t, came, opened)
+}
+
+// wantSameByProgram fails where `fle decrypt` opens what came otherwise; FLED_FLE names the program.
+func wantSameByProgram(t testing.TB, came, opened []byte) {
+	t.Helper()
+	program := os.Getenv("FLED_FLE")
+	if program == "" {
+		return
+	}
+	command := exec.Command(program, "decrypt", "../../examples/keys.bson", "../../examples/EXAMPLE-ONLY.master")
+	command.Stdin = bytes.NewReader(came)
+	if said, err := command.Output(); err != nil || !bytes.Equal(said, opened) {
+		t.Errorf("fle decrypt: %v, %d bytes of %d", err, len(said), len(opened))
 	}
 }
 

@@ -120,6 +120,26 @@ func TestLongDocuments(t *testing.T) {
 	}
 }
 
+// A message of 31 MB is sealed in portions and passes; of nearly 48 MB what is sealed doesn't fit beside it, so it ends
+// the connection, with a line, and nothing of it is sent.
+func TestTheLongestMessages(t *testing.T) {
+	rig := startRig(t, faked(nil))
+	fields := mock.Dial(t, rig.address).Command(inserts(2, 15_600_000))
+	if mock.Number(mock.Field(fields, "ok")) != 1 || rig.Saw(secret) || !rig.Saw("sealed") {
+		t.Error(fields)
+	}
+	client, longest, count := mock.Dial(t, rig.address), inserts(3, 15_990_000), len(rig.Names())
+	if size := longest.Size(); size < 47_900_000 || size > wire.MaxMessage {
+		t.Fatalf("%d bytes", size)
+	}
+	client.Send(longest.Message(7, 0))
+	client.WantEnd("48 MB")
+	rig.wantLine(t, errHeld.Error())
+	if len(rig.Names()) != count {
+		t.Error(rig.Names())
+	}
+}
+
 // What is sealed of a message beside it, above what a connection may hold, ends the connection, with a line.
 func TestWhatIsHeldTogether(t *testing.T) {
 	rig := startRig(t, faked(func(command []byte) ([]byte, error) {
