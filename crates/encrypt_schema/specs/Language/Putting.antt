@@ -1,5 +1,5 @@
 -- MongoDB listCollections: collection infos that are put and forgotten one by one
-use Rattle.std.specs.Prelude.{◌≡◌, ℕ, nat_lt, ◌-◌, List, [], ◌∷◌, Option, None, option_map, Result, Ok, Err}
+use Rattle.std.specs.Prelude.{◌≡◌, ℕ, List, [], ◌∷◌, Option, None, option_map, Result, Ok, Err}
 use Rattle.std.specs.Prelude.{if◌then◌else◌}
 use Rattle.bson_tree.specs.Tree.{Items}
 use Rattle.encrypt_schema.specs.declared.schema.faults.InfoFault.{InfoFault}
@@ -36,16 +36,27 @@ Puts before now (Ok _) put = put ≡ Ok now
 Puts before now (Err (info_faults.Bad document kind)) put = (document ≡ 1) × (put ≡ Err kind) × (now ≡ before)
 Puts before now (Err info_faults.Memory) put = now ≡ before
 
--- the collections without the first of a name
+-- the last of collections that begin with this one
+abbrev pub last_of : Collection → List Collection → Collection
+last_of collection [] = collection
+last_of collection (next ∷ others) = last_of next others
+
+-- those before it
+abbrev pub before_last : Collection → List Collection → List Collection
+before_last collection [] = []
+before_last collection (next ∷ others) = collection ∷ before_last next others
+
+-- collections with the last one in front
+abbrev pub last_first : List Collection → List Collection
+last_first [] = []
+last_first (collection ∷ others) = last_of collection others ∷ before_last collection others
+
+-- the collections without the first of a name: the last one takes its place
 abbrev pub forgotten : List ℕ → List Collection → List Collection
 forgotten name [] = []
 forgotten name (collection ∷ others) =
-    if named collection.name name then others else collection ∷ forgotten name others
+    if named collection.name name then last_first others else collection ∷ forgotten name others
 
--- a number once this one is free: those above it are one less
-abbrev pub close : ℕ → ℕ → ℕ
-close free number = if nat_lt free number then number - 1 else number
-
--- the same of a number that may not be there
-abbrev pub closed : ℕ → Option ℕ → Option ℕ
-closed free number = option_map (close free) number
+-- the number that there may be is another
+abbrev pub renumbered : ℕ → Option ℕ → Option ℕ
+renumbered number there = option_map (λ _. number) there

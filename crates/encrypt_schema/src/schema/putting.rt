@@ -6,7 +6,7 @@ ghost use Rattle.bson_tree.specs.NameNumbers.{number_of_name};
 ghost use Rattle.encrypt_schema.specs.declared.schema.faults.InfoFault.TheVariants as errors;
 ghost use Rattle.encrypt_schema.specs.Language.Collection.{collection_of, place_from};
 ghost use Rattle.encrypt_schema.specs.Language.Names.{named};
-ghost use Rattle.encrypt_schema.specs.Language.Putting.{close, closed, forgotten, put_collection, put_info, Puts};
+ghost use Rattle.encrypt_schema.specs.Language.Putting.{forgotten, put_collection, put_info, Puts, renumbered};
 
 use crate::schema::collections::{Info, Infos, number_of};
 use crate::schema::faults::InfoFault;
@@ -31,7 +31,7 @@ impl Infos {
         }
     }
 
-    /// Forgets the collection of a name, where there is one. The others keep their order.
+    /// Forgets the collection of a name, where there is one: the last one takes its place.
     pub fn forget(&mut self, name: &[u8])
         ensures forgotten { self.new ≡ forgotten name.now self.old }
         ensures gone { collection_of self.new name.now ≡ None }
@@ -40,8 +40,10 @@ impl Infos {
     {
         match number_of(&self.numbers, name) {
             Some(number) => {
-                free(&mut self.numbers, name, number);
-                let _ = self.infos.remove(number as usize);
+                let last = self.infos.len() - 1;
+                renumber(&mut self.numbers, self.infos[last].name(), number);
+                remove_name(&mut self.numbers, name);
+                let _ = self.infos.swap_remove(number as usize);
             }
             None => {}
         }
@@ -89,15 +91,6 @@ impl Infos {
     }
 }
 
-/// Takes the number of a name away, and one from each that is above it.
-fn free(numbers: &mut BTreeMap<Vec<u8>, u32>, name: &[u8], number: u32)
-    ensures freed { (other : List ℕ) → number_of_name numbers.new other
-        ≡ closed number (if bytes_eq name.now other then None else number_of_name numbers.old other) }
-{
-    remove_name(numbers, name);
-    close_up(numbers, number);
-}
-
 /// Takes the number of a name away.
 fn remove_name(numbers: &mut BTreeMap<Vec<u8>, u32>, name: &[u8])
     ensures removed { (other : List ℕ) → number_of_name numbers.new other
@@ -106,20 +99,13 @@ fn remove_name(numbers: &mut BTreeMap<Vec<u8>, u32>, name: &[u8])
     let _ = numbers.remove(name);
 }
 
-/// Takes one from each number above this one.
-fn close_up(numbers: &mut BTreeMap<Vec<u8>, u32>, number: u32)
-    ensures closed { (other : List ℕ) → number_of_name numbers.new other
-        ≡ closed number (number_of_name numbers.old other) }
+/// Gives a name that has a number another one.
+fn renumber(numbers: &mut BTreeMap<Vec<u8>, u32>, name: &[u8], number: u32)
+    ensures renumbered { (other : List ℕ) → number_of_name numbers.new other
+        ≡ (if bytes_eq name.now other then renumbered number (number_of_name numbers.old other)
+        else number_of_name numbers.old other) }
 {
-    numbers.retain(|_, other| {
-        *other = close(number, *other);
-        true
-    });
-}
-
-/// A number once this one is free.
-fn close(free: u32, number: u32) -> u32
-    ensures closed { result ≡ close free number }
-{
-    if free < number { number - 1 } else { number }
+    if let Some(there) = numbers.get_mut(name) {
+        *there = number;
+    }
 }
